@@ -1,0 +1,1 @@
+// no code: the facts that the other crates share are in specs/ and proofs/
