@@ -1,1 +1,1 @@
-// no code: the facts that the other crates share are in specs/ and proofs/
+// No code: definitions and laws that the other crates share and that say nothing of meshes. They are in specs/ and proofs/.

@@ -1,0 +1,281 @@
+-- The laws of a plan's grid: numbers and places, parents and children, neighbourhoods. What the theory of meshes knows of the
+-- grid is `lawful`. Assumes nothing.
+use Prim.Native.Nat.{ℕ, zero, suc, pred, _+_, _-_, _*_, _/_, _%_, _^_, _<_, _≤_}
+use native.Mathlib.Nat.{mod-lt, div-add-mod'}
+use native.Mathlib.Omega.{arith}
+use mathlib.Core.Bool.{Bool, true, false, not, _&&_, _||_}
+use mathlib.Core.Logic.{_≢_}
+use mathlib.Core.Path.{_≡_, refl, ap, sym, _∙_}
+use lib.Dec.{T, leb, ltb, eqb, leb→le, le→leb, eqb→eq, ltb→lt, lt→ltb}
+use lib.Arith.{digits-div}
+use Rattle.facts.proofs.Tests.{and-i, and-l, and-r, or-e, or-l, or-r, cases, not-i, not-e, differ, eqb-of}
+use Rattle.hierarchy.proofs.Sets.{Lawful}
+use Rattle.grid.specs.declared.Plan.{Plan}
+use Rattle.grid.specs.declared.Place.{Place}
+use Rattle.grid.specs.Numbering
+use Rattle.grid.specs.Plan.{between, inRange, ratio, columnsAt, rowsAt, functionColumnsAt, functionRowsAt, cellTotal, functionTotal, cellPlace, cellNumber, functionPlace, functionNumber, above, below, parent, child, apart, ancestor, nearAt, near, hierarchy}
+use Rattle.grid.specs.Range.{InRange}
+use Rattle.grid.proofs.Numbering as numbering
+use Rattle.grid.proofs.Numbering.{Inside}
+use Rattle.grid.proofs.Direction.{grown-pos, grown-up, grown-down, apart-up, Apart}
+
+-- ---- the ranges
+
+between-low : (lo hi x : ℕ) → T (between lo hi x) → lo ≤ x
+unfolding between
+between-low lo hi x t = leb→le lo x (and-l (leb lo x) (leb x hi) t)
+
+between-high : (lo hi x : ℕ) → T (between lo hi x) → x ≤ hi
+unfolding between
+between-high lo hi x t = leb→le x hi (and-r (leb lo x) (leb x hi) t)
+
+between-i : (lo hi x : ℕ) → lo ≤ x → x ≤ hi → T (between lo hi x)
+unfolding between
+between-i lo hi x a b = and-i (leb lo x) (leb x hi) (le→leb lo x a) (le→leb x hi b)
+
+-- each test of the range, as a fact
+module _ (p : Plan) where
+  abbrev r1 : Bool
+  r1 = between 1 16 (p .columns)
+
+  abbrev r2 : Bool
+  r2 = between 1 16 (p .rows)
+
+  abbrev r3 : Bool
+  r3 = between 1 8 (p .levels)
+
+  abbrev r4 : Bool
+  r4 = between 1 4 (p .across)
+
+  abbrev r5 : Bool
+  r5 = between 1 4 (p .up)
+
+  abbrev r6 : Bool
+  r6 = eqb (p .class) 0 || between 2 8 (p .class)
+
+  pub in-range : T (inRange p) → InRange p
+  unfolding inRange
+  in-range t =
+      let t2 = and-r r1 (r2 && (r3 && (r4 && (r5 && r6)))) t in
+      let t3 = and-r r2 (r3 && (r4 && (r5 && r6))) t2 in
+      let t4 = and-r r3 (r4 && (r5 && r6)) t3 in
+      let t5 = and-r r4 (r5 && r6) t4 in
+      let t6 = and-r r5 r6 t5 in
+      record {
+        columns≥ = between-low _ _ _ (and-l r1 _ t);
+        columns≤ = between-high _ _ _ (and-l r1 _ t);
+        rows≥ = between-low _ _ _ (and-l r2 _ t2);
+        rows≤ = between-high _ _ _ (and-l r2 _ t2);
+        levels≥ = between-low _ _ _ (and-l r3 _ t3);
+        levels≤ = between-high _ _ _ (and-l r3 _ t3);
+        across≥ = between-low _ _ _ (and-l r4 _ t4);
+        across≤ = between-high _ _ _ (and-l r4 _ t4);
+        up≥ = between-low _ _ _ (and-l r5 r6 t5);
+        up≤ = between-high _ _ _ (and-l r5 r6 t5);
+        class≢ = or-e (eqb (p .class) 0) (between 2 8 (p .class)) t6 (λ z. omega (arith, eqb→eq (p .class) 0 z)) (λ b. omega (arith, between-low 2 8 (p .class) b));
+        class≤ = or-e (eqb (p .class) 0) (between 2 8 (p .class)) t6 (λ z. omega (arith, eqb→eq (p .class) 0 z)) (λ b. between-high 2 8 (p .class) b);
+      }
+
+  pub range-test : InRange p → T (inRange p)
+  unfolding inRange
+  range-test i =
+      let t1 = between-i 1 16 (p .columns) (i .columns≥) (i .columns≤) in
+      let t2 = between-i 1 16 (p .rows) (i .rows≥) (i .rows≤) in
+      let t3 = between-i 1 8 (p .levels) (i .levels≥) (i .levels≤) in
+      let t4 = between-i 1 4 (p .across) (i .across≥) (i .across≤) in
+      let t5 = between-i 1 4 (p .up) (i .up≥) (i .up≤) in
+      let t6 : T r6 = cases (eqb (p .class) 0) (λ z. or-l (eqb (p .class) 0) (between 2 8 (p .class)) z) (λ z. or-r (eqb (p .class) 0) (between 2 8 (p .class)) (between-i 2 8 (p .class) (omega (arith, differ (p .class) 0 z, i .class≢)) (i .class≤))) in
+      and-i r1 _ t1 (and-i r2 _ t2 (and-i r3 _ t3 (and-i r4 _ t4 (and-i r5 r6 t5 t6))))
+
+-- ---- numbers and places, parents and children
+
+pub ratio-pos : (p : Plan) → 0 < ratio p
+unfolding ratio
+ratio-pos p = omega arith
+
+module _ (p : Plan) (range : InRange p) where
+  wide : (k : ℕ) → 0 < columnsAt p k
+  wide k = grown-pos (ratio p) (ratio-pos p) (p .columns) k (range .columns≥)
+
+  abbrev In : Place → Type 0
+  In = Inside (columnsAt p) (rowsAt p) (p .levels)
+
+  above-in : (x : Place) → 0 < x .level → In x → In (above p x)
+  unfolding above
+  above-in x z i = let l : pred (x .level) < p .levels = omega arith in record {
+    level< = l;
+    row< = grown-up (ratio p) (ratio-pos p) (p .rows) (x .level) (x .row) z (i .row<);
+    column< = grown-up (ratio p) (ratio-pos p) (p .columns) (x .level) (x .column) z (i .column<);
+  }
+
+  below-in : (x : Place) (a b : ℕ) → suc (x .level) < p .levels → a < ratio p → b < ratio p → In x → In (below p x a b)
+  unfolding below
+  below-in x a b z l m i = record {
+    level< = z;
+    row< = grown-down (ratio p) (ratio-pos p) (p .rows) (x .level) (x .row) a (i .row<) l;
+    column< = grown-down (ratio p) (ratio-pos p) (p .columns) (x .level) (x .column) b (i .column<) m;
+  }
+
+  above-below : (x : Place) (a b : ℕ) → a < ratio p → b < ratio p → above p (below p x a b) ≡ x
+  unfolding above below
+  above-below x a b l m = λ i. record { level = x .level; row = digits-div (x .row) l i; column = digits-div (x .column) m i }
+
+  below-above : (x : Place) → 0 < x .level → below p (above p x) (x .row % ratio p) (x .column % ratio p) ≡ x
+  unfolding above below
+  below-above x z = λ i. record { level = e i; row = div-add-mod' (x .row) (ratio p) i; column = div-add-mod' (x .column) (ratio p) i }
+    where
+      e : suc (pred (x .level)) ≡ x .level
+      e = omega arith
+
+  -- the functions' numbering, by the same laws
+  function-wide : (k : ℕ) → 0 < functionColumnsAt p k
+  function-wide k = omega (arith, wide k)
+
+  pub function-inside : (n : ℕ) → n < functionTotal p → Inside (functionColumnsAt p) (functionRowsAt p) (p .levels) (functionPlace p n)
+  function-inside n b = numbering.place-inside _ _ function-wide (p .levels) n b
+
+  pub function-number-place : (n : ℕ) → n < functionTotal p → functionNumber p (functionPlace p n) ≡ n
+  function-number-place n b = numbering.number-place _ _ function-wide (p .levels) n b
+
+  pub cell-inside : (n : ℕ) → n < cellTotal p → In (cellPlace p n)
+  cell-inside n b = numbering.place-inside _ _ wide (p .levels) n b
+
+  module _ (n : ℕ) (b : n < cellTotal p) (z : 0 < cellPlace p n .level) where
+    pub parent-lt : parent p n < cellTotal p
+    unfolding parent
+    parent-lt = numbering.number-lt _ _ _ _ (above-in (cellPlace p n) z (cell-inside n b))
+
+    pub parent-place : cellPlace p (parent p n) ≡ above p (cellPlace p n)
+    unfolding parent
+    parent-place = numbering.place-number _ _ _ _ (above-in (cellPlace p n) z (cell-inside n b))
+
+    pub parent-level : suc (cellPlace p (parent p n) .level) ≡ cellPlace p n .level
+    unfolding above
+    parent-level = rw parent-place suc-pred
+      where
+        suc-pred : suc (pred (cellPlace p n .level)) ≡ cellPlace p n .level
+        suc-pred = omega arith
+
+    pub child-of-parent : child p (parent p n) (cellPlace p n .row % ratio p) (cellPlace p n .column % ratio p) ≡ n
+    unfolding child
+    child-of-parent = rw (parent-place, below-above (cellPlace p n) z) (numbering.number-place _ _ wide _ _ b)
+
+    pub is-child : (a c : ℕ) × (a < ratio p) × (c < ratio p) × (child p (parent p n) a c ≡ n)
+    is-child = (cellPlace p n .row % ratio p, cellPlace p n .column % ratio p, mod-lt _ (ratio-pos p), mod-lt _ (ratio-pos p), child-of-parent)
+
+  module _ (n a c : ℕ) (b : n < cellTotal p) (z : suc (cellPlace p n .level) < p .levels) (l : a < ratio p) (m : c < ratio p) where
+    pub child-lt : child p n a c < cellTotal p
+    unfolding child
+    child-lt = numbering.number-lt _ _ _ _ (below-in (cellPlace p n) a c z l m (cell-inside n b))
+
+    pub child-place : cellPlace p (child p n a c) ≡ below p (cellPlace p n) a c
+    unfolding child
+    child-place = numbering.place-number _ _ _ _ (below-in (cellPlace p n) a c z l m (cell-inside n b))
+
+    pub child-level : cellPlace p (child p n a c) .level ≡ suc (cellPlace p n .level)
+    unfolding below
+    child-level = rw child-place
+
+    pub parent-of-child : parent p (child p n a c) ≡ n
+    unfolding parent
+    parent-of-child = rw (child-place, above-below (cellPlace p n) a c l m) (numbering.number-place _ _ wide _ _ b)
+
+-- ---- neighbourhoods
+
+apart-fact : (g x y : ℕ) → T (apart g x y) → Apart g x y
+unfolding apart
+apart-fact g x y t = record {
+  right = leb→le x (y + g) (and-l (leb x (y + g)) (leb y (x + g)) t);
+  left = leb→le y (x + g) (and-r (leb x (y + g)) (leb y (x + g)) t);
+}
+
+apart-test : (g x y : ℕ) → Apart g x y → T (apart g x y)
+unfolding apart
+apart-test g x y a = and-i (leb x (y + g)) (leb y (x + g)) (le→leb x (y + g) (a .right)) (le→leb y (x + g) (a .left))
+
+-- what `nearAt` tests, as facts
+pub record Near (p : Plan) (q c : Place) : Type 0 where
+  pub graded : p .class ≢ 0
+  pub levels : q .level + 1 ≡ c .level + p .class
+  pub columns : Apart (p .across) (c .column) (ancestor p (p .class - 1) (q .column))
+  pub rows : Apart (p .up) (c .row) (ancestor p (p .class - 1) (q .row))
+
+module _ (p : Plan) (q c : Place) where
+  abbrev classed : Bool
+  classed = not (eqb (p .class) 0)
+
+  abbrev leveled : Bool
+  leveled = eqb (q .level + 1) (c .level + p .class)
+
+  abbrev columned : Bool
+  columned = apart (p .across) (c .column) (ancestor p (p .class - 1) (q .column))
+
+  abbrev rowed : Bool
+  rowed = apart (p .up) (c .row) (ancestor p (p .class - 1) (q .row))
+
+  pub near-fact : T (nearAt p q c) → Near p q c
+  unfolding nearAt
+  near-fact t =
+      let u : T (leveled && (columned && rowed)) = and-r classed _ t in
+      let v : T (columned && rowed) = and-r leveled _ u in
+      record {
+        graded = differ (p .class) 0 (and-l classed _ t);
+        levels = eqb→eq (q .level + 1) (c .level + p .class) (and-l leveled _ u);
+        columns = apart-fact _ _ _ (and-l columned rowed v);
+        rows = apart-fact _ _ _ (and-r columned rowed v);
+      }
+
+  pub near-test : Near p q c → T (nearAt p q c)
+  unfolding nearAt
+  near-test n =
+      let a : T classed = not-i (eqb (p .class) 0) (λ t. n .graded (eqb→eq (p .class) 0 t)) in
+      let b : T leveled = eqb-of _ _ (n .levels) in
+      let d : T columned = apart-test _ _ _ (n .columns) in
+      let e : T rowed = apart-test _ _ _ (n .rows) in
+      and-i classed _ a (and-i leveled _ b (and-i columned rowed d e))
+
+near-above : (p : Plan) (q c : Place) → 0 < c .level → Near p q c → Near p (above p q) (above p c)
+unfolding above ancestor
+near-above p q c z n =
+    let s = n .graded in let l = n .levels in
+    let e : pred (q .level) + 1 ≡ pred (c .level) + p .class = omega arith in
+    record {
+      graded = s;
+      levels = e;
+      columns = apart-up (ratio p) (ratio-pos p) _ _ _ _ (n .columns);
+      rows = apart-up (ratio p) (ratio-pos p) _ _ _ _ (n .rows);
+    }
+
+module _ (p : Plan) (range : InRange p) (q c : ℕ) where
+  pub near-in : T (near p q c) → c < cellTotal p
+  unfolding near
+  near-in t = ltb→lt c (cellTotal p) (and-l (ltb c (cellTotal p)) _ t)
+
+  pub near-places : T (near p q c) → Near p (cellPlace p q) (cellPlace p c)
+  unfolding near
+  near-places t = near-fact p (cellPlace p q) (cellPlace p c) (and-r (ltb c (cellTotal p)) _ t)
+
+  pub near-of : c < cellTotal p → Near p (cellPlace p q) (cellPlace p c) → T (near p q c)
+  unfolding near
+  near-of l n = and-i (ltb c (cellTotal p)) _ (lt→ltb c (cellTotal p) l) (near-test p (cellPlace p q) (cellPlace p c) n)
+
+  pub near-level : T (near p q c) → cellPlace p c .level < cellPlace p q .level
+  near-level t = let n = near-places t in omega (arith, n .graded, n .levels, range .class≢)
+
+module _ (p : Plan) (range : InRange p) where
+  near-parent : (q c : ℕ) → q < cellTotal p → T (near p q c) → 1 ≤ cellPlace p c .level → T (near p (parent p q) (parent p c))
+  near-parent q c b t z =
+      let d : c < cellTotal p = near-in p range q c t in
+      near-of p range (parent p q) (parent p c) (parent-lt p range c d z)
+      (rw (parent-place p range q b (omega (arith, near-level p range q c t)), parent-place p range c d z)
+      (near-above p (cellPlace p q) (cellPlace p c) z (near-places p range q c t)))
+
+  -- what the theory of meshes knows of the grid
+  pub lawful : Lawful (hierarchy p)
+  lawful = record {
+    parent-in = λ c i l. parent-lt p range c i l;
+    parent-level = λ c i l. omega (arith, parent-level p range c i l);
+    near-in = λ q c i t. near-in p range q c t;
+    near-level = λ q c i t. near-level p range q c t;
+    near-parent = near-parent;
+  }

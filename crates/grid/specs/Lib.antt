@@ -1,0 +1,3 @@
+pub mod Numbering
+pub mod Plan
+pub mod Range

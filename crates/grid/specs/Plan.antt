@@ -1,0 +1,141 @@
+-- Document 01, "The plan": ranges, grids, numbering, supports, children and neighbourhoods. Definitions only.
+use mathlib.Core.Bool.{Bool, not, _&&_, _||_}
+use Prim.Native.Nat.{ℕ, pred, suc, min, _+_, _-_, _*_, _/_, _^_}
+use lib.Dec.{leb, ltb, eqb}
+use Rattle.hierarchy.specs.Hierarchy.{Hierarchy}
+use Rattle.grid.specs.declared.Plan.{Plan}
+use Rattle.grid.specs.declared.Place.{Place}
+use Rattle.grid.specs.Numbering
+
+-- ---- the six numbers
+
+-- x is one of lo to hi
+unfoldable pub between : ℕ → ℕ → ℕ → Bool
+between lo hi x = leb lo x && leb x hi
+
+-- "columns A and rows B (1 to 16), levels L (1 to 8), degree p across and q up (1 to 4), class m (0, or 2 to 8)"
+unfoldable pub inRange : Plan → Bool
+inRange p =
+    between 1 16 (p .columns) && (between 1 16 (p .rows) && (between 1 8 (p .levels)
+    && (between 1 4 (p .across) && (between 1 4 (p .up) && (eqb (p .class) 0 || between 2 8 (p .class))))))
+
+-- ---- levels
+
+-- how many columns of the next level stand on one
+unfoldable pub ratio : Plan → ℕ
+ratio p = 2
+
+-- one direction: b at level 0, s times as many on each next level
+unfoldable pub grown : ℕ → ℕ → ℕ → ℕ
+grown s b k = b * s ^ k
+
+-- "Level k has A·2^k columns and B·2^k rows of cells"
+abbrev pub columnsAt : Plan → ℕ → ℕ
+columnsAt p = grown (ratio p) (p .columns)
+
+abbrev pub rowsAt : Plan → ℕ → ℕ
+rowsAt p = grown (ratio p) (p .rows)
+
+-- "With n columns, a level has n + p functions across. Up is the same with q"
+abbrev pub functionColumnsAt : Plan → ℕ → ℕ
+functionColumnsAt p k = columnsAt p k + p .across
+
+abbrev pub functionRowsAt : Plan → ℕ → ℕ
+functionRowsAt p k = rowsAt p k + p .up
+
+-- ---- numbers and places: "numbered from 0, level by level, row by row"; functions "like cells, with n + p to a row"
+
+abbrev pub cellOffset : Plan → ℕ → ℕ
+cellOffset p = Numbering.offset (columnsAt p) (rowsAt p)
+
+abbrev pub functionOffset : Plan → ℕ → ℕ
+functionOffset p = Numbering.offset (functionColumnsAt p) (functionRowsAt p)
+
+-- T and F
+abbrev pub cellTotal : Plan → ℕ
+cellTotal p = cellOffset p (p .levels)
+
+abbrev pub functionTotal : Plan → ℕ
+functionTotal p = functionOffset p (p .levels)
+
+-- "T is at most 21,845"
+unfoldable pub tooLarge : Plan → Bool
+tooLarge p = ltb 21845 (cellTotal p)
+
+abbrev pub cellPlace : Plan → ℕ → Place
+cellPlace p = Numbering.place (columnsAt p) (rowsAt p) (p .levels)
+
+abbrev pub cellNumber : Plan → Place → ℕ
+cellNumber p = Numbering.number (columnsAt p) (rowsAt p)
+
+abbrev pub functionPlace : Plan → ℕ → Place
+functionPlace p = Numbering.place (functionColumnsAt p) (functionRowsAt p) (p .levels)
+
+abbrev pub functionNumber : Plan → Place → ℕ
+functionNumber p = Numbering.number (functionColumnsAt p) (functionRowsAt p)
+
+abbrev pub cellLevel : Plan → ℕ → ℕ
+cellLevel p c = cellPlace p c .level
+
+abbrev pub functionLevel : Plan → ℕ → ℕ
+functionLevel p f = functionPlace p f .level
+
+-- "level L-1", which has no children
+unfoldable pub lastLevel : Plan → ℕ → Bool
+lastLevel p k = eqb (k + 1) (p .levels)
+
+-- ---- parents and children: "columns 2c and 2c+1, rows 2r and 2r+1"
+
+unfoldable pub above : Plan → Place → Place
+above p x = record { level = pred (x .level); row = x .row / ratio p; column = x .column / ratio p }
+
+unfoldable pub below : Plan → Place → ℕ → ℕ → Place
+below p x a b = record { level = suc (x .level); row = x .row * ratio p + a; column = x .column * ratio p + b }
+
+unfoldable pub parent : Plan → ℕ → ℕ
+parent p c = cellNumber p (above p (cellPlace p c))
+
+-- the child in row a and column b, each below the ratio, of the cell c
+unfoldable pub child : Plan → ℕ → ℕ → ℕ → ℕ
+child p c a b = cellNumber p (below p (cellPlace p c) a b)
+
+-- ---- supports: "function i covers columns max(0, i-p) to min(n-1, i)"
+
+-- one direction: of n columns, function i of degree d covers column c
+unfoldable pub covers : ℕ → ℕ → ℕ → ℕ → Bool
+covers n d i c = leb (i - d) c && leb c (min (n - 1) i)
+
+-- "A function's support is the rectangle of both", of cells of its own level
+unfoldable pub supportedAt : Plan → Place → Place → Bool
+supportedAt p f c =
+    eqb (f .level) (c .level)
+    && (covers (columnsAt p (f .level)) (p .across) (f .column) (c .column) && covers (rowsAt p (f .level)) (p .up) (f .row) (c .row))
+
+-- the cell c lies in the support of the function f
+unfoldable pub supported : Plan → ℕ → ℕ → Bool
+supported p f c = supportedAt p (functionPlace p f) (cellPlace p c)
+
+-- ---- neighbourhoods
+
+-- x and y differ by at most d
+unfoldable pub apart : ℕ → ℕ → ℕ → Bool
+apart d x y = leb x (y + d) && leb y (x + d)
+
+-- x, d levels up
+unfoldable pub ancestor : Plan → ℕ → ℕ → ℕ
+ancestor p d x = x / ratio p ^ d
+
+-- "let a split cell have level j with j-m+1 at least 0. Every cell of level j-m+1 whose column differs by at most p, and row
+-- by at most q, from those of its ancestor there .. Those cells are its neighbourhood": the cell at c is in that of the cell at q
+unfoldable pub nearAt : Plan → Place → Place → Bool
+nearAt p q c =
+    not (eqb (p .class) 0)
+    && (eqb (q .level + 1) (c .level + p .class)
+    && (apart (p .across) (c .column) (ancestor p (p .class - 1) (q .column)) && apart (p .up) (c .row) (ancestor p (p .class - 1) (q .row))))
+
+unfoldable pub near : Plan → ℕ → ℕ → Bool
+near p q c = ltb c (cellTotal p) && nearAt p (cellPlace p q) (cellPlace p c)
+
+-- what refining and coarsening see of the plan
+abbrev pub hierarchy : Plan → Hierarchy
+hierarchy p = record { size = cellTotal p; depth = p .levels; level = cellLevel p; parent = parent p; near = near p }

@@ -1,0 +1,19 @@
+-- What `inRange` says, as facts: what the plan's methods require. Definitions only.
+use mathlib.Core.Path.{_≡_}
+use mathlib.Core.Logic.{_≢_}
+use Prim.Native.Nat.{ℕ, _≤_}
+use Rattle.grid.specs.declared.Plan.{Plan}
+
+pub record InRange (p : Plan) : Type 0 where
+  pub columns≥ : 1 ≤ p .columns
+  pub columns≤ : p .columns ≤ 16
+  pub rows≥ : 1 ≤ p .rows
+  pub rows≤ : p .rows ≤ 16
+  pub levels≥ : 1 ≤ p .levels
+  pub levels≤ : p .levels ≤ 8
+  pub across≥ : 1 ≤ p .across
+  pub across≤ : p .across ≤ 4
+  pub up≥ : 1 ≤ p .up
+  pub up≤ : p .up ≤ 4
+  pub class≢ : p .class ≢ 1
+  pub class≤ : p .class ≤ 8
