@@ -7,7 +7,8 @@ use lib.ListN.{length, getD}
 use Rattle.facts.specs.Bounded.{implies, some, every, sum}
 use Rattle.facts.specs.Numbers.{tabulate}
 use Rattle.grid.specs.declared.Plan.{Plan}
-use Rattle.grid.specs.Plan.{inRange, ratio, tooLarge, cellTotal, functionTotal, cellLevel, functionLevel, lastLevel, child, supported, near}
+use Rattle.grid.specs.Plan.{inRange, ratio, tooLarge, cellTotal, functionTotal, cellLevel, functionLevel, lastLevel, parent, child, supported, near}
+use Rattle.hierarchy.specs.Hierarchy.{Cells}
 use Rattle.mesh.specs.declared.Count.{Count}
 
 -- ---- cells: "0 absent, 1 active, 2 split" (here: refined)
@@ -44,6 +45,14 @@ isMesh p cells = every (cellTotal p) (cellFits p cells)
 unfoldable pub isAdmissible : Plan → List ℕ → Bool
 isAdmissible p cells =
     every (cellTotal p) (λ q. implies (refined cells q) (every (cellTotal p) (λ c. implies (near p q c) (refined cells c))))
+
+-- "split cells whose four children are active" (document 01: joinable)
+unfoldable pub reactivable : Plan → List ℕ → ℕ → Bool
+reactivable p cs c = refined cs c && (not (lastLevel p (cellLevel p c)) && children p c (active cs))
+
+-- the table in which just the cells of S are refined
+unfoldable pub tableOf : Plan → Cells → List ℕ
+tableOf p S = tabulate (cellTotal p) (λ c. cond (S c) 2 (cond (eqb (cellLevel p c) 0 || S (parent p c)) 1 0))
 
 -- ---- functions: "fixed by the cells of the function's own level in its support: 0 passive if any is absent; 2 deactivated if
 -- all are split; 1 active otherwise"

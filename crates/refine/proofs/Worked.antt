@@ -11,8 +11,8 @@ use Rattle.hierarchy.specs.Hierarchy.{reach, needs, closure}
 use Rattle.grid.specs.declared.Plan.{Plan}
 use Rattle.grid.specs.Numbering.{offset, number, levelOf, placeOn, place}
 use Rattle.grid.specs.Plan.{between, inRange, ratio, grown, tooLarge, lastLevel, above, below, parent, child, covers, supportedAt, supported, apart, ancestor, nearAt, near, cellTotal, functionTotal}
-use Rattle.mesh.specs.Mesh.{absent, active, refined, children, cellFits, isMesh, isAdmissible, labelOf, labels, isLabelled, refusal3, refusal6, check, freshCells, freshFunctions}
-use Rattle.refine.specs.Calls.{Direction, refine, coarsen, By, cells, functions, Outcome, reactivable, isKind, isTooDeep, markRefusal, underMarked, underKept, meant, base, tableOf, smallest, changed, written, refused, settle, newCells, refusal, outcome}
+use Rattle.mesh.specs.Mesh.{absent, active, refined, children, cellFits, isMesh, isAdmissible, reactivable, tableOf, labelOf, labels, isLabelled, refusal3, refusal6, check, freshCells, freshFunctions}
+use Rattle.refine.specs.Calls.{Direction, refine, coarsen, By, cells, functions, Outcome, isKind, isTooDeep, markRefusal, underMarked, underKept, meant, base, smallest, changed, written, refused, settle, newCells, refusal, outcome}
 
 -- the plan's numbers in document 01's order
 abbrev plan : ℕ → ℕ → ℕ → ℕ → ℕ → ℕ → Plan

@@ -6,11 +6,11 @@ use Prim.Native.Nat.{ℕ}
 use lib.Dec.{ltb, leb, eqb}
 use lib.ListN.{length, drop}
 use Rattle.facts.specs.Bounded.{some}
-use Rattle.facts.specs.Numbers.{elem, listed, tabulate, stored, first}
+use Rattle.facts.specs.Numbers.{elem, listed, stored, first}
 use Rattle.hierarchy.specs.Hierarchy.{Cells, closure}
 use Rattle.grid.specs.declared.Plan.{Plan}
-use Rattle.grid.specs.Plan.{cellTotal, functionTotal, cellLevel, functionLevel, lastLevel, parent, supported, hierarchy}
-use Rattle.mesh.specs.Mesh.{active, refined, children, labels, check}
+use Rattle.grid.specs.Plan.{cellTotal, functionTotal, cellLevel, functionLevel, lastLevel, supported, hierarchy}
+use Rattle.mesh.specs.Mesh.{active, refined, reactivable, tableOf, labels, check}
 use Rattle.refine.specs.declared.Answer.{Answer}
 
 pub data Direction : Type 0 where
@@ -20,10 +20,6 @@ pub data By : Type 0 where
   cells functions : By
 
 -- ---- marks: refusals 7, 8, 9
-
--- "split cells whose four children are active" (document 01: joinable)
-unfoldable pub reactivable : Plan → List ℕ → ℕ → Bool
-reactivable p cs c = refined cs c && (not (lastLevel p (cellLevel p c)) && children p c (active cs))
 
 -- numbers of cells, or of functions
 abbrev pub total : By → Plan → ℕ
@@ -76,10 +72,6 @@ meant coarsen functions p cs fs marks c = reactivable p cs c && (underMarked p m
 unfoldable pub base : Direction → List ℕ → Cells → Cells
 base refine cs M c = refined cs c || M c
 base coarsen cs M c = refined cs c && not (M c)
-
--- the table in which just the cells of S are refined
-unfoldable pub tableOf : Plan → Cells → List ℕ
-tableOf p S = tabulate (cellTotal p) (λ c. cond (S c) 2 (cond (eqb (cellLevel p c) 0 || S (parent p c)) 1 0))
 
 -- "the smallest wall of class m whose split cells include" the cells of X (theorem smallest, in proofs/)
 unfoldable pub smallest : Plan → Cells → List ℕ
