@@ -17,7 +17,7 @@ use Rattle.hierarchy.proofs.Sets as sets
 use Rattle.hierarchy.proofs.Sets.{Lawful, Inside, MeshSet, Admissible}
 use Rattle.hierarchy.proofs.Undo as undo
 use Rattle.grid.specs.declared.Plan.{Plan}
-use Rattle.grid.specs.Plan.{inRange, ratio, tooLarge, cellTotal, functionTotal, cellLevel, cellPlace, lastLevel, parent, child, near, hierarchy}
+use Rattle.grid.specs.Plan.{inRange, ratio, tooLarge, cellTotal, functionTotal, cellLevel, cellPlace, lastLevel, parent, child, supported, near, hierarchy}
 use Rattle.grid.specs.Range.{InRange}
 use Rattle.grid.proofs.Laws.{in-range, range-test, lawful, cell-inside, parent-lt, parent-level, is-child, child-lt, child-level, parent-of-child, near-in}
 use Rattle.mesh.specs.Mesh.{absent, active, refined, children, cellFits, isMesh, isAdmissible, reactivable, tableOf, labelOf, labels, isLabelled, refusal3, refusal6, check}
@@ -274,6 +274,26 @@ module _ (p : Plan) (cs : List ℕ) (G : Good p cs) where
     shallow = λ r e. absurd (omega (arith, G .mesh .shallow c i r));
   }
 
+-- ---- the tests of a good table, and back
+
+pub admissible-of : (p : Plan) → InRange p → (u : List ℕ) → T (isAdmissible p u) → Admissible (hierarchy p) (refined u)
+unfolding isAdmissible
+admissible-of p range u t q c i r n =
+    implies-e (near p q c) (refined u c)
+    (every-e (cellTotal p) (λ c. implies (near p q c) (refined u c))
+    (implies-e (refined u q) _ (every-e (cellTotal p) (λ q. implies (refined u q) (every (cellTotal p) (λ c. implies (near p q c) (refined u c)))) t q i) r)
+    c (near-in p range q c n)) n
+
+module _ (p : Plan) (cs : List ℕ) (G : Good p cs) where
+  pub is-mesh : T (isMesh p cs)
+  unfolding isMesh
+  is-mesh = every-i (cellTotal p) (cellFits p cs) (λ c i. fits-i p cs c (cell-inside p (G .range) c i .level<) (good-fits p cs G c i))
+
+  pub is-admissible : T (isAdmissible p cs)
+  unfolding isAdmissible
+  is-admissible = every-i (cellTotal p) _ (λ q i. implies-i (refined cs q) _ (λ r.
+      every-i (cellTotal p) _ (λ c j. implies-i (near p q c) (refined cs c) (G .admissible q c i r))))
+
 -- ---- check
 
 -- a chain of refusals that ends in 0 passes each
@@ -324,7 +344,7 @@ module _ (p : Plan) (cs fs : List ℕ) where
 
   -- check answers 0 just where the cells are good and the functions have the labels that they fix
   pub check-good : check p cs fs ≡ 0 → Good p cs × (fs ≡ labels p cs)
-  unfolding isMesh isAdmissible isLabelled labels tooLarge
+  unfolding isMesh isLabelled labels tooLarge
   check-good e =
       let k = checked e in
       let range = in-range p (k .range) in
@@ -335,10 +355,7 @@ module _ (p : Plan) (cs fs : List ℕ) where
           small = nltb→le 21845 (cellTotal p) (not-i (ltb 21845 (cellTotal p)) (k .small));
           sized = sized;
           mesh = fit-mesh p range cs fit;
-          admissible = λ q c i r n. implies-e (near p q c) (refined cs c)
-              (every-e (cellTotal p) (λ c. implies (near p q c) (refined cs c))
-              (implies-e (refined cs q) _ (every-e (cellTotal p) (λ q. implies (refined cs q) (every (cellTotal p) (λ c. implies (near p q c) (refined cs c)))) (k .admissible) q i) r)
-              c (near-in p range q c n)) n;
+          admissible = admissible-of p range cs (k .admissible);
           is = fit-is p range cs fit sized;
         },
         tabulate-is (functionTotal p) (labelOf p cs) fs (eqb→eq _ _ (and-r (eqb (length cs) (cellTotal p)) _ (k .lengths)))
@@ -354,12 +371,53 @@ unfolding labels
 getD-labels p cs f i = getD-tabulate (functionTotal p) (labelOf p cs) f 0 i
 
 pub good-check : (p : Plan) (cs : List ℕ) → Good p cs → check p cs (labels p cs) ≡ 0
-unfolding isMesh isAdmissible isLabelled tooLarge
+unfolding isLabelled tooLarge
 good-check p cs G = unchecked p cs (labels p cs) (record {
   range = range-test p (G .range);
   small = λ t. absurd (omega (arith, ltb→lt 21845 (cellTotal p) t, G .small));
   lengths = and-i (eqb (length cs) (cellTotal p)) _ (eqb-of _ _ (G .sized)) (eqb-of _ _ (length-labels p cs));
-  mesh = every-i (cellTotal p) (cellFits p cs) (λ c i. fits-i p cs c (cell-inside p (G .range) c i .level<) (good-fits p cs G c i));
-  admissible = every-i (cellTotal p) _ (λ q i. implies-i (refined cs q) _ (λ r. every-i (cellTotal p) _ (λ c j. implies-i (near p q c) (refined cs c) (G .admissible q c i r))));
+  mesh = is-mesh p cs G;
+  admissible = is-admissible p cs G;
   labelled = every-i (functionTotal p) _ (λ f i. eqb-of _ _ (getD-labels p cs f i));
 })
+
+-- ---- deactivated functions
+
+module _ (p : Plan) (cs : List ℕ) (f : ℕ) where
+  apart-absent : (c : ℕ) → T (absent cs c) → T (refined cs c) → ⊥
+  unfolding absent refined
+  apart-absent c a r = omega (arith, eqb→eq (getD cs c 0) 0 a, eqb→eq (getD cs c 0) 2 r)
+
+  abbrev some-absent : Bool
+  some-absent = some (cellTotal p) (λ c. supported p f c && absent cs c)
+
+  abbrev all-refined : Bool
+  all-refined = every (cellTotal p) (λ c. implies (supported p f c) (refined cs c))
+
+  two : (a b : Bool) → (T b → T a → ⊥) → eqb (cond a 0 (cond b 2 1)) 2 ≡ b
+  two true true h = absurd (h tt tt)
+  two true false h = refl
+  two false true h = refl
+  two false false h = refl
+
+  -- a function is deactivated just where all cells of its support are refined
+  pub deactivated-is : eqb (labelOf p cs f) 2 ≡ every (cellTotal p) (λ c. implies (supported p f c) (refined cs c))
+  unfolding labelOf
+  deactivated-is = two some-absent all-refined (λ b a.
+      let (c, i, u) = some-e (cellTotal p) (λ c. supported p f c && absent cs c) a in
+      apart-absent c (and-r (supported p f c) (absent cs c) u)
+      (implies-e (supported p f c) (refined cs c) (every-e (cellTotal p) (λ c. implies (supported p f c) (refined cs c)) b c i) (and-l (supported p f c) _ u)))
+
+  pub deactivated-e : T (eqb (labelOf p cs f) 2) → (c : ℕ) → c < cellTotal p → T (supported p f c) → T (refined cs c)
+  deactivated-e t c i s = implies-e (supported p f c) (refined cs c) (every-e (cellTotal p) (λ c. implies (supported p f c) (refined cs c)) (subst T deactivated-is t) c i) s
+
+  pub deactivated-i : ((c : ℕ) → c < cellTotal p → T (supported p f c) → T (refined cs c)) → T (eqb (labelOf p cs f) 2)
+  deactivated-i h = subst T (sym deactivated-is) (every-i (cellTotal p) _ (λ c i. implies-i (supported p f c) (refined cs c) (h c i)))
+
+-- they only grow with the refined cells
+pub deactivated-grow : (p : Plan) (old new : List ℕ) → ((c : ℕ) → c < cellTotal p → T (refined old c) → T (refined new c))
+    → (f : ℕ) → f < functionTotal p → T (refined (labels p old) f) → T (refined (labels p new) f)
+unfolding refined
+deactivated-grow p old new h f i t =
+    subst (λ n. T (eqb n 2)) (sym (getD-labels p new f i))
+    (deactivated-i p new f (λ c j s. h c j (deactivated-e p old f (subst (λ n. T (eqb n 2)) (getD-labels p old f i) t) c j s)))

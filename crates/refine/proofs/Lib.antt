@@ -1,2 +1,5 @@
 pub mod Runs
+pub mod Sets
+pub mod Marks
+pub mod Results
 pub mod Worked
