@@ -2,4 +2,5 @@ pub mod Runs
 pub mod Sets
 pub mod Marks
 pub mod Results
+pub mod Undo
 pub mod Worked

@@ -97,7 +97,7 @@ module _ (d : Direction) (by : By) (p : Plan) (cs fs marks : List ℕ) (G : Good
 
 -- ---- lists
 
-beq-sym : (s r : Bool) → Bool·beq s r ≡ Bool·beq r s
+pub beq-sym : (s r : Bool) → Bool·beq s r ≡ Bool·beq r s
 beq-sym true true = refl
 beq-sym true false = refl
 beq-sym false true = refl
