@@ -3,4 +3,5 @@ pub mod Sets
 pub mod Marks
 pub mod Results
 pub mod Undo
+pub mod ByCells
 pub mod Worked

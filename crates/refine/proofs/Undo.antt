@@ -1,27 +1,29 @@
--- Demand 3 by cells: every run, of any calls in any class, is undone by its own cell lists. Assumes nothing.
+-- How a call is taken back, with the kept cell list or the kept function list as marks: what must be known of the change it
+-- made, and that this is enough. Assumes nothing.
 use mathlib.Core.Path.{_≡_, refl, sym, ap, ap₂, _∙_, subst}
-use mathlib.Core.Bool.{Bool, true, false, not, _&&_, _||_, cond, Bool·beq, or-false, and-true}
+use mathlib.Core.Bool.{Bool, true, false, not, _&&_, _||_, Bool·beq, or-false, and-true}
 use mathlib.Core.List.{List, [], _∷_, _++_}
-use Prim.Native.Nat.{ℕ, zero, suc, _+_, _≤_, _<_}
-use native.Mathlib.Omega.{arith}
-use lib.Dec.{T, eqb, eqb→eq, ltb, lt→ltb}
+use Prim.Native.Nat.{ℕ, zero, suc, _≤_, _<_}
+use lib.Dec.{T, ltb, lt→ltb}
 use lib.ListN.{length, take}
+use Rattle.facts.specs.Bounded.{some}
 use Rattle.facts.specs.Numbers.{elem, listed}
-use Rattle.facts.proofs.Tests.{same, T-true, not-i, cases}
-use Rattle.facts.proofs.Numbers.{listed→, elem-listed, listed-same}
+use Rattle.facts.proofs.Tests.{and-l, and-r, T-true, T-false}
+use Rattle.facts.proofs.Bounded.{some-e}
+use Rattle.facts.proofs.Numbers.{elem-listed, listed-same}
 use Rattle.hierarchy.specs.Hierarchy.{Cells, closure}
 use Rattle.hierarchy.proofs.Closure.{closure-in, closure-same}
 use Rattle.grid.specs.declared.Plan.{Plan}
-use Rattle.grid.specs.Plan.{cellTotal, functionTotal, cellLevel, lastLevel, hierarchy}
+use Rattle.grid.specs.Plan.{cellTotal, functionTotal, supported, hierarchy}
 use Rattle.grid.proofs.Laws.{lawful}
 use Rattle.mesh.specs.Mesh.{active, refined, reactivable, tableOf, labels, check}
-use Rattle.mesh.proofs.Bridge.{Good, check-good, good-check, good-inside, active-is, reactivable-is}
-use Rattle.refine.specs.Calls.{Direction, refine, coarsen, By, cells, isKind, isTooDeep, meant, changed, written, Outcome, refused, newCells, refusal, outcome}
-use Rattle.refine.specs.Runs.{Tables, Room, Call, Entry, result, after, entry, log, backwards, opposite, taking, taken, LongEnough, Undone}
-use Rattle.refine.proofs.Sets.{put, difference, May, changed-may, put-back}
+use Rattle.mesh.proofs.Bridge.{Good, check-good, good-check, good-inside}
+use Rattle.refine.specs.Calls.{Direction, refine, coarsen, By, cells, functions, underMarked, meant, changed, Outcome, refused, newCells, refusal, outcome}
+use Rattle.refine.specs.Runs.{Tables, Room, Call, Entry, result, after, entry, opposite, taking, taken}
+use Rattle.refine.proofs.Sets.{put}
 use Rattle.refine.proofs.Marks.{Fits, refusal-e, refusal-i, inside-ext, closure-same-below}
-use Rattle.refine.proofs.Results.{may, new-is, new-good, new-refined, new-difference, accepted, Made, refusal-of, accepted-as, made, outcome-accepted, written-take, beq-sym}
-use Rattle.refine.proofs.Runs.{Back, Each, done, next, run-undone}
+use Rattle.refine.proofs.Results.{new-is, new-good, accepted, Made, refusal-of, accepted-as, made, outcome-accepted, written-take, beq-sym}
+use Rattle.refine.proofs.Runs.{Back}
 
 -- ---- changes
 
@@ -42,67 +44,43 @@ pub changed-none : (n : ℕ) (o : List ℕ) → changed n o o ≡ []
 unfolding changed
 changed-none n o = listed-none n o
 
-elem-changed : (n : ℕ) (o w : List ℕ) (c : ℕ) → c < n → elem c (changed n o w) ≡ not (Bool·beq (refined o c) (refined w c))
+pub elem-changed : (n : ℕ) (o w : List ℕ) (c : ℕ) → c < n → elem c (changed n o w) ≡ not (Bool·beq (refined o c) (refined w c))
 unfolding changed
 elem-changed n o w c i = elem-listed n (λ x. not (Bool·beq (refined o x) (refined w x))) c ∙ ap (λ b. b && not (Bool·beq (refined o c) (refined w c))) (T-true (ltb c n) (lt→ltb c n i))
 
--- ---- marks by cells that may be meant fit
+-- ---- the call that takes back the change from cs to cs′, with marks by cells or by functions
 
-may-fits : (d : Direction) (p : Plan) (cs fs : List ℕ) → Good p cs → (x : ℕ) → x < cellTotal p → May d (hierarchy p) (refined cs) x → Fits d cells p cs fs x
-unfolding isKind isTooDeep lastLevel
-may-fits refine p cs fs G x i (a, l) = record {
-  inside = i;
-  kind = subst T (sym (active-is p cs G x i)) a;
-  shallow = λ t. absurd (omega (arith, eqb→eq (cellLevel p x + 1) (p .levels) t));
-}
-may-fits coarsen p cs fs G x i a = record { inside = i; kind = subst T (sym (reactivable-is p cs G x i)) a; shallow = λ t. t }
+module _ (by : By) (d : Direction) (p : Plan) (cs cs′ : List ℕ) (G : Good p cs) (N : Good p cs′) where
+  -- the list that is kept of a change and is given back as marks
+  abbrev pub kept : By → List ℕ
+  kept cells = changed (cellTotal p) cs cs′
+  kept functions = changed (functionTotal p) (labels p cs) (labels p cs′)
 
--- ---- the call that takes back the change from cs to cs′
-
-module _ (d : Direction) (p : Plan) (cs cs′ : List ℕ) (G : Good p cs) (N : Good p cs′) where
   -- what must be known of the change
   pub record Undoable : Type 0 where
-    pub fit : (c : ℕ) → c < cellTotal p → T (not (Bool·beq (refined cs c) (refined cs′ c))) → May (opposite d) (hierarchy p) (refined cs′) c
+    pub fit : (x : ℕ) → T (elem x (kept by)) → Fits (opposite d) by p cs′ (labels p cs′) x
     pub back : (c : ℕ) → c < cellTotal p
-        → closure (hierarchy p) (put (opposite d) (refined cs′) (λ x. not (Bool·beq (refined cs x) (refined cs′ x)))) c ≡ refined cs c
-
-  abbrev dc : List ℕ
-  dc = changed (cellTotal p) cs cs′
-
-  abbrev fs′ : List ℕ
-  fs′ = labels p cs′
+        → closure (hierarchy p) (put (opposite d) (refined cs′) (meant (opposite d) by p cs′ (labels p cs′) (kept by))) c ≡ refined cs c
 
   module _ (U : Undoable) where
-    marks-fit : (x : ℕ) → T (elem x dc) → Fits (opposite d) cells p cs′ fs′ x
-    unfolding changed
-    marks-fit x t = let (i, u) = listed→ (cellTotal p) _ x t in may-fits (opposite d) p cs′ fs′ N x i (U .fit x i u)
-
-    put-same : (e : Direction) (X Y : Cells) → ((c : ℕ) → c < cellTotal p → X c ≡ Y c) → (c : ℕ) → c < cellTotal p → put e (refined cs′) X c ≡ put e (refined cs′) Y c
-    put-same refine X Y h c i = ap (λ b. refined cs′ c || b) (h c i)
-    put-same coarsen X Y h c i = ap (λ b. refined cs′ c && not b) (h c i)
-
-    old-again : newCells (opposite d) cells p cs′ fs′ dc ≡ cs
-    unfolding meant
+    old-again : newCells (opposite d) by p cs′ (labels p cs′) (kept by) ≡ cs
     old-again =
-        let H = hierarchy p in
-        new-is (opposite d) cells p cs′ fs′ dc N marks-fit
-        ∙ ap (tableOf p) (closure-same-below p _ _ (put-same (opposite d) (λ c. elem c dc) (λ x. not (Bool·beq (refined cs x) (refined cs′ x))) (elem-changed (cellTotal p) cs cs′))
-        ∙ inside-ext (cellTotal p) _ (refined cs) (closure-in H (lawful p (G .range)) _) (good-inside p cs G) (U .back))
+        new-is (opposite d) by p cs′ (labels p cs′) (kept by) N (U .fit)
+        ∙ ap (tableOf p) (inside-ext (cellTotal p) _ (refined cs) (closure-in (hierarchy p) (lawful p (G .range)) _) (good-inside p cs G) (U .back))
         ∙ sym (G .is)
 
-    pub taken-back : (rc rf : List ℕ) → length dc ≤ length rc → length (changed (functionTotal p) (labels p cs) fs′) ≤ length rf
-        → outcome (opposite d) cells p cs′ fs′ dc rc rf ≡ accepted p cs′ fs′ rc rf cs (labels p cs)
+    pub taken-back : (rc rf : List ℕ) → length (kept cells) ≤ length rc → length (kept functions) ≤ length rf
+        → outcome (opposite d) by p cs′ (labels p cs′) (kept by) rc rf ≡ accepted p cs′ (labels p cs′) rc rf cs (labels p cs)
     taken-back rc rf a b =
-        let n : List ℕ = newCells (opposite d) cells p cs′ fs′ dc in
-        outcome-accepted (opposite d) cells p cs′ fs′ dc rc rf
-        (refusal-i (opposite d) cells p cs′ fs′ dc (good-check p cs′ N) marks-fit)
+        outcome-accepted (opposite d) by p cs′ (labels p cs′) (kept by) rc rf
+        (refusal-i (opposite d) by p cs′ (labels p cs′) (kept by) (good-check p cs′ N) (U .fit))
         (rw (old-again, changed-sym (cellTotal p) cs cs′) a)
-        (rw (old-again, changed-sym (functionTotal p) (labels p cs) fs′) b)
-        ∙ ap (λ u. accepted p cs′ fs′ rc rf u (labels p u)) old-again
+        (rw (old-again, changed-sym (functionTotal p) (labels p cs) (labels p cs′)) b)
+        ∙ ap (λ u. accepted p cs′ (labels p cs′) rc rf u (labels p u)) old-again
 
 -- ---- one call of a run: what it turned the cells into, and that this can be taken back
 
-pub record Turn (p : Plan) (t : Tables) (a : Call) : Type 0 where
+pub record Turn (by : By) (p : Plan) (t : Tables) (a : Call) : Type 0 where
   pub new : List ℕ
   pub good : Good p (t .cells)
   pub good′ : Good p new
@@ -110,49 +88,35 @@ pub record Turn (p : Plan) (t : Tables) (a : Call) : Type 0 where
   pub left : after p t a ≡ record { cells = new; functions = labels p new }
   pub named : entry p t a .cells ≡ changed (cellTotal p) (t .cells) new
   pub named′ : entry p t a .functions ≡ changed (functionTotal p) (t .functions) (labels p new)
-  pub undoable : Undoable (a .direction) p (t .cells) new good good′
+  pub undoable : Undoable by (a .direction) p (t .cells) new good good′
 
--- a refused call turns nothing
-module _ (d : Direction) (p : Plan) (cs : List ℕ) (G : Good p cs) where
-  put-none : (e : Direction) (X : Cells) → ((c : ℕ) → X c ≡ false) → (c : ℕ) → put e (refined cs) X c ≡ refined cs c
-  put-none refine X h c = rw (h c) (or-false (refined cs c))
-  put-none coarsen X h c = rw (h c) (and-true (refined cs c))
+-- a refused call turns nothing, and no marks at all mean nothing
+module _ (by : By) (d : Direction) (p : Plan) (cs : List ℕ) (G : Good p cs) where
+  none-kept : (b : By) → kept by d p cs cs G G b ≡ []
+  none-kept cells = changed-none (cellTotal p) cs
+  none-kept functions = changed-none (functionTotal p) (labels p cs)
 
-  nothing : Undoable d p cs cs G G
+  put-none : (e : Direction) (X : Cells) (c : ℕ) → (T (X c) → ⊥) → put e (refined cs) X c ≡ refined cs c
+  put-none refine X c h = rw (T-false (X c) h) (or-false (refined cs c))
+  put-none coarsen X c h = rw (T-false (X c) h) (and-true (refined cs c))
+
+  under-none : (c : ℕ) → T (underMarked p [] c) → ⊥
+  unfolding underMarked elem
+  under-none c t = some-e (functionTotal p) (λ f. elem f [] && supported p f c) t .2
+
+  meant-none : (e : Direction) (b : By) (fs : List ℕ) (c : ℕ) → T (meant e b p cs fs [] c) → ⊥
+  unfolding meant elem
+  meant-none e cells fs c t = t
+  meant-none refine functions fs c t = under-none c (and-r (active cs c) _ t)
+  meant-none coarsen functions fs c t = under-none c (and-l (underMarked p [] c) _ (and-r (reactivable p cs c) _ t))
+
+  nothing : Undoable by d p cs cs G G
   nothing = record {
-    fit = λ c i t. absurd (subst T (not-changed (refined cs c)) t);
+    fit = λ x t. absurd (unfold elem in rw (none-kept by) at t);
     back = λ c i.
-        ap (λ X. X c) (closure-same-below p _ (refined cs) (λ x _. put-none (opposite d) (λ x. not (Bool·beq (refined cs x) (refined cs x))) (λ x. not-changed (refined cs x)) x))
+        ap (λ X. X c) (closure-same-below p _ (refined cs) (λ x _. put-none (opposite d) _ x (rw (none-kept by) (meant-none (opposite d) by (labels p cs) x))))
         ∙ closure-same (hierarchy p) (lawful p (G .range)) (refined cs) (G .admissible) c i;
   }
-
--- an accepted call turns what the theory says
-module _ (d : Direction) (by : By) (p : Plan) (cs fs marks : List ℕ) (G : Good p cs) (fit : (x : ℕ) → T (elem x marks) → Fits d by p cs fs x) where
-  abbrev M : Cells
-  M = meant d by p cs fs marks
-
-  abbrev R : Cells
-  R = closure (hierarchy p) (put d (refined cs) M)
-
-  something : Undoable d p cs (newCells d by p cs fs marks) G (new-good d by p cs fs marks G fit)
-  something =
-      let H = hierarchy p in
-      let L = lawful p (G .range) in
-      let m = may d by p cs fs marks G fit in
-      let r : refined (newCells d by p cs fs marks) ≡ R = new-refined d by p cs fs marks G fit in
-      let e = new-difference d by p cs fs marks G fit in
-      record {
-        fit = λ c i t. subst (λ X. May (opposite d) H X c) (sym r) (changed-may H L (refined cs) M (G .admissible) (G .mesh) d m c i (subst T (e c i) t));
-        back = λ c i.
-            ap (λ X. X c) (closure-same-below p _ (put (opposite d) R (difference d (refined cs) R)) (λ x j. go (opposite d) x (e x j) r))
-            ∙ put-back H L (refined cs) M (G .admissible) (G .mesh) d m c i;
-      }
-    where
-      go : (o : Direction) (x : ℕ) → not (Bool·beq (refined cs x) (refined (newCells d by p cs fs marks) x)) ≡ difference d (refined cs) R x
-          → refined (newCells d by p cs fs marks) ≡ R
-          → put o (refined (newCells d by p cs fs marks)) (λ x. not (Bool·beq (refined cs x) (refined (newCells d by p cs fs marks) x))) x ≡ put o R (difference d (refined cs) R) x
-      go refine x e r = ap₂ (λ X b. X x || b) r e
-      go coarsen x e r = ap₂ (λ X b. X x && not b) r e
 
 -- ---- from outcomes to what a run keeps
 
@@ -193,9 +157,16 @@ module _ (p : Plan) (t : Tables) (a : Call) where
   unfolding accepted
   leaving-accepted cs fs cl fl cs′ fs′ = refl
 
-  turn-of : check p (t .cells) (t .functions) ≡ 0 → (o : Outcome) → result p t a ≡ o
-      → Made (a .direction) (a .by) p (t .cells) (t .functions) (a .marks) (a .room .cells) (a .room .functions) o → Turn p t a
-  turn-of k o r (refusal-of n e) =
+  -- what the accepted call turns the cells into can be taken back
+  abbrev pub Taking : By → Type 0
+  Taking by = (G : Good p (t .cells)) (fit : (x : ℕ) → T (elem x (a .marks)) → Fits (a .direction) (a .by) p (t .cells) (t .functions) x)
+      → t .functions ≡ labels p (t .cells)
+      → Undoable by (a .direction) p (t .cells) (newCells (a .direction) (a .by) p (t .cells) (t .functions) (a .marks)) G
+      (new-good (a .direction) (a .by) p (t .cells) (t .functions) (a .marks) G fit)
+
+  turn-of : (by : By) → Taking by → check p (t .cells) (t .functions) ≡ 0 → (o : Outcome) → result p t a ≡ o
+      → Made (a .direction) (a .by) p (t .cells) (t .functions) (a .marks) (a .room .cells) (a .room .functions) o → Turn by p t a
+  turn-of by u k o r (refusal-of n e) =
       let (G, l) = check-good p (t .cells) (t .functions) k in
       let E = entry-of _ (r ∙ e) ∙ keeping-refused (suc n) _ _ _ _ in
       record {
@@ -206,9 +177,9 @@ module _ (p : Plan) (t : Tables) (a : Call) where
         left = after-of _ (r ∙ e) ∙ leaving-refused (suc n) _ _ _ _ ∙ ap (λ f. record { cells = t .cells; functions = f }) l;
         named = ap (λ e. e .cells) E ∙ sym (changed-none (cellTotal p) (t .cells));
         named′ = ap (λ e. e .functions) E ∙ sym (changed-none (functionTotal p) (t .functions)) ∙ ap (changed (functionTotal p) (t .functions)) l;
-        undoable = nothing (a .direction) p (t .cells) G;
+        undoable = nothing by (a .direction) p (t .cells) G;
       }
-  turn-of k o r (accepted-as cs′ fs′ ec ef z x y e) =
+  turn-of by u k o r (accepted-as cs′ fs′ ec ef z x y e) =
       let (G, l) = check-good p (t .cells) (t .functions) k in
       let fit = refusal-e (a .direction) (a .by) p (t .cells) (t .functions) (a .marks) z .1 in
       let new : List ℕ = newCells (a .direction) (a .by) p (t .cells) (t .functions) (a .marks) in
@@ -222,70 +193,62 @@ module _ (p : Plan) (t : Tables) (a : Call) where
         left = after-of _ q ∙ leaving-accepted _ _ _ _ new (labels p new);
         named = ap (λ e. e .cells) E;
         named′ = ap (λ e. e .functions) E;
-        undoable = something (a .direction) (a .by) p (t .cells) (t .functions) (a .marks) G fit;
+        undoable = u G fit l;
       }
 
-  pub turn : check p (t .cells) (t .functions) ≡ 0 → Turn p t a
+  pub turn : (by : By) → Taking by → check p (t .cells) (t .functions) ≡ 0 → Turn by p t a
   unfolding result
-  turn k = turn-of k (result p t a) refl (made (a .direction) (a .by) p (t .cells) (t .functions) (a .marks) (a .room .cells) (a .room .functions))
+  turn by u k = turn-of by u k (result p t a) refl (made (a .direction) (a .by) p (t .cells) (t .functions) (a .marks) (a .room .cells) (a .room .functions))
 
 -- ---- back
 
-module _ (p : Plan) (t : Tables) (a : Call) (K : Turn p t a) where
+module _ (by : By) (p : Plan) (t : Tables) (a : Call) (K : Turn by p t a) where
   abbrev e : Entry
   e = entry p t a
 
   abbrev t′ : Tables
   t′ = record { cells = K .new; functions = labels p (K .new) }
 
-  abbrev b : Room → Call
-  b room = taking cells e room
+  abbrev list : By → List ℕ
+  list = kept by (a .direction) p (t .cells) (K .new) (K .good) (K .good′)
+
+  named-functions : e .functions ≡ list functions
+  named-functions = K .named′ ∙ ap (λ f. changed (functionTotal p) f (labels p (K .new))) (K .labelled)
+
+  taking-is : (b : By) (room : Room) → taking b e room ≡ record { direction = opposite (a .direction); by = b; marks = list b; room = room }
+  unfolding taking entry
+  taking-is cells room = ap (λ m. record { direction = opposite (a .direction); by = cells; marks = m; room = room }) (K .named)
+  taking-is functions room = ap (λ m. record { direction = opposite (a .direction); by = functions; marks = m; room = room }) named-functions
 
   same-tables : record { cells = t .cells; functions = labels p (t .cells) } ≡ t
   same-tables = ap (λ f. record { cells = t .cells; functions = f }) (sym (K .labelled))
 
   module _ (room : Room) (x : length (e .cells) ≤ length (room .cells)) (y : length (e .functions) ≤ length (room .functions)) where
-    back-result : result p t′ (b room) ≡ accepted p (K .new) (labels p (K .new)) (room .cells) (room .functions) (t .cells) (labels p (t .cells))
-    unfolding result taking entry
-    back-result =
-        ap (λ m. outcome (opposite (a .direction)) cells p (K .new) (labels p (K .new)) m (room .cells) (room .functions)) (K .named)
-        ∙ taken-back (a .direction) p (t .cells) (K .new) (K .good) (K .good′) (K .undoable) (room .cells) (room .functions)
-        (subst (λ l. length l ≤ length (room .cells)) (K .named) x)
-        (subst (λ l. length l ≤ length (room .functions)) (K .named′ ∙ ap (λ f. changed (functionTotal p) f (labels p (K .new))) (K .labelled)) y)
+    abbrev b : Call
+    b = record { direction = opposite (a .direction); by = by; marks = list by; room = room }
 
-    back-named : entry p t′ (b room) ≡ taken e
-    unfolding taken taking entry
+    back-result : result p t′ b ≡ accepted p (K .new) (labels p (K .new)) (room .cells) (room .functions) (t .cells) (labels p (t .cells))
+    unfolding result
+    back-result =
+        taken-back by (a .direction) p (t .cells) (K .new) (K .good) (K .good′) (K .undoable) (room .cells) (room .functions)
+        (subst (λ l. length l ≤ length (room .cells)) (K .named) x) (subst (λ l. length l ≤ length (room .functions)) named-functions y)
+
+    back-named : entry p t′ b ≡ taken e
+    unfolding taken entry
     back-named =
-        entry-of p t′ (b room) _ back-result ∙ keeping-accepted p t′ (b room) _ _ _ _ _ _
+        entry-of p t′ b _ back-result ∙ keeping-accepted p t′ b _ _ _ _ _ _
         ∙ ap₂ (λ c f. record { direction = opposite (a .direction); number = 0; cells = c; functions = f })
         (changed-sym (cellTotal p) (t .cells) (K .new) ∙ sym (K .named))
-        (changed-sym (functionTotal p) (labels p (t .cells)) (labels p (K .new)) ∙ ap (λ f. changed (functionTotal p) f (labels p (K .new))) (sym (K .labelled)) ∙ sym (K .named′))
+        (changed-sym (functionTotal p) (labels p (t .cells)) (labels p (K .new)) ∙ sym named-functions)
 
-    back-left : after p t′ (b room) ≡ t
-    back-left = after-of p t′ (b room) _ back-result ∙ leaving-accepted p t′ (b room) _ _ _ _ _ _ ∙ same-tables
+    back-left : after p t′ b ≡ t
+    back-left = after-of p t′ b _ back-result ∙ leaving-accepted p t′ b _ _ _ _ _ _ ∙ same-tables
 
-  pub turn-back : Back cells p t a
+  pub turn-back : Back by p t a
   turn-back = record {
-    named = λ room x y. ap (λ s. entry p s (b room)) (K .left) ∙ back-named room x y;
-    restored = λ room x y. ap (λ s. after p s (b room)) (K .left) ∙ back-left room x y;
+    named = λ room x y. ap₂ (entry p) (K .left) (taking-is by room) ∙ back-named room x y;
+    restored = λ room x y. ap₂ (after p) (K .left) (taking-is by room) ∙ back-left room x y;
   }
 
   pub turn-checked : check p (after p t a .cells) (after p t a .functions) ≡ 0
   turn-checked = ap (λ s. check p (s .cells) (s .functions)) (K .left) ∙ good-check p (K .new) (K .good′)
-
--- ---- demand 3, by cells
-
-every-call : (run : List Call) → Each (λ _. T true) run
-every-call [] = done
-every-call (a ∷ rest) = next tt (every-call rest)
-
--- For every mesh that check passes, in any class, and every run of calls on it, by cells or by functions, refused ones included,
--- whatever their marks and lists: the copied cell lists, last first, each to the opposite call by cells, with lists long enough,
--- are accepted, name the same cells and functions, and restore both tables
-pub undone-by-cells : (p : Plan) (t : Tables) (run : List Call) (rooms : List Room) → check p (t .cells) (t .functions) ≡ 0
-    → LongEnough (backwards (log p t run)) rooms → Undone cells p t run rooms
-undone-by-cells p t run rooms k l =
-    run-undone cells p (λ t. check p (t .cells) (t .functions) ≡ 0) (λ _. T true)
-    (λ t a k _. turn-checked p t a (turn p t a k))
-    (λ t a k _. turn-back p t a (turn p t a k))
-    run t rooms k (every-call run) l
