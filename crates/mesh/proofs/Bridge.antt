@@ -203,6 +203,9 @@ module _ (p : Plan) (cs : List ℕ) (G : Good p cs) where
   unfolding tableOf
   byte-of c i = ap (λ u. getD u c 0) (G .is) ∙ getD-tabulate (cellTotal p) (λ c. cond (refined cs c) 2 (cond (rooted p (refined cs) c) 1 0)) c 0 i
 
+  pub byte-at-most : (c : ℕ) → c < cellTotal p → getD cs c 0 ≤ 2
+  byte-at-most c i = rw (byte-of c i) (byte-le (refined cs c) (rooted p (refined cs) c))
+
   pub good-inside : Inside (hierarchy p) (refined cs)
   unfolding refined
   good-inside c s = cases (ltb c (cellTotal p)) (ltb→lt c (cellTotal p)) (λ h.
@@ -263,7 +266,7 @@ module _ (p : Plan) (cs : List ℕ) (G : Good p cs) where
 
   good-fits : (c : ℕ) → c < cellTotal p → CellFits p cs c
   good-fits c i = record {
-    byte = rw (byte-of c i) (byte-le (refined cs c) (rooted p (refined cs) c));
+    byte = byte-at-most c i;
     first = λ z. subst T (sym (present-of c i)) (or-l (eqb (cellLevel p c) 0) _ (eqb-of _ _ z));
     below = λ l a b ha hb.
         let d : ℕ = child p c a b in

@@ -4,4 +4,5 @@ pub mod Marks
 pub mod Results
 pub mod Undo
 pub mod ByCells
+pub mod ByFunctions
 pub mod Worked

@@ -200,6 +200,24 @@ module _ (p : Plan) (t : Tables) (a : Call) where
   unfolding result
   turn by u k = turn-of by u k (result p t a) refl (made (a .direction) (a .by) p (t .cells) (t .functions) (a .marks) (a .room .cells) (a .room .functions))
 
+  -- the tables afterwards: as they were, or the new ones
+  pub data After : Type 0 where
+    as-before : after p t a ≡ t → After
+    as-made : ((x : ℕ) → T (elem x (a .marks)) → Fits (a .direction) (a .by) p (t .cells) (t .functions) x)
+        → after p t a ≡ record { cells = newCells (a .direction) (a .by) p (t .cells) (t .functions) (a .marks); functions = labels p (newCells (a .direction) (a .by) p (t .cells) (t .functions) (a .marks)) }
+        → After
+
+  after-made : (o : Outcome) → result p t a ≡ o
+      → Made (a .direction) (a .by) p (t .cells) (t .functions) (a .marks) (a .room .cells) (a .room .functions) o → After
+  after-made o r (refusal-of n e) = as-before (after-of _ (r ∙ e) ∙ leaving-refused (suc n) _ _ _ _)
+  after-made o r (accepted-as cs′ fs′ ec ef z x y e) =
+      as-made (refusal-e (a .direction) (a .by) p (t .cells) (t .functions) (a .marks) z .1)
+      (after-of _ (r ∙ e) ∙ leaving-accepted _ _ _ _ cs′ fs′ ∙ ap₂ (λ u v. record { cells = u; functions = v }) ec (ef ∙ ap (labels p) ec))
+
+  pub after-is : After
+  unfolding result
+  after-is = after-made (result p t a) refl (made (a .direction) (a .by) p (t .cells) (t .functions) (a .marks) (a .room .cells) (a .room .functions))
+
 -- ---- back
 
 module _ (by : By) (p : Plan) (t : Tables) (a : Call) (K : Turn by p t a) where

@@ -1,10 +1,13 @@
 -- Document 01, "The walk back": a run of calls, its log, and the undo of a whole run. Definitions only.
-use mathlib.Core.Bool.{Bool, true, false}
+use mathlib.Core.Bool.{Bool, _&&_}
 use mathlib.Core.List.{List, [], _∷_, _++_}
 use mathlib.Core.Path.{_≡_}
 use Prim.Native.Nat.{ℕ, _≤_}
 use lib.ListN.{length, take}
+use Rattle.facts.specs.Bounded.{implies, some, every}
 use Rattle.grid.specs.declared.Plan.{Plan}
+use Rattle.grid.specs.Plan.{cellTotal, functionTotal, supported}
+use Rattle.mesh.specs.Mesh.{refined}
 use Rattle.refine.specs.Calls.{Direction, refine, coarsen, By, Outcome, outcome}
 use Rattle.refine.specs.Calls as calls
 
@@ -98,3 +101,15 @@ allTaken (e ∷ es) = taken e ∷ allTaken es
 pub record Undone (by : By) (p : Plan) (t : Tables) (run : List Call) (rooms : List Room) : Type 0 where
   pub named : log p (final p t run) (undo by (backwards (log p t run)) rooms) ≡ allTaken (backwards (log p t run))
   pub restored : final p (final p t run) (undo by (backwards (log p t run)) rooms) ≡ t
+
+-- "a first wall in which each split cell lies in the support of a deactivated function of its own level": the premise of the undo
+-- by functions
+unfoldable pub covered : Plan → List ℕ → List ℕ → Bool
+covered p cs fs =
+    every (cellTotal p) (λ c. implies (refined cs c) (some (functionTotal p) (λ f. refined fs f && supported p f c)))
+
+-- "runs of splits by functions alone": each call of the run is one, with any marks and any room
+pub data RefinesByFunctions : List Call → Type 0 where
+  end : RefinesByFunctions []
+  and : {marks : List ℕ} {room : Room} {rest : List Call}
+      → RefinesByFunctions rest → RefinesByFunctions (record { direction = refine; by = calls.functions; marks = marks; room = room } ∷ rest)
