@@ -1,2 +1,4 @@
 pub mod Points
 pub mod Regions
+pub mod Basis
+pub mod Worked

@@ -2,13 +2,15 @@
 -- levels that is published. Definitions only.
 use mathlib.Core.Bool.{Bool, true, false, not, _&&_, _||_}
 use mathlib.Core.List.{List}
-use Prim.Native.Nat.{ℕ, zero, suc, _-_}
-use lib.Dec.{eqb}
+use mathlib.Core.Logic.{_↔_}
+use mathlib.Core.Path.{_≡_}
+use Prim.Native.Nat.{ℕ, zero, suc, _-_, _<_}
+use lib.Dec.{T, eqb}
 use Rattle.facts.specs.Bounded.{implies, every}
 use Rattle.grid.specs.declared.Plan.{Plan}
 use Rattle.grid.specs.declared.Place.{Place}
 use Rattle.grid.specs.Plan.{columnsAt, rowsAt, cellNumber, functionPlace, functionLevel, supportedAt, ancestor}
-use Rattle.mesh.specs.Mesh.{refined}
+use Rattle.mesh.specs.Mesh.{refined, labelOf}
 
 -- Regions and supports are made of whole cells of different levels, so they are compared by points: a point is a cell of the last
 -- level's grid, at row y and column x. It lies in just one cell of each level.
@@ -43,3 +45,28 @@ module _ (p : Plan) (cells : List ℕ) where
   member (suc k) f =
       member k f && not (insideRegion f (suc k))
       || eqb (functionLevel p f) (suc k) && insideRegion f (suc k)
+
+  -- "β is an active function if β ∈ H": H is H_(n-1), and n is L here. A level left empty stays in the table, and changes nothing:
+  -- where Ω_(k+1) is empty, H_(k+1) is H_k
+  unfoldable pub activeFunction : ℕ → Bool
+  activeFunction f = member (finest p) f
+
+  -- "a deactivated function of level l if β ∈ H_l \ H_(l+1)"
+  unfoldable pub deactivatedFunction : ℕ → Bool
+  deactivatedFunction f = member (functionLevel p f) f && not (member (suc (functionLevel p f)) f)
+
+  -- "Basis functions of level l whose support is not contained in Ω_l .. passive functions": those of level l that are not in H_l
+  unfoldable pub passiveFunction : ℕ → Bool
+  passiveFunction f = not (member (functionLevel p f) f)
+
+-- What definition 1 asks of the regions: Ω_0 ⊃ Ω_1 ⊃ .. ⊃ Ω_L, which is empty
+pub record Subdomains (p : Plan) (cells : List ℕ) : Type 0 where
+  pub nested : (k y x : ℕ) → k < p .levels → y < rowsAt p (finest p) → x < columnsAt p (finest p)
+      → T (inRegion p cells (suc k) y x) → T (inRegion p cells k y x)
+  pub empty : (y x : ℕ) → y < rowsAt p (finest p) → x < columnsAt p (finest p) → ¬ T (inRegion p cells (p .levels) y x)
+
+-- The label of f is the one that the published basis gives it
+pub record Published (p : Plan) (cells : List ℕ) (f : ℕ) : Type 0 where
+  pub active : (labelOf p cells f ≡ 1) ↔ T (activeFunction p cells f)
+  pub deactivated : (labelOf p cells f ≡ 2) ↔ T (deactivatedFunction p cells f)
+  pub passive : (labelOf p cells f ≡ 0) ↔ T (passiveFunction p cells f)
