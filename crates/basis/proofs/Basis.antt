@@ -1,12 +1,12 @@
 -- The labels of a mesh are those of the published hierarchical basis: the function table is 1, 2 or 0 exactly where definition 2 of
 -- document 000 has the function active, deactivated or passive. Assumes nothing.
-use Prim.Native.Nat.{ℕ, zero, suc, _+_, _-_, _<_, _≤_}
+use Prim.Native.Nat.{ℕ, zero, suc, _<_, _≤_}
 use native.Mathlib.Nat.{eq-or-lt-of-le, le-of-suc-le-suc, le-refl}
 use native.Mathlib.Omega.{arith}
-use mathlib.Core.Bool.{Bool, true, false, not, _&&_, _||_, cond}
+use mathlib.Core.Bool.{Bool, true, false, not, _&&_, cond}
 use mathlib.Core.List.{List}
-use mathlib.Core.Logic.{_↔_, Iff·trans, Iff·symm, ⊎-elim}
-use mathlib.Core.Path.{_≡_, refl, ap, sym, _∙_, subst}
+use mathlib.Core.Logic.{_↔_, Iff·rfl, Iff·trans, Iff·symm, ⊎-elim}
+use mathlib.Core.Path.{_≡_, refl, ap, _∙_}
 use lib.Dec.{T, eqb, eqb→eq}
 use Rattle.facts.specs.Bounded.{implies, some, every}
 use Rattle.facts.proofs.Tests.{and-i, and-l, and-r, or-l, or-r, or-e, cases, not-i, not-e, same, eqb-of, implies-i, implies-e}
@@ -16,9 +16,9 @@ use Rattle.grid.specs.Plan.{cellTotal, functionTotal, cellNumber, functionLevel
 use Rattle.grid.specs.Range.{InRange}
 use Rattle.grid.proofs.Laws.{function-inside}
 use Rattle.mesh.specs.Mesh.{absent, refined, isMesh, labelOf}
-use Rattle.basis.specs.Basis.{finest, cellOver, inRegion, insideRegion, member, activeFunction, deactivatedFunction, passiveFunction, Subdomains, Published}
+use Rattle.basis.specs.Basis.{finest, cellOver, inRegion, insideRegion, member, activeFunction, deactivatedFunction, passiveFunction, Empty, Subdomains, Published}
 use Rattle.basis.proofs.Points.{Point}
-use Rattle.basis.proofs.Regions.{region-present, region-refined, region-shrinks, region-empty, inside-i, inside-shrinks, never-inside, inside-cells, cells-inside}
+use Rattle.basis.proofs.Regions.{region-present, region-refined, region-shrinks, region-empty, inside-i, inside-within, never-inside, inside-cells, cells-inside}
 
 -- ---- a label by two tests: the support lies in the region of its level, and in the next
 
@@ -87,7 +87,7 @@ module _ (p : Plan) (range : InRange p) (cells : List ℕ) (mesh : T (isMesh p c
         (λ t. cells-inside p range cells mesh f b (suc own) (refined cells) told (λ c l s. implies-e (supported p f c) _ (every-e (cellTotal p) _ t c l) s))
         (λ t. every-i (cellTotal p) _ (λ c l. implies-i (supported p f c) _ (inside-cells p range cells mesh f b (suc own) (refined cells) told t c l)))
       where
-        told : (y x : ℕ) → Point p y x → T (inRegion p cells (suc own) y x) ↔ T (refined cells (cellNumber p (cellOver p own y x)))
+        told : (y x : ℕ) → Point p y x → inRegion p cells (suc own) y x ≡ refined cells (cellNumber p (cellOver p own y x))
         told y x pt = region-refined p range cells mesh y x pt own
 
     label-is : labelOf p cells f ≡ byte (inside own) (inside (suc own))
@@ -132,27 +132,45 @@ module _ (p : Plan) (range : InRange p) (cells : List ℕ) (mesh : T (isMesh p c
         let keep = member-keep own (le-refl own) in
         (λ t. (member-own .0 (keep .0 t .0), keep .0 t .1), λ t. keep .1 (member-own .1 (t .0), t .1))
 
-    inside-next : (k : ℕ) → own ≤ k → k < p .levels → T (inside (suc k)) → T (inside (suc own))
-    inside-next zero l m t = let e : own ≡ 0 = omega arith in rw e t
-    inside-next (suc k) l m t = ⊎-elim (λ e. rw e t)
-        (λ h. inside-next k (le-of-suc-le-suc h) (omega arith) (inside-shrinks p range cells mesh f b (suc k) m t)) (eq-or-lt-of-le l)
-
     -- past its level it is in H where it was added and not dropped at once
     member-past : (k : ℕ) → own < k → k ≤ p .levels → T (member p cells k f) ↔ (T (inside own) × (¬ T (inside (suc own))))
     member-past zero l m = absurd (omega arith)
     member-past (suc k) l m = ⊎-elim (λ e. rw (← e) member-next)
         (λ h. let keep = member-keep k (le-of-suc-le-suc l) in let past = member-past k h (omega arith) in
-        (λ t. past .0 (keep .0 t .0), λ t. keep .1 (past .1 t, λ n. t .1 (inside-next k (le-of-suc-le-suc l) m n))))
+        (λ t. past .0 (keep .0 t .0), λ t. keep .1 (past .1 t, λ n. t .1 (inside-within p range cells mesh f b own k (le-of-suc-le-suc l) m n))))
         (eq-or-lt-of-le (le-of-suc-le-suc l))
 
     member-last : T (member p cells (finest p) f) ↔ (T (inside own) × (¬ T (inside (suc own))))
     member-last = ⊎-elim
         (λ e. (
-          λ t. (rw e (member-at (finest p) e .0 t), never-inside p range cells mesh f b own (ap suc e ∙ finest-suc)),
+          λ t. (rw e (member-at (finest p) e .0 t), never-inside p range cells mesh f b (suc own) (λ y x pt. region-empty p range cells mesh y x pt own (ap suc e ∙ finest-suc))),
           λ t. member-at (finest p) e .1 (rw e at (t .0)),
         ))
         (λ h. member-past (finest p) h (omega (arith, finest-suc)))
         (eq-or-lt-of-le {n = own} {m = finest p} (omega (arith, finest-suc, own-lt)))
+
+    -- where Ω_(k+1) is empty, H_(k+1) is H_k
+    member-same : (k : ℕ) → (¬ T (inside (suc k))) → T (member p cells k f) ↔ T (member p cells (suc k) f)
+    unfolding member
+    member-same k h = (
+      λ t. or-l (member p cells k f && not (inside (suc k))) _ (and-i (member p cells k f) _ t (not-i (inside (suc k)) h)),
+      λ t. or-e (member p cells k f && not (inside (suc k))) (eqb own (suc k) && inside (suc k)) t
+          (λ u. and-l (member p cells k f) _ u) (λ u. absurd (h (and-r (eqb own (suc k)) _ u))),
+    )
+
+    module _ (n : ℕ) (e : Empty p cells (suc n)) where
+      member-stays : (k : ℕ) → n ≤ k → k < p .levels → T (member p cells n f) ↔ T (member p cells k f)
+      member-stays zero l m = let z : n ≡ 0 = omega arith in rw z Iff·rfl
+      member-stays (suc k) l m = ⊎-elim (λ z. rw z Iff·rfl)
+          (λ h. Iff·trans (member-stays k (le-of-suc-le-suc h) (omega arith)) (member-same k (λ t.
+          never-inside p range cells mesh f b (suc n) (λ y x pt. e y x (pt .row<) (pt .column<))
+          (inside-within p range cells mesh f b n k (le-of-suc-le-suc h) (omega arith) t))))
+          (eq-or-lt-of-le l)
+
+      -- whatever depth one gives the regions, H is the same
+      pub any-depth : n < p .levels → T (member p cells n f) ↔ T (activeFunction p cells f)
+      unfolding activeFunction
+      any-depth l = member-stays (finest p) (omega (arith, finest-suc)) (omega (arith, finest-suc))
 
     -- ---- the three kinds
 

@@ -1,14 +1,14 @@
 -- The published basis of meshes that document 01 works by hand, computed from its definition: who is in H, who is deactivated, and
 -- the labels beside them. Assumes nothing.
-use mathlib.Core.Bool.{Bool, true, false, not, _&&_, _||_, cond}
-use mathlib.Core.List.{List, [], _∷_, _++_}
-use Prim.Native.Nat.{ℕ, zero, suc}
+use mathlib.Core.Bool.{Bool, true, false, not, _&&_, cond}
+use mathlib.Core.List.{List, [], _∷_}
+use Prim.Native.Nat.{ℕ}
 use lib.Dec.{T, eqb}
-use Rattle.facts.specs.Bounded.{implies, some, every}
+use Rattle.facts.specs.Bounded.{some, every}
 use Rattle.facts.specs.Numbers.{elem, tabulate}
 use Rattle.grid.specs.declared.Plan.{Plan}
 use Rattle.grid.specs.Numbering.{offset, number, levelOf, placeOn, place}
-use Rattle.grid.specs.Plan.{ratio, grown, above, parent, covers, supportedAt, supported, ancestor, functionTotal, functionLevel}
+use Rattle.grid.specs.Plan.{ratio, grown, above, parent, covers, supportedAt, supported, ancestor, functionTotal}
 use Rattle.mesh.specs.Mesh.{absent, refined, tableOf, labelOf}
 use Rattle.basis.specs.Basis.{finest, cellOver, inSupport, inRegion, insideRegion, member, activeFunction, deactivatedFunction}
 

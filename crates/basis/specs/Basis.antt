@@ -1,6 +1,6 @@
 -- Document 000, definitions 1 and 2: the regions that a mesh refines, and the hierarchical basis over them, as the recursion over
 -- levels that is published. Definitions only.
-use mathlib.Core.Bool.{Bool, true, false, not, _&&_, _||_}
+use mathlib.Core.Bool.{Bool, true, not, _&&_, _||_}
 use mathlib.Core.List.{List}
 use mathlib.Core.Logic.{_↔_}
 use mathlib.Core.Path.{_≡_}
@@ -46,8 +46,8 @@ module _ (p : Plan) (cells : List ℕ) where
       member k f && not (insideRegion f (suc k))
       || eqb (functionLevel p f) (suc k) && insideRegion f (suc k)
 
-  -- "β is an active function if β ∈ H": H is H_(n-1), and n is L here. A level left empty stays in the table, and changes nothing:
-  -- where Ω_(k+1) is empty, H_(k+1) is H_k
+  -- "β is an active function if β ∈ H": H is H_(n-1), for the depth n of the regions. Here n is L, since a level left empty stays in
+  -- the table; with any n from which on the regions are empty H is the same (`any-depth`, in proofs/)
   unfoldable pub activeFunction : ℕ → Bool
   activeFunction f = member (finest p) f
 
@@ -59,11 +59,15 @@ module _ (p : Plan) (cells : List ℕ) where
   unfoldable pub passiveFunction : ℕ → Bool
   passiveFunction f = not (member (functionLevel p f) f)
 
+-- Ω_k = ∅
+abbrev pub Empty : Plan → List ℕ → ℕ → Type 0
+Empty p cells k = (y x : ℕ) → y < rowsAt p (finest p) → x < columnsAt p (finest p) → ¬ T (inRegion p cells k y x)
+
 -- What definition 1 asks of the regions: Ω_0 ⊃ Ω_1 ⊃ .. ⊃ Ω_L, which is empty
 pub record Subdomains (p : Plan) (cells : List ℕ) : Type 0 where
   pub nested : (k y x : ℕ) → k < p .levels → y < rowsAt p (finest p) → x < columnsAt p (finest p)
       → T (inRegion p cells (suc k) y x) → T (inRegion p cells k y x)
-  pub empty : (y x : ℕ) → y < rowsAt p (finest p) → x < columnsAt p (finest p) → ¬ T (inRegion p cells (p .levels) y x)
+  pub empty : Empty p cells (p .levels)
 
 -- The label of f is the one that the published basis gives it
 pub record Published (p : Plan) (cells : List ℕ) (f : ℕ) : Type 0 where
