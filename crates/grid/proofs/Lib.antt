@@ -1,3 +1,4 @@
 pub mod Numbering
 pub mod Direction
 pub mod Laws
+pub mod Small

@@ -9,14 +9,10 @@ use lib.Dec.{T, ltb}
 use lib.Arith.{digits-lt, digits-div, digits-mod}
 use borrow.Author.Tests.{ltb-true, ltb-false}
 use Rattle.grid.specs.declared.Place.{Place}
+pub use Rattle.grid.specs.Numbering.{Inside}
 use Rattle.grid.specs.Numbering.{offset, number, levelOf, placeOn, place}
 
 module _ (w h : ℕ → ℕ) where
-  pub record Inside (L : ℕ) (x : Place) : Type 0 where
-    pub level< : x .level < L
-    pub row< : x .row < h (x .level)
-    pub column< : x .column < w (x .level)
-
   -- n stands on level k, below L
   pub record On (L n k : ℕ) : Type 0 where
     pub below : k < L
@@ -48,11 +44,11 @@ module _ (w h : ℕ → ℕ) where
   on-one L n a b = omega (arith, on-least L n a b, on-least L n b a)
 
   -- a place's number is on its level
-  number-on : (L : ℕ) (x : Place) → Inside L x → On L (number w h x) (x .level)
+  number-on : (L : ℕ) (x : Place) → Inside w h L x → On L (number w h x) (x .level)
   unfolding number
   number-on L x i = omega (arith, i .level<, digits-lt (i .row<) (i .column<))
 
-  pub number-lt : (L : ℕ) (x : Place) → Inside L x → number w h x < offset w h L
+  pub number-lt : (L : ℕ) (x : Place) → Inside w h L x → number w h x < offset w h L
   number-lt L x i = omega (arith, number-on L x i .to, offset-step (x .level) L (i .level<))
 
   placeOn-number : (x : Place) → x .column < w (x .level) → placeOn w h (number w h x) (x .level) ≡ x
@@ -66,11 +62,11 @@ module _ (w h : ℕ → ℕ) where
   unfolding place
   place-on L n k o b = ap (placeOn w h n) (on-one L n (levelOf-on L n b) o)
 
-  pub place-number : (L : ℕ) (x : Place) → Inside L x → place w h L (number w h x) ≡ x
+  pub place-number : (L : ℕ) (x : Place) → Inside w h L x → place w h L (number w h x) ≡ x
   place-number L x i = place-on L (number w h x) (x .level) (number-on L x i) (number-lt L x i) ∙ placeOn-number x (i .column<)
 
   module _ (wide : (k : ℕ) → 0 < w k) where
-    pub place-inside : (L n : ℕ) → n < offset w h L → Inside L (place w h L n)
+    pub place-inside : (L n : ℕ) → n < offset w h L → Inside w h L (place w h L n)
     unfolding place placeOn
     place-inside L n b =
         let o = levelOf-on L n b in

@@ -36,6 +36,10 @@ columnsAt p = grown (ratio p) (p .columns)
 abbrev pub rowsAt : Plan → ℕ → ℕ
 rowsAt p = grown (ratio p) (p .rows)
 
+-- d more on each level: 0 for cells, the degree for functions
+abbrev pub widened : (ℕ → ℕ) → ℕ → ℕ → ℕ
+widened n d k = n k + d
+
 -- "With n columns, a level has n + p functions across. Up is the same with q"
 abbrev pub functionColumnsAt : Plan → ℕ → ℕ
 functionColumnsAt p k = columnsAt p k + p .across

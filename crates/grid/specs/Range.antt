@@ -17,3 +17,8 @@ pub record InRange (p : Plan) : Type 0 where
   pub up≤ : p .up ≤ 4
   pub class≢ : p .class ≢ 1
   pub class≤ : p .class ≤ 8
+
+-- no more columns and rows beyond those of cells than the largest degree
+pub record Beyond (across up : ℕ) : Type 0 where
+  pub across≤ : across ≤ 4
+  pub up≤ : up ≤ 4

@@ -1,6 +1,10 @@
 // A plan's grids: cells and functions of every level, their numbers and places, supports, parents and neighbourhoods.
 ghost use mathlib.Core.Path.{_≡_};
-ghost use Rattle.grid.specs.Plan.{inRange};
+ghost use mathlib.Core.Logic.{_≢_};
+ghost use Prim.Native.Nat.{_+_, _*_, _≤_, _<_};
+ghost use Rattle.grid.specs.Numbering.{offset, number, place};
+ghost use Rattle.grid.specs.Range.{InRange, Beyond};
+ghost use Rattle.grid.specs.Plan.{between, inRange, ratio, grown, widened, columnsAt, rowsAt, functionColumnsAt, functionRowsAt, cellOffset, functionOffset, cellTotal, functionTotal, tooLarge, ancestor};
 
 // Document 01, "The plan": six numbers handed over by value.
 pub struct Plan {
@@ -25,4 +29,148 @@ pub struct Place {
     pub level: u32,
     pub row: u32,
     pub column: u32,
+}
+
+// x is one of lo to hi.
+fn between(lo: u32, hi: u32, x: u32) -> bool
+    ensures { λ r. ⌜ r ≡ between lo hi x ⌝ }
+{
+    (lo <= x) & (x <= hi)
+}
+
+impl Plan {
+    // Document 01, refusal 1, is its opposite.
+    pub fn in_range(self) -> bool
+        ensures { λ r. ⌜ r ≡ inRange self ⌝ }
+    {
+        let class = (self.class == 0) | between(2, 8, self.class);
+        let degrees = between(1, 4, self.across) & (between(1, 4, self.up) & class);
+        between(1, 16, self.columns)
+            & (between(1, 16, self.rows) & (between(1, 8, self.levels) & degrees))
+    }
+
+    // A direction with `base` columns (or rows) on level 0: how many it has on a level. The shift is where the code knows the ratio.
+    fn grown(self, base: u32, level: u32) -> u32
+        requires { ⌜ base ≤ 16 ⌝ }
+        requires { ⌜ level < 8 ⌝ }
+        ensures { λ r. ⌜ r ≡ grown (ratio self) base level ⌝ }
+    {
+        base << level
+    }
+
+    // The same with `more` columns (or rows) than cells: 0 for cells, the degree for functions.
+    fn wide(self, base: u32, more: u32, level: u32) -> u32
+        requires { ⌜ base ≤ 16 ⌝ }
+        requires { ⌜ more ≤ 4 ⌝ }
+        requires { ⌜ level < 8 ⌝ }
+        ensures { λ r. ⌜ r ≡ grown (ratio self) base level + more ⌝ }
+    {
+        self.grown(base, level) + more
+    }
+
+    // Where x, a column (or a row), is some levels up.
+    fn coarser(self, x: u32, levels: u32) -> u32
+        requires { ⌜ levels < 8 ⌝ }
+        ensures { λ r. ⌜ r ≡ ancestor self levels x ⌝ }
+    {
+        x >> levels
+    }
+
+    pub fn columns_at(self, level: u32) -> u32
+        requires { ⌜ InRange self ⌝ }
+        requires { ⌜ level < self .levels ⌝ }
+        ensures { λ r. ⌜ r ≡ columnsAt self level ⌝ }
+    {
+        self.grown(self.columns, level)
+    }
+
+    pub fn rows_at(self, level: u32) -> u32
+        requires { ⌜ InRange self ⌝ }
+        requires { ⌜ level < self .levels ⌝ }
+        ensures { λ r. ⌜ r ≡ rowsAt self level ⌝ }
+    {
+        self.grown(self.rows, level)
+    }
+
+    pub fn function_columns_at(self, level: u32) -> u32
+        requires { ⌜ InRange self ⌝ }
+        requires { ⌜ level < self .levels ⌝ }
+        ensures { λ r. ⌜ r ≡ functionColumnsAt self level ⌝ }
+    {
+        self.wide(self.columns, self.across, level)
+    }
+
+    pub fn function_rows_at(self, level: u32) -> u32
+        requires { ⌜ InRange self ⌝ }
+        requires { ⌜ level < self .levels ⌝ }
+        ensures { λ r. ⌜ r ≡ functionRowsAt self level ⌝ }
+    {
+        self.wide(self.rows, self.up, level)
+    }
+
+    // Cells and functions are numbered by the same functions: `across` and `up` are how many columns and rows a level has beyond those
+    // of cells, 0 for cells and the degrees for functions.
+    fn area(self, across: u32, up: u32, level: u32) -> u32
+        requires { ⌜ InRange self ⌝ }
+        requires { ⌜ Beyond across up ⌝ }
+        requires { ⌜ level < self .levels ⌝ }
+        ensures { λ r. ⌜ r ≡ widened (rowsAt self) up level * widened (columnsAt self) across level ⌝ }
+    {
+        self.wide(self.rows, up, level) * self.wide(self.columns, across, level)
+    }
+
+    // Where a level's part of a table begins.
+    fn offset(self, across: u32, up: u32, level: u32) -> u32
+        requires { ⌜ InRange self ⌝ }
+        requires { ⌜ Beyond across up ⌝ }
+        requires { ⌜ level ≤ self .levels ⌝ }
+        ensures { λ r. ⌜ r ≡ offset (widened (columnsAt self) across) (widened (rowsAt self) up) level ⌝ }
+    {
+        let mut sum = 0;
+        let mut k = 0;
+        while k < level {
+            sum += self.area(across, up, k);
+            k += 1;
+        }
+        sum
+    }
+
+    pub fn cell_offset(self, level: u32) -> u32
+        requires { ⌜ InRange self ⌝ }
+        requires { ⌜ level ≤ self .levels ⌝ }
+        ensures { λ r. ⌜ r ≡ cellOffset self level ⌝ }
+    {
+        self.offset(0, 0, level)
+    }
+
+    pub fn function_offset(self, level: u32) -> u32
+        requires { ⌜ InRange self ⌝ }
+        requires { ⌜ level ≤ self .levels ⌝ }
+        ensures { λ r. ⌜ r ≡ functionOffset self level ⌝ }
+    {
+        self.offset(self.across, self.up, level)
+    }
+
+    // T and F.
+    pub fn cell_total(self) -> u32
+        requires { ⌜ InRange self ⌝ }
+        ensures { λ r. ⌜ r ≡ cellTotal self ⌝ }
+    {
+        self.cell_offset(self.levels)
+    }
+
+    pub fn function_total(self) -> u32
+        requires { ⌜ InRange self ⌝ }
+        ensures { λ r. ⌜ r ≡ functionTotal self ⌝ }
+    {
+        self.function_offset(self.levels)
+    }
+
+    // Document 01, refusal 2.
+    pub fn too_large(self) -> bool
+        requires { ⌜ InRange self ⌝ }
+        ensures { λ r. ⌜ r ≡ tooLarge self ⌝ }
+    {
+        self.cell_total() > 21845
+    }
 }

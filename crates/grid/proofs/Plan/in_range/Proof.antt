@@ -1,0 +1,39 @@
+-- `Plan::in_range` meets its contract: one test for each part of the definition. Assumes nothing.
+use Rattle.grid.specs.Plan.{inRange}
+use borrow.Author.Needs.{needs}
+use Rattle.grid.proofs.Plan.in_range.Statement.{statement}
+use Rattle.grid.proofs.Plan.in_range.Tie as tie
+
+between-requires : tie.Need-between-requires
+between-requires c κs = search needs
+
+between-requires-2 : tie.Need-between-requires-2
+between-requires-2 c κs = search needs
+
+between-requires-3 : tie.Need-between-requires-3
+between-requires-3 c κs = search needs
+
+between-requires-4 : tie.Need-between-requires-4
+between-requires-4 c κs = search needs
+
+between-requires-5 : tie.Need-between-requires-5
+between-requires-5 c κs = search needs
+
+between-requires-6 : tie.Need-between-requires-6
+between-requires-6 c κs = search needs
+
+returns : tie.Need-returns
+unfolding inRange
+returns c = cc
+
+pub in-range-spec : {M : Type 1} → statement M
+in-range-spec =
+    tie.close
+    (tie.spec
+    between-requires
+    between-requires-2
+    between-requires-3
+    between-requires-4
+    between-requires-5
+    between-requires-6
+    returns)

@@ -1,0 +1,60 @@
+-- How large the grid's numbers can be: every width, height, offset and total of a plan in range fits 32 bits. Assumes nothing.
+use mathlib.Core.Path.{_≡_, refl, ap, sym, _∙_}
+use Prim.Native.Nat.{ℕ, zero, suc, _+_, _*_, _^_, _/_, _%_, _≤_, _<_}
+use native.Mathlib.Nat.{add-zero, mul-le-mul, mod-eq-of-lt}
+use native.Mathlib.Numerals.{add-one}
+use native.Mathlib.Omega.{arith}
+use lib.Pow.{pow-mono}
+use Rattle.grid.specs.declared.Plan.{Plan}
+use Rattle.grid.specs.Numbering.{offset}
+use Rattle.grid.specs.Plan.{ratio, grown, widened, columnsAt, rowsAt, ancestor}
+use Rattle.grid.specs.Range.{InRange, Beyond}
+
+-- at most 16, times a power of two below 2 ^ 8
+pub grown-small : (p : Plan) {b k : ℕ} → b ≤ 16 → k < 8 → grown (ratio p) b k ≤ 2048
+unfolding grown ratio
+grown-small p h l = mul-le-mul h (pow-mono {j = 7} (omega arith))
+
+-- so a shift loses no bit
+pub shifted : (p : Plan) {b k : ℕ} → b ≤ 16 → k < 8 → (b * 2 ^ k) % 2 ^ 32 ≡ grown (ratio p) b k
+unfolding grown ratio
+shifted p {b} {k} h l = mod-eq-of-lt (omega (arith, grown-small p h l))
+
+pub shifted-down : (p : Plan) (x d : ℕ) → x / 2 ^ d ≡ ancestor p d x
+unfolding ancestor ratio
+shifted-down p x d = refl
+
+-- with nothing beyond them, the levels are those of cells
+pub as-cells : {A : Type 0} (p : Plan) (f : (ℕ → ℕ) → (ℕ → ℕ) → A) → f (widened (columnsAt p) 0) (widened (rowsAt p) 0) ≡ f (columnsAt p) (rowsAt p)
+as-cells p f = λ i. f (λ k. add-zero (columnsAt p k) i) (λ k. add-zero (rowsAt p k) i)
+
+-- the levels with `across` columns and `up` rows beyond those of cells
+module _ (p : Plan) (range : InRange p) (across up : ℕ) (beyond : Beyond across up) where
+  abbrev w : ℕ → ℕ
+  w = widened (columnsAt p) across
+
+  abbrev h : ℕ → ℕ
+  h = widened (rowsAt p) up
+
+  pub columns-small : (k : ℕ) → k < p .levels → w k ≤ 2052
+  columns-small k l = omega (arith, grown-small p {k = k} (range .columns≤) (omega arith))
+
+  pub rows-small : (k : ℕ) → k < p .levels → h k ≤ 2052
+  rows-small k l = omega (arith, grown-small p {k = k} (range .rows≤) (omega arith))
+
+  pub area-small : (k : ℕ) → k < p .levels → h k * w k ≤ 4210704
+  area-small k l = mul-le-mul (rows-small k l) (columns-small k l)
+
+  pub offset-small : (k : ℕ) → k ≤ p .levels → offset w h k ≤ 4210704 * k
+  unfolding offset
+  offset-small zero l = omega arith
+  offset-small (suc k) l = omega (arith, offset-small k (omega arith), area-small k l)
+
+  -- one level more, as the code counts
+  pub offset-more : (k : ℕ) → offset w h (k + 1) ≡ offset w h k + h k * w k
+  unfolding offset
+  offset-more k = rw add-one refl
+
+  pub offset-none : offset w h 0 ≡ 0
+  unfolding offset
+  offset-none = refl
