@@ -62,6 +62,23 @@ module _ (w h : ℕ → ℕ) where
   unfolding place
   place-on L n k o b = ap (placeOn w h n) (on-one L n (levelOf-on L n b) o)
 
+  -- a number found by taking the levels below off it: the level k, and what is left of the number
+  pub place-rest : (L n k rest : ℕ) → k < L → rest + offset w h k ≡ n → rest < h k * w k → record { level = k; row = rest / w k; column = rest % w k } ≡ place w h L n
+  unfolding placeOn
+  place-rest L n k rest l e m =
+      let q : n - offset w h k ≡ rest = omega arith in
+      let o : On L n k = omega arith in
+      let b : n < offset w h L = omega (arith, offset-step k L l) in
+      sym (place-on L n k o b ∙ (λ i. record { level = k; row = q i / w k; column = q i % w k }))
+
+  -- another level follows one that does not have the number
+  pub place-next : (L n k rest : ℕ) → k < L → rest + offset w h k ≡ n → h k * w k ≤ rest → n < offset w h L → k + 1 < L
+  unfolding offset
+  place-next L n k rest l e m b = omega (arith, last)
+    where
+      last : suc k ≡ L → ⊥
+      last q = let c : n < offset w h (suc k) = rw (← q) at b in omega arith
+
   pub place-number : (L : ℕ) (x : Place) → Inside w h L x → place w h L (number w h x) ≡ x
   place-number L x i = place-on L (number w h x) (x .level) (number-on L x i) (number-lt L x i) ∙ placeOn-number x (i .column<)
 

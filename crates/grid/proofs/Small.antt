@@ -1,12 +1,16 @@
 -- How large the grid's numbers can be: every width, height, offset and total of a plan in range fits 32 bits. Assumes nothing.
 use mathlib.Core.Path.{_≡_, refl, ap, sym, _∙_}
 use Prim.Native.Nat.{ℕ, zero, suc, _+_, _*_, _^_, _/_, _%_, _≤_, _<_}
-use native.Mathlib.Nat.{add-zero, mul-le-mul, mod-eq-of-lt}
+use native.Mathlib.Nat.{add-zero, le-refl, mul-le-mul, mod-eq-of-lt}
 use native.Mathlib.Numerals.{add-one}
 use native.Mathlib.Omega.{arith}
 use lib.Pow.{pow-mono}
 use Rattle.grid.specs.declared.Plan.{Plan}
-use Rattle.grid.specs.Numbering.{offset}
+use Rattle.grid.specs.declared.Place.{Place}
+use Rattle.grid.specs.Numbering.{Inside, offset, number}
+use Rattle.grid.proofs.Direction.{grown-pos}
+use Rattle.grid.proofs.Numbering.{number-lt}
+use Rattle.grid.proofs.Laws.{ratio-pos}
 use Rattle.grid.specs.Plan.{ratio, grown, widened, columnsAt, rowsAt, ancestor}
 use Rattle.grid.specs.Range.{InRange, Beyond}
 
@@ -50,6 +54,10 @@ module _ (p : Plan) (range : InRange p) (across up : ℕ) (beyond : Beyond acros
   offset-small zero l = omega arith
   offset-small (suc k) l = omega (arith, offset-small k (omega arith), area-small k l)
 
+  -- the sums that make a place's number fit
+  pub number-small : (x : Place) → Inside w h (p .levels) x → number w h x < 33685633
+  number-small x i = omega (arith, number-lt w h (p .levels) x i, offset-small (p .levels) (le-refl _))
+
   -- one level more, as the code counts
   pub offset-more : (k : ℕ) → offset w h (k + 1) ≡ offset w h k + h k * w k
   unfolding offset
@@ -58,3 +66,6 @@ module _ (p : Plan) (range : InRange p) (across up : ℕ) (beyond : Beyond acros
   pub offset-none : offset w h 0 ≡ 0
   unfolding offset
   offset-none = refl
+
+  pub columns-pos : (k : ℕ) → 0 < w k
+  columns-pos k = omega (arith, grown-pos (ratio p) (ratio-pos p) (p .columns) k (range .columns≥))

@@ -78,6 +78,13 @@ functionPlace p = Numbering.place (functionColumnsAt p) (functionRowsAt p) (p .l
 abbrev pub functionNumber : Plan → Place → ℕ
 functionNumber p = Numbering.number (functionColumnsAt p) (functionRowsAt p)
 
+-- a place of some cell, of some function
+abbrev pub CellInside : Plan → Place → Type 0
+CellInside p = Numbering.Inside (columnsAt p) (rowsAt p) (p .levels)
+
+abbrev pub FunctionInside : Plan → Place → Type 0
+FunctionInside p = Numbering.Inside (functionColumnsAt p) (functionRowsAt p) (p .levels)
+
 abbrev pub cellLevel : Plan → ℕ → ℕ
 cellLevel p c = cellPlace p c .level
 

@@ -2,9 +2,9 @@
 ghost use mathlib.Core.Path.{_≡_};
 ghost use mathlib.Core.Logic.{_≢_};
 ghost use Prim.Native.Nat.{_+_, _*_, _≤_, _<_};
-ghost use Rattle.grid.specs.Numbering.{offset, number, place};
+ghost use Rattle.grid.specs.Numbering.{Inside, offset, number, place};
 ghost use Rattle.grid.specs.Range.{InRange, Beyond};
-ghost use Rattle.grid.specs.Plan.{between, inRange, ratio, grown, widened, columnsAt, rowsAt, functionColumnsAt, functionRowsAt, cellOffset, functionOffset, cellTotal, functionTotal, tooLarge, ancestor};
+ghost use Rattle.grid.specs.Plan.{between, inRange, ratio, grown, widened, columnsAt, rowsAt, functionColumnsAt, functionRowsAt, cellOffset, functionOffset, cellTotal, functionTotal, tooLarge, cellPlace, cellNumber, functionPlace, functionNumber, CellInside, FunctionInside, ancestor};
 
 // Document 01, "The plan": six numbers handed over by value.
 pub struct Plan {
@@ -172,5 +172,74 @@ impl Plan {
         ensures { λ r. ⌜ r ≡ tooLarge self ⌝ }
     {
         self.cell_total() > 21845
+    }
+
+    // The place of a number. Each level passed takes its area off the number.
+    fn place_of(self, across: u32, up: u32, number: u32) -> Place
+        requires { ⌜ InRange self ⌝ }
+        requires { ⌜ Beyond across up ⌝ }
+        requires { ⌜ number < offset (widened (columnsAt self) across) (widened (rowsAt self) up) (self .levels) ⌝ }
+        ensures { λ r. ⌜ r ≡ place (widened (columnsAt self) across) (widened (rowsAt self) up) (self .levels) number ⌝ }
+    {
+        let mut level = 0;
+        let mut rest = number;
+        let mut area = self.area(across, up, 0);
+        while rest >= area {
+            rest -= area;
+            level += 1;
+            area = self.area(across, up, level);
+        }
+        let columns = self.wide(self.columns, across, level);
+        Place {
+            level,
+            row: rest / columns,
+            column: rest % columns,
+        }
+    }
+
+    // The number of a place.
+    fn number_of(self, across: u32, up: u32, place: Place) -> u32
+        requires { ⌜ InRange self ⌝ }
+        requires { ⌜ Beyond across up ⌝ }
+        requires { ⌜ Inside (widened (columnsAt self) across) (widened (rowsAt self) up) (self .levels) place ⌝ }
+        ensures { λ r. ⌜ r ≡ number (widened (columnsAt self) across) (widened (rowsAt self) up) place ⌝ }
+    {
+        let level = place.level;
+        let row = place.row;
+        let column = place.column;
+        let columns = self.wide(self.columns, across, level);
+        self.offset(across, up, level) + row * columns + column
+    }
+
+    pub fn cell_place(self, cell: Cell) -> Place
+        requires { ⌜ InRange self ⌝ }
+        requires { ⌜ cell .0 < cellTotal self ⌝ }
+        ensures { λ r. ⌜ r ≡ cellPlace self (cell .0) ⌝ }
+    {
+        self.place_of(0, 0, cell.0)
+    }
+
+    pub fn cell_number(self, place: Place) -> Cell
+        requires { ⌜ InRange self ⌝ }
+        requires { ⌜ CellInside self place ⌝ }
+        ensures { λ r. ⌜ r .0 ≡ cellNumber self place ⌝ }
+    {
+        Cell(self.number_of(0, 0, place))
+    }
+
+    pub fn function_place(self, function: Function) -> Place
+        requires { ⌜ InRange self ⌝ }
+        requires { ⌜ function .0 < functionTotal self ⌝ }
+        ensures { λ r. ⌜ r ≡ functionPlace self (function .0) ⌝ }
+    {
+        self.place_of(self.across, self.up, function.0)
+    }
+
+    pub fn function_number(self, place: Place) -> Function
+        requires { ⌜ InRange self ⌝ }
+        requires { ⌜ FunctionInside self place ⌝ }
+        ensures { λ r. ⌜ r .0 ≡ functionNumber self place ⌝ }
+    {
+        Function(self.number_of(self.across, self.up, place))
     }
 }
