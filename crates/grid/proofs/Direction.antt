@@ -1,9 +1,10 @@
 -- One direction: columns (or rows) that grow by a ratio s from level to level, and what division by s does to them. Assumes nothing.
-use Prim.Native.Nat.{ℕ, zero, suc, pred, _+_, _*_, _/_, _%_, _^_, _<_, _≤_}
-use native.Mathlib.Nat.{mod-lt, div-add-mod', div-lt-iff-lt-mul, div-div-eq-div-mul, lt-div-mul-add, le-mul-of-pos-right, mul-comm, mul-assoc, pow-suc, le-of-suc-le-suc, one-le-mul, one-le-pow}
+use Prim.Native.Nat.{ℕ, zero, suc, pred, _+_, _-_, _*_, _/_, _%_, _^_, _<_, _≤_}
+use native.Mathlib.Nat.{mod-lt, div-add-mod', div-lt-iff-lt-mul, div-div-eq-div-mul, lt-div-mul-add, le-mul-of-pos-right, mul-comm, mul-assoc, pow-suc, le-of-suc-le-suc, one-le-mul, one-le-pow, sub-add-cancel}
 use native.Mathlib.Omega.{arith}
 use mathlib.Core.Path.{_≡_, refl, ap, sym, _∙_}
 use lib.Arith.{digits-lt}
+use lib.Pow.{pow-add}
 use Rattle.grid.specs.Plan.{grown}
 
 -- at most g apart
@@ -26,6 +27,13 @@ module _ (s : ℕ) (positive : 0 < s) where
 
   pub grown-down : (b k c a : ℕ) → c < grown s b k → a < s → c * s + a < grown s b (suc k)
   grown-down b k c a h l = rw grown-suc (digits-lt h l)
+
+  -- d levels up
+  pub grown-ancestor : (b k d c : ℕ) → d ≤ k → c < grown s b k → c / s ^ d < grown s b (k - d)
+  unfolding grown
+  grown-ancestor b k d c l h =
+      let e : b * s ^ k ≡ b * s ^ (k - d) * s ^ d = rw (mul-assoc, ← pow-add, sub-add-cancel l) in
+      div-lt-iff-lt-mul (one-le-pow d s positive) .1 (rw e at h)
 
   pub div-swap : (y d : ℕ) → y / s ^ d / s ≡ y / s / s ^ d
   div-swap y d = simp div-div-eq-div-mul (rw (mul-comm (s ^ d)))

@@ -100,7 +100,7 @@ module _ (p : Plan) (range : InRange p) where
   abbrev In : Place → Type 0
   In = Inside (columnsAt p) (rowsAt p) (p .levels)
 
-  above-in : (x : Place) → 0 < x .level → In x → In (above p x)
+  pub above-in : (x : Place) → 0 < x .level → In x → In (above p x)
   unfolding above
   above-in x z i = let l : pred (x .level) < p .levels = omega arith in record {
     level< = l;

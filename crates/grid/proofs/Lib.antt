@@ -2,3 +2,4 @@ pub mod Numbering
 pub mod Direction
 pub mod Laws
 pub mod Small
+pub mod Spans

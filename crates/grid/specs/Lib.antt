@@ -1,3 +1,4 @@
 pub mod Numbering
 pub mod Plan
 pub mod Range
+pub mod Spans

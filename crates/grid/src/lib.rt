@@ -1,10 +1,11 @@
 // A plan's grids: cells and functions of every level, their numbers and places, supports, parents and neighbourhoods.
 ghost use mathlib.Core.Path.{_≡_};
 ghost use mathlib.Core.Logic.{_≢_};
-ghost use Prim.Native.Nat.{_+_, _*_, _≤_, _<_};
+ghost use Prim.Native.Nat.{_+_, _-_, _*_, _≤_, _<_};
 ghost use Rattle.grid.specs.Numbering.{Inside, offset, number, place};
-ghost use Rattle.grid.specs.Range.{InRange, Beyond};
-ghost use Rattle.grid.specs.Plan.{between, inRange, ratio, grown, widened, columnsAt, rowsAt, functionColumnsAt, functionRowsAt, cellOffset, functionOffset, cellTotal, functionTotal, tooLarge, cellPlace, cellNumber, functionPlace, functionNumber, CellInside, FunctionInside, ancestor};
+ghost use Rattle.grid.specs.Range.{InRange, Beyond, HasNeighbourhood};
+ghost use Rattle.grid.specs.Spans.{supportSpan, aroundSpan, supportOf, around, ancestorOf, neighbourhood};
+ghost use Rattle.grid.specs.Plan.{between, inRange, ratio, grown, widened, columnsAt, rowsAt, functionColumnsAt, functionRowsAt, cellOffset, functionOffset, cellTotal, functionTotal, tooLarge, cellPlace, cellNumber, functionPlace, functionNumber, CellInside, FunctionInside, cellLevel, above, parent, ancestor};
 
 // Document 01, "The plan": six numbers handed over by value.
 pub struct Plan {
@@ -29,6 +30,53 @@ pub struct Place {
     pub level: u32,
     pub row: u32,
     pub column: u32,
+}
+
+// Columns (or rows) of one level: from the first up to, not including, the end.
+pub struct Span {
+    pub first: u32,
+    pub end: u32,
+}
+
+// Cells of one level.
+pub struct Rectangle {
+    pub level: u32,
+    pub rows: Span,
+    pub columns: Span,
+}
+
+// x less d, or 0.
+fn less(x: u32, d: u32) -> u32
+    ensures { λ r. ⌜ r ≡ x - d ⌝ }
+{
+    if x < d { 0 } else { x - d }
+}
+
+// One direction: of `count` columns, those that function i of a degree covers.
+pub fn support(count: u32, degree: u32, i: u32) -> Span
+    requires { ⌜ 0 < count ⌝ }
+    ensures { λ r. ⌜ r ≡ supportSpan count degree i ⌝ }
+{
+    let first = less(i, degree);
+    if i < count {
+        return Span { first, end: i + 1 };
+    }
+    Span { first, end: count }
+}
+
+// One direction: of `count` columns, those at most d from x.
+fn reach(count: u32, d: u32, x: u32) -> Span
+    requires { ⌜ x < count ⌝ }
+    ensures { λ r. ⌜ r ≡ aroundSpan count d x ⌝ }
+{
+    let first = less(x, d);
+    if count - x <= d {
+        return Span { first, end: count };
+    }
+    Span {
+        first,
+        end: x + d + 1,
+    }
 }
 
 // x is one of lo to hi.
@@ -241,5 +289,109 @@ impl Plan {
         ensures { λ r. ⌜ r .0 ≡ functionNumber self place ⌝ }
     {
         Function(self.number_of(self.across, self.up, place))
+    }
+
+    // The place one level up.
+    pub fn above(self, place: Place) -> Place
+        requires { ⌜ 0 < place .level ⌝ }
+        ensures { λ r. ⌜ r ≡ above self place ⌝ }
+    {
+        let level = place.level;
+        let row = place.row;
+        let column = place.column;
+        Place {
+            level: level - 1,
+            row: self.coarser(row, 1),
+            column: self.coarser(column, 1),
+        }
+    }
+
+    pub fn parent(self, cell: Cell) -> Cell
+        requires { ⌜ InRange self ⌝ }
+        requires { ⌜ cell .0 < cellTotal self ⌝ }
+        requires { ⌜ 0 < cellLevel self (cell .0) ⌝ }
+        ensures { λ r. ⌜ r .0 ≡ parent self (cell .0) ⌝ }
+    {
+        self.cell_number(self.above(self.cell_place(cell)))
+    }
+
+    // The columns of cells that a function's support takes, and its rows.
+    pub fn support_columns(self, level: u32, column: u32) -> Span
+        requires { ⌜ InRange self ⌝ }
+        requires { ⌜ level < self .levels ⌝ }
+        ensures { λ r. ⌜ r ≡ supportSpan (columnsAt self level) (self .across) column ⌝ }
+    {
+        support(self.columns_at(level), self.across, column)
+    }
+
+    pub fn support_rows(self, level: u32, row: u32) -> Span
+        requires { ⌜ InRange self ⌝ }
+        requires { ⌜ level < self .levels ⌝ }
+        ensures { λ r. ⌜ r ≡ supportSpan (rowsAt self level) (self .up) row ⌝ }
+    {
+        support(self.rows_at(level), self.up, row)
+    }
+
+    // The support of the function at a place.
+    pub fn support_of(self, place: Place) -> Rectangle
+        requires { ⌜ InRange self ⌝ }
+        requires { ⌜ place .level < self .levels ⌝ }
+        ensures { λ r. ⌜ r ≡ supportOf self place ⌝ }
+    {
+        let level = place.level;
+        let row = place.row;
+        let column = place.column;
+        let rows = self.support_rows(level, row);
+        let columns = self.support_columns(level, column);
+        Rectangle {
+            level,
+            rows,
+            columns,
+        }
+    }
+
+    // The cells of a cell's own level that are within the degrees of it.
+    pub fn around(self, place: Place) -> Rectangle
+        requires { ⌜ InRange self ⌝ }
+        requires { ⌜ CellInside self place ⌝ }
+        ensures { λ r. ⌜ r ≡ around self place ⌝ }
+    {
+        let level = place.level;
+        let row = place.row;
+        let column = place.column;
+        let rows = reach(self.rows_at(level), self.up, row);
+        let columns = reach(self.columns_at(level), self.across, column);
+        Rectangle {
+            level,
+            rows,
+            columns,
+        }
+    }
+
+    // The ancestor around which a cell's neighbourhood lies.
+    pub fn ancestor_of(self, place: Place) -> Place
+        requires { ⌜ InRange self ⌝ }
+        requires { ⌜ HasNeighbourhood self (place .level) ⌝ }
+        ensures { λ r. ⌜ r ≡ ancestorOf self place ⌝ }
+    {
+        let back = self.class - 1;
+        let level = place.level;
+        let row = place.row;
+        let column = place.column;
+        Place {
+            level: level - back,
+            row: self.coarser(row, back),
+            column: self.coarser(column, back),
+        }
+    }
+
+    // The neighbourhood of the cell at a place.
+    pub fn neighbourhood(self, place: Place) -> Rectangle
+        requires { ⌜ InRange self ⌝ }
+        requires { ⌜ CellInside self place ⌝ }
+        requires { ⌜ HasNeighbourhood self (place .level) ⌝ }
+        ensures { λ r. ⌜ r ≡ neighbourhood self place ⌝ }
+    {
+        self.around(self.ancestor_of(place))
     }
 }

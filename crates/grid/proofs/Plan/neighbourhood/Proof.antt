@@ -1,0 +1,21 @@
+-- `Plan::neighbourhood` meets its contract. Assumes nothing.
+use Rattle.grid.specs.Spans.{neighbourhood}
+use Rattle.grid.proofs.Spans.{ancestor-in}
+use borrow.Author.Needs.{needs}
+use Rattle.grid.proofs.Plan.neighbourhood.Statement.{statement}
+use Rattle.grid.proofs.Plan.neighbourhood.Tie as tie
+
+ancestor-of-requires : tie.Need-ancestor-of-requires
+ancestor-of-requires c κs = search needs
+
+around-requires : tie.Need-around-requires
+around-requires c κs =
+    let s = c .before in
+    (s .pre .0, rw (c .ancestor-of .ensures) (ancestor-in (s .args .self) (s .args .place) (s .pre .1 .1) (s .pre .1 .0)))
+
+returns : tie.Need-returns
+unfolding neighbourhood
+returns c = cc
+
+pub neighbourhood-spec : {M : Type 1} → statement M
+neighbourhood-spec = tie.close (tie.spec ancestor-of-requires around-requires returns)
