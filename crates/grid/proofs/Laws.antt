@@ -4,7 +4,7 @@ use Prim.Native.Nat.{ℕ, zero, suc, pred, _+_, _-_, _*_, _/_, _%_, _^_, _<_, _�
 use native.Mathlib.Nat.{mod-lt, div-add-mod'}
 use native.Mathlib.Omega.{arith}
 use mathlib.Core.Bool.{Bool, true, false, not, _&&_, _||_}
-use mathlib.Core.Logic.{_≢_}
+use mathlib.Core.Logic.{_≢_, _↔_}
 use mathlib.Core.Path.{_≡_, refl, ap, sym, _∙_}
 use lib.Dec.{T, leb, ltb, eqb, leb→le, le→leb, eqb→eq, ltb→lt, lt→ltb}
 use lib.Arith.{digits-div}
@@ -13,7 +13,7 @@ use Rattle.hierarchy.proofs.Sets.{Lawful}
 use Rattle.grid.specs.declared.Plan.{Plan}
 use Rattle.grid.specs.declared.Place.{Place}
 use Rattle.grid.specs.Numbering
-use Rattle.grid.specs.Plan.{between, inRange, ratio, columnsAt, rowsAt, functionColumnsAt, functionRowsAt, cellTotal, functionTotal, cellPlace, cellNumber, functionPlace, functionNumber, above, below, parent, child, apart, ancestor, nearAt, near, hierarchy}
+use Rattle.grid.specs.Plan.{between, inRange, ratio, columnsAt, rowsAt, functionColumnsAt, functionRowsAt, cellTotal, functionTotal, cellPlace, cellNumber, functionPlace, functionNumber, cellLevel, CellInside, FunctionInside, above, below, parent, child, apart, ancestor, nearAt, near, hierarchy}
 use Rattle.grid.specs.Range.{InRange}
 use Rattle.grid.proofs.Numbering as numbering
 use Rattle.grid.proofs.Numbering.{Inside}
@@ -97,10 +97,7 @@ module _ (p : Plan) (range : InRange p) where
   wide : (k : ℕ) → 0 < columnsAt p k
   wide k = grown-pos (ratio p) (ratio-pos p) (p .columns) k (range .columns≥)
 
-  abbrev In : Place → Type 0
-  In = Inside (columnsAt p) (rowsAt p) (p .levels)
-
-  pub above-in : (x : Place) → 0 < x .level → In x → In (above p x)
+  pub above-in : (x : Place) → 0 < x .level → CellInside p x → CellInside p (above p x)
   unfolding above
   above-in x z i = let l : pred (x .level) < p .levels = omega arith in record {
     level< = l;
@@ -108,7 +105,7 @@ module _ (p : Plan) (range : InRange p) where
     column< = grown-up (ratio p) (ratio-pos p) (p .columns) (x .level) (x .column) z (i .column<);
   }
 
-  below-in : (x : Place) (a b : ℕ) → suc (x .level) < p .levels → a < ratio p → b < ratio p → In x → In (below p x a b)
+  below-in : (x : Place) (a b : ℕ) → suc (x .level) < p .levels → a < ratio p → b < ratio p → CellInside p x → CellInside p (below p x a b)
   unfolding below
   below-in x a b z l m i = record {
     level< = z;
@@ -131,14 +128,29 @@ module _ (p : Plan) (range : InRange p) where
   function-wide : (k : ℕ) → 0 < functionColumnsAt p k
   function-wide k = omega (arith, wide k)
 
-  pub function-inside : (n : ℕ) → n < functionTotal p → Inside (functionColumnsAt p) (functionRowsAt p) (p .levels) (functionPlace p n)
+  pub function-inside : (n : ℕ) → n < functionTotal p → FunctionInside p (functionPlace p n)
   function-inside n b = numbering.place-inside _ _ function-wide (p .levels) n b
 
   pub function-number-place : (n : ℕ) → n < functionTotal p → functionNumber p (functionPlace p n) ≡ n
   function-number-place n b = numbering.number-place _ _ function-wide (p .levels) n b
 
-  pub cell-inside : (n : ℕ) → n < cellTotal p → In (cellPlace p n)
+  pub function-place-number : (x : Place) → FunctionInside p x → functionPlace p (functionNumber p x) ≡ x
+  function-place-number x i = numbering.place-number _ _ (p .levels) x i
+
+  pub function-number-lt : (x : Place) → FunctionInside p x → functionNumber p x < functionTotal p
+  function-number-lt x i = numbering.number-lt _ _ (p .levels) x i
+
+  pub cell-inside : (n : ℕ) → n < cellTotal p → CellInside p (cellPlace p n)
   cell-inside n b = numbering.place-inside _ _ wide (p .levels) n b
+
+  pub cell-number-place : (n : ℕ) → n < cellTotal p → cellNumber p (cellPlace p n) ≡ n
+  cell-number-place n b = numbering.number-place _ _ wide (p .levels) n b
+
+  pub cell-place-number : (x : Place) → CellInside p x → cellPlace p (cellNumber p x) ≡ x
+  cell-place-number x i = numbering.place-number _ _ (p .levels) x i
+
+  pub cell-number-lt : (x : Place) → CellInside p x → cellNumber p x < cellTotal p
+  cell-number-lt x i = numbering.number-lt _ _ (p .levels) x i
 
   module _ (n : ℕ) (b : n < cellTotal p) (z : 0 < cellPlace p n .level) where
     pub parent-lt : parent p n < cellTotal p
@@ -179,6 +191,34 @@ module _ (p : Plan) (range : InRange p) where
     pub parent-of-child : parent p (child p n a c) ≡ n
     unfolding parent
     parent-of-child = rw (child-place, above-below (cellPlace p n) a c l m) (numbering.number-place _ _ wide _ _ b)
+
+  -- the cell d is a child of the cell c
+  pub record ChildOf (c d : ℕ) : Type 0 where
+    pub within : suc (cellLevel p c) < p .levels
+    pub row : ℕ
+    pub column : ℕ
+    pub row< : row < ratio p
+    pub column< : column < ratio p
+    pub is : child p c row column ≡ d
+
+  -- the children of a cell are the cells whose parent it is
+  pub children-are : (c d : ℕ) → c < cellTotal p → d < cellTotal p → ChildOf c d ↔ (0 < cellLevel p d) × (parent p d ≡ c)
+  children-are c d b e = (down, λ u. up (u .0) (u .1))
+    where
+      down : ChildOf c d → (0 < cellLevel p d) × (parent p d ≡ c)
+      down k =
+          let l = child-level c (k .row) (k .column) b (k .within) (k .row<) (k .column<) in
+          (rw (← k .is) (omega (arith, l)), rw (← k .is) (parent-of-child c (k .row) (k .column) b (k .within) (k .row<) (k .column<)))
+
+      up : 0 < cellLevel p d → parent p d ≡ c → ChildOf c d
+      up z q = let k = is-child d e z in record {
+        within = rw (← q) (omega (arith, parent-level d e z, cell-inside d e .level<));
+        row = k .0;
+        column = k .1;
+        row< = k .2;
+        column< = k .3;
+        is = rw (← q) (k .4);
+      }
 
 -- ---- neighbourhoods
 
