@@ -3,3 +3,4 @@ pub mod Direction
 pub mod Laws
 pub mod Small
 pub mod Spans
+pub mod Totals
