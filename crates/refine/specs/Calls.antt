@@ -129,3 +129,16 @@ outcome d by p cs fs marks cl fl =
     cond (eqb (refusal d by p cs fs marks) 0)
     (let cs′ = newCells d by p cs fs marks in settle p cs fs cl fl cs′ (labels p cs′))
     (refused (refusal d by p cs fs marks) cs fs cl fl)
+
+-- the four calls by name
+abbrev pub refineCells : Plan → List ℕ → List ℕ → List ℕ → List ℕ → List ℕ → Outcome
+refineCells = outcome refine cells
+
+abbrev pub refineFunctions : Plan → List ℕ → List ℕ → List ℕ → List ℕ → List ℕ → Outcome
+refineFunctions = outcome refine functions
+
+abbrev pub coarsenCells : Plan → List ℕ → List ℕ → List ℕ → List ℕ → List ℕ → Outcome
+coarsenCells = outcome coarsen cells
+
+abbrev pub coarsenFunctions : Plan → List ℕ → List ℕ → List ℕ → List ℕ → List ℕ → Outcome
+coarsenFunctions = outcome coarsen functions
