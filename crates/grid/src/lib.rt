@@ -8,6 +8,7 @@ ghost use Rattle.grid.specs.Spans.{supportSpan, aroundSpan, supportOf, a
 ghost use Rattle.grid.specs.Plan.{between, inRange, ratio, grown, widened, columnsAt, rowsAt, functionColumnsAt, functionRowsAt, cellOffset, functionOffset, cellTotal, functionTotal, tooLarge, cellPlace, cellNumber, functionPlace, functionNumber, CellInside, FunctionInside, cellLevel, above, parent, ancestor};
 
 // Document 01, "The plan": six numbers handed over by value.
+#[repr(C)]
 pub struct Plan {
     // cells across and up of level 0
     pub columns: u32,
