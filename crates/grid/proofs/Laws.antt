@@ -222,14 +222,14 @@ module _ (p : Plan) (range : InRange p) where
 
 -- ---- neighbourhoods
 
-apart-fact : (g x y : ℕ) → T (apart g x y) → Apart g x y
+pub apart-fact : (g x y : ℕ) → T (apart g x y) → Apart g x y
 unfolding apart
 apart-fact g x y t = record {
   right = leb→le x (y + g) (and-l (leb x (y + g)) (leb y (x + g)) t);
   left = leb→le y (x + g) (and-r (leb x (y + g)) (leb y (x + g)) t);
 }
 
-apart-test : (g x y : ℕ) → Apart g x y → T (apart g x y)
+pub apart-test : (g x y : ℕ) → Apart g x y → T (apart g x y)
 unfolding apart
 apart-test g x y a = and-i (leb x (y + g)) (leb y (x + g)) (le→leb x (y + g) (a .right)) (le→leb y (x + g) (a .left))
 
