@@ -18,7 +18,7 @@ coarser-requires-2 c κs = search needs
 
 returns : tie.Need-returns
 unfolding ancestorOf
-returns c = cc
+returns c = rw (c .before .coarser .ensures, c .coarser2 .ensures)
 
 pub ancestor-of-spec : {M : Type 1} → statement M
 ancestor-of-spec = tie.close (tie.spec sub-back sub-t7 coarser-requires coarser-requires-2 returns)

@@ -18,7 +18,7 @@ reach-requires-2 c κs = search needs
 
 returns : tie.Need-returns
 unfolding around
-returns c = cc
+returns c = rw (c .before .before .reach .ensures, c .before .before .before .rows-at .ensures, c .reach2 .ensures, c .before .columns-at .ensures)
 
 pub around-spec : {M : Type 1} → statement M
 around-spec =

@@ -24,7 +24,7 @@ between-requires-6 c κs = search needs
 
 returns : tie.Need-returns
 unfolding inRange
-returns c = cc
+returns c = rw (c .before .before .before .before .before .between .ensures, c .before .before .before .before .between2 .ensures, c .before .before .before .between3 .ensures, c .before .before .between4 .ensures, c .before .between5 .ensures, c .between6 .ensures)
 
 pub in-range-spec : {M : Type 1} → statement M
 in-range-spec =

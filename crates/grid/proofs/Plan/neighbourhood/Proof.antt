@@ -15,7 +15,7 @@ around-requires c κs =
 
 returns : tie.Need-returns
 unfolding neighbourhood
-returns c = cc
+returns c = rw (c .around .ensures, c .before .ancestor-of .ensures)
 
 pub neighbourhood-spec : {M : Type 1} → statement M
 neighbourhood-spec = tie.close (tie.spec ancestor-of-requires around-requires returns)

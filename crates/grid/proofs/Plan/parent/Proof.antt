@@ -18,7 +18,7 @@ cell-number-requires c κs =
 
 returns : tie.Need-returns
 unfolding parent
-returns c = cc
+returns c = rw (c .cell-number .ensures, c .before .above .ensures, c .before .before .cell-place .ensures)
 
 pub parent-spec : {M : Type 1} → statement M
 parent-spec = tie.close (tie.spec cell-place-requires above-requires cell-number-requires returns)

@@ -15,7 +15,7 @@ support-requires c κs =
     rw (c .columns-at .ensures) (grown-pos (ratio (s .args .self)) (ratio-pos (s .args .self)) (s .args .self .columns) (s .args .level) (s .pre .0 .columns≥))
 
 returns : tie.Need-returns
-returns c = cc
+returns c = rw (c .support .ensures, c .before .columns-at .ensures)
 
 pub support-columns-spec : {M : Type 1} → statement M
 support-columns-spec = tie.close (tie.spec columns-at-requires support-requires returns)

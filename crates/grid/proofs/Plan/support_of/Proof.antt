@@ -12,7 +12,7 @@ support-columns-requires c κs = search needs
 
 returns : tie.Need-returns
 unfolding supportOf
-returns c = cc
+returns c = rw (c .before .support-rows .ensures, c .support-columns .ensures)
 
 pub support-of-spec : {M : Type 1} → statement M
 support-of-spec = tie.close (tie.spec support-rows-requires support-columns-requires returns)

@@ -15,7 +15,7 @@ support-requires c κs =
     rw (c .rows-at .ensures) (grown-pos (ratio (s .args .self)) (ratio-pos (s .args .self)) (s .args .self .rows) (s .args .level) (s .pre .0 .rows≥))
 
 returns : tie.Need-returns
-returns c = cc
+returns c = rw (c .support .ensures, c .before .rows-at .ensures)
 
 pub support-rows-spec : {M : Type 1} → statement M
 support-rows-spec = tie.close (tie.spec rows-at-requires support-requires returns)
