@@ -21,6 +21,9 @@ use Rattle.grid.proofs.Laws.{ratio-pos, apart-fact, apart-test, Near, n
 
 -- ---- spans and rectangles
 
+pub span-same : {s t : Span} → s .first ≡ t .first → s .end ≡ t .end → s ≡ t
+span-same a b = λ i. record { first = a i; end = b i }
+
 pub record InSpan (s : Span) (x : ℕ) : Type 0 where
   pub from : s .first ≤ x
   pub to : x < s .end

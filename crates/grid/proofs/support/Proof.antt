@@ -1,8 +1,7 @@
 -- `support` meets its contract. Assumes nothing.
 use native.Mathlib.Omega.{arith}
-use mathlib.Core.Path.{_≡_}
-use Prim.Native.Nat.{ℕ, min, _+_, _-_}
 use Rattle.grid.specs.Spans.{supportSpan}
+use Rattle.grid.proofs.Spans.{span-same}
 use borrow.Author.Needs.{needs}
 use Rattle.grid.proofs.support.Statement.{statement}
 use Rattle.grid.proofs.support.Tie as tie
@@ -15,17 +14,11 @@ add-t6 c = search needs
 
 returns : tie.Need-returns
 unfolding supportSpan
-returns c =
-    let a = c .before .before .args in
-    let e : a .i + 1 ≡ min (a .count - 1) (a .i) + 1 = omega arith in
-    λ i. record { first = c .before .less .ensures i; end = e i }
+returns c = span-same (c .before .less .ensures) (omega arith)
 
 returns-2 : tie.Need-returns-2
 unfolding supportSpan
-returns-2 c =
-    let a = c .before .before .args in
-    let e : a .count ≡ min (a .count - 1) (a .i) + 1 = omega arith in
-    λ i. record { first = c .before .less .ensures i; end = e i }
+returns-2 c = span-same (c .before .less .ensures) (omega arith)
 
 pub support-spec : {M : Type 1} → statement M
 support-spec = tie.close (tie.spec less-requires add-t6 returns returns-2)
