@@ -1,8 +1,8 @@
 -- One direction: columns (or rows) that grow by a ratio s from level to level, and what division by s does to them. Assumes nothing.
-use Prim.Native.Nat.{ℕ, zero, suc, pred, _+_, _-_, _*_, _/_, _%_, _^_, _<_, _≤_}
-use native.Mathlib.Nat.{mod-lt, div-add-mod', div-lt-iff-lt-mul, div-div-eq-div-mul, lt-div-mul-add, le-mul-of-pos-right, mul-comm, mul-assoc, pow-suc, le-of-suc-le-suc, one-le-mul, one-le-pow, sub-add-cancel}
+use Prim.Native.Nat.{ℕ, zero, suc, pred, _+_, _-_, _*_, _/_, _^_, _<_, _≤_}
+use native.Mathlib.Nat.{div-lt-iff-lt-mul, div-div-eq-div-mul, lt-div-mul-add, le-mul-of-pos-right, mul-comm, mul-assoc, pow-suc, le-of-suc-le-suc, one-le-mul, one-le-pow, sub-add-cancel}
 use native.Mathlib.Omega.{arith}
-use mathlib.Core.Path.{_≡_, refl, ap, sym, _∙_}
+use mathlib.Core.Path.{_≡_}
 use lib.Arith.{digits-lt}
 use lib.Pow.{pow-add}
 use Rattle.grid.specs.Plan.{grown}

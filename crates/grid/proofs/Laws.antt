@@ -1,22 +1,21 @@
 -- The laws of a plan's grid: numbers and places, parents and children, neighbourhoods. What the theory of meshes knows of the
 -- grid is `lawful`. Assumes nothing.
-use Prim.Native.Nat.{ℕ, zero, suc, pred, _+_, _-_, _*_, _/_, _%_, _^_, _<_, _≤_}
+use Prim.Native.Nat.{ℕ, suc, pred, _+_, _-_, _/_, _%_, _<_, _≤_}
 use native.Mathlib.Nat.{mod-lt, div-add-mod'}
 use native.Mathlib.Omega.{arith}
-use mathlib.Core.Bool.{Bool, true, false, not, _&&_, _||_}
+use mathlib.Core.Bool.{Bool, not, _&&_, _||_}
 use mathlib.Core.Logic.{_≢_, _↔_}
-use mathlib.Core.Path.{_≡_, refl, ap, sym, _∙_}
+use mathlib.Core.Path.{_≡_}
 use lib.Dec.{T, leb, ltb, eqb, leb→le, le→leb, eqb→eq, ltb→lt, lt→ltb}
 use lib.Arith.{digits-div}
-use Rattle.facts.proofs.Tests.{and-i, and-l, and-r, or-e, or-l, or-r, cases, not-i, not-e, differ, eqb-of}
+use Rattle.facts.proofs.Tests.{and-i, and-l, and-r, or-e, or-l, or-r, cases, not-i, differ, eqb-of}
 use Rattle.hierarchy.proofs.Sets.{Lawful}
 use Rattle.grid.specs.declared.Plan.{Plan}
 use Rattle.grid.specs.declared.Place.{Place}
 use Rattle.grid.specs.Numbering
-use Rattle.grid.specs.Plan.{between, inRange, ratio, columnsAt, rowsAt, functionColumnsAt, functionRowsAt, cellTotal, functionTotal, cellPlace, cellNumber, functionPlace, functionNumber, cellLevel, CellInside, FunctionInside, above, below, parent, child, apart, ancestor, nearAt, near, hierarchy}
+use Rattle.grid.specs.Plan.{between, inRange, ratio, columnsAt, functionColumnsAt, cellTotal, functionTotal, cellPlace, cellNumber, functionPlace, functionNumber, cellLevel, CellInside, FunctionInside, above, below, parent, child, apart, ancestor, nearAt, near, hierarchy}
 use Rattle.grid.specs.Range.{InRange}
 use Rattle.grid.proofs.Numbering as numbering
-use Rattle.grid.proofs.Numbering.{Inside}
 use Rattle.grid.proofs.Direction.{grown-pos, grown-up, grown-down, apart-up, Apart}
 
 -- ---- the ranges

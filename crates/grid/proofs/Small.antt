@@ -1,5 +1,5 @@
 -- How large the grid's numbers can be: every width, height, offset and total of a plan in range fits 32 bits. Assumes nothing.
-use mathlib.Core.Path.{_≡_, refl, ap, sym, _∙_}
+use mathlib.Core.Path.{_≡_, refl}
 use Prim.Native.Nat.{ℕ, zero, suc, _+_, _*_, _^_, _/_, _%_, _≤_, _<_}
 use native.Mathlib.Nat.{add-zero, le-refl, mul-le-mul, mod-eq-of-lt}
 use native.Mathlib.Numerals.{add-one}

@@ -1,13 +1,10 @@
 -- Supports and neighbourhoods, as facts and as rectangles; a cell's ancestor lies in its neighbourhood, and no support is empty.
 -- Assumes nothing.
-use Prim.Native.Nat.{ℕ, suc, min, _+_, _-_, _*_, _/_, _^_, _<_, _≤_}
-use native.Mathlib.Nat.{le-refl, le-add-right}
-use native.Mathlib.Numerals.{add-one}
+use Prim.Native.Nat.{ℕ, min, _+_, _-_, _<_, _≤_}
 use native.Mathlib.Omega.{arith}
 use mathlib.Core.Bool.{Bool, not, _&&_}
-use mathlib.Core.Logic.{_↔_}
-use mathlib.Core.Path.{_≡_, refl, ap, sym, _∙_}
-use lib.Dec.{T, leb, ltb, eqb, leb→le, le→leb, ltb→lt, lt→ltb, eqb→eq, leb·suc-suc}
+use mathlib.Core.Path.{_≡_, refl}
+use lib.Dec.{T, leb, ltb, eqb, leb→le, le→leb, ltb→lt, lt→ltb, eqb→eq}
 use Rattle.facts.proofs.Tests.{and-i, and-l, and-r, same, eqb-of, T-true}
 use Rattle.grid.specs.declared.Plan.{Plan}
 use Rattle.grid.specs.declared.Place.{Place}
@@ -16,8 +13,8 @@ use Rattle.grid.specs.declared.Rectangle.{Rectangle}
 use Rattle.grid.specs.Plan.{ratio, columnsAt, rowsAt, cellTotal, functionTotal, cellPlace, cellNumber, functionPlace, cellLevel, functionLevel, CellInside, FunctionInside, covers, supportedAt, supported, apart, ancestor, nearAt, near}
 use Rattle.grid.specs.Range.{InRange, HasNeighbourhood}
 use Rattle.grid.specs.Spans.{inSpan, inRectangle, supportSpan, aroundSpan, supportOf, around, ancestorOf, neighbourhood}
-use Rattle.grid.proofs.Direction.{grown-pos, grown-ancestor, Apart}
-use Rattle.grid.proofs.Laws.{ratio-pos, apart-fact, apart-test, Near, near-fact, near-test, near-in, near-places, near-of, cell-inside, cell-number-lt, cell-place-number, function-inside}
+use Rattle.grid.proofs.Direction.{grown-pos, grown-ancestor}
+use Rattle.grid.proofs.Laws.{ratio-pos, apart-fact, apart-test, Near, near-fact, near-test, near-places, near-of, cell-inside, cell-number-lt, cell-place-number, function-inside}
 
 -- ---- spans and rectangles
 
@@ -81,8 +78,14 @@ pub record Covers (d i c : ℕ) : Type 0 where
 
 -- the code's span is document 01's
 pub span-covers : (n d i c : ℕ) → inSpan (supportSpan n d i) c ≡ covers n d i c
-unfolding inSpan supportSpan covers
-span-covers n d i c = rw (add-one, leb·suc-suc)
+unfolding supportSpan covers
+span-covers n d i c =
+    same (inSpan (supportSpan n d i) c) (covers n d i c)
+    (λ t. let k = span-fact (supportSpan n d i) c t in let a = k .from in let b = k .to in
+    and-i (leb (i - d) c) (leb c (min (n - 1) i)) (le→leb (i - d) c (omega arith)) (le→leb c (min (n - 1) i) (omega arith)))
+    (λ t. let a = leb→le (i - d) c (and-l (leb (i - d) c) (leb c (min (n - 1) i)) t) in
+    let b = leb→le c (min (n - 1) i) (and-r (leb (i - d) c) (leb c (min (n - 1) i)) t) in
+    span-test (supportSpan n d i) c (omega arith))
 
 module _ (n d i c : ℕ) (inside : c < n) where
   pub covers-fact : T (covers n d i c) → Covers d i c
@@ -274,3 +277,19 @@ near-own p range q b has =
     let i : CellInside p x = ancestor-in p (cellPlace p q) has (cell-inside p range q b) in
     near-of p range q (cellNumber p x) (cell-number-lt p range x i)
     (rw (cell-place-number p range x i) (near-fact p (cellPlace p q) x (near-ancestor p (cellPlace p q) has)))
+
+-- two places computed, of a plan of class 2 and degree 1. The cell of level 1 in row 2 and column 6 stands on row 1 and column 3: the
+-- cell in row 0 and column 2, which shares a corner with that one, is near; and no cell is near by q's own column alone
+abbrev sixByFour : Plan
+sixByFour = record { columns = 6; rows = 4; levels = 2; across = 1; up = 1; class = 2 }
+
+abbrev at : ℕ → ℕ → ℕ → Place
+at k r c = record { level = k; row = r; column = c }
+
+pub near-corner : T (nearAt sixByFour (at 1 2 6) (at 0 0 2))
+unfolding nearAt apart ancestor ratio
+near-corner = tt
+
+pub near-not-own : T (not (nearAt sixByFour (at 1 2 6) (at 0 1 5)))
+unfolding nearAt apart ancestor ratio
+near-not-own = tt

@@ -1,16 +1,16 @@
 -- How many cells and functions a plan has: T's closed form, and the largest F. Assumes nothing.
-use Prim.Native.Nat.{ℕ, zero, suc, _+_, _-_, _*_, _/_, _^_, _<_, _≤_}
+use Prim.Native.Nat.{ℕ, zero, suc, _+_, _-_, _*_, _/_, _^_, _≤_}
 use native.Mathlib.Nat.{pow-zero, pow-suc, mul-one, mul-sub, mul-le-mul, le-trans, div-eq-of-eq-mul-right}
 use native.Mathlib.Omega.{arith}
-use mathlib.Core.Bool.{Bool, true, false}
-use mathlib.Core.Path.{_≡_, refl, ap, sym, _∙_}
+use mathlib.Core.Bool.{Bool}
+use mathlib.Core.Path.{_≡_, refl, ap, sym}
 use lib.Dec.{T, leb, leb→le, le→leb, lit≤}
 use Rattle.facts.specs.Bounded.{implies, every}
 use Rattle.facts.proofs.Bounded.{every-e}
 use Rattle.facts.proofs.Tests.{implies-e}
 use Rattle.grid.specs.declared.Plan.{Plan}
 use Rattle.grid.specs.Numbering.{offset}
-use Rattle.grid.specs.Plan.{ratio, grown, columnsAt, rowsAt, functionColumnsAt, functionRowsAt, cellOffset, cellTotal, functionTotal}
+use Rattle.grid.specs.Plan.{ratio, grown, functionColumnsAt, functionRowsAt, cellOffset, cellTotal, functionTotal}
 use Rattle.grid.specs.Range.{InRange}
 
 -- ---- T = A·B·(4^L - 1)/3

@@ -1,5 +1,4 @@
 -- What `inRange` says, as facts: what the plan's methods require. Definitions only.
-use mathlib.Core.Path.{_≡_}
 use mathlib.Core.Logic.{_≢_}
 use Prim.Native.Nat.{ℕ, _+_, _≤_}
 use Rattle.grid.specs.declared.Plan.{Plan}

@@ -1,6 +1,5 @@
 // A plan's grids: cells and functions of every level, their numbers and places, supports, parents and neighbourhoods.
 ghost use mathlib.Core.Path.{_≡_};
-ghost use mathlib.Core.Logic.{_≢_};
 ghost use Prim.Native.Nat.{_+_, _-_, _*_, _≤_, _<_};
 ghost use Rattle.grid.specs.Numbering.{Inside, offset, number, place};
 ghost use Rattle.grid.specs.Range.{InRange, Beyond, HasNeighbourhood};

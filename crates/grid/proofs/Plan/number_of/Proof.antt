@@ -1,5 +1,5 @@
 -- `Plan::number_of` meets its contract: the number, and each part of its sum, fits. Assumes nothing.
-use Prim.Native.Nat.{ℕ, _<_}
+use Prim.Native.Nat.{_<_}
 use native.Mathlib.Omega.{arith}
 use Rattle.grid.specs.Plan.{widened, columnsAt, rowsAt}
 use Rattle.grid.specs.Numbering.{number}

@@ -1,7 +1,7 @@
 -- `Plan::place_of` meets its contract. The invariant: the level is one of the plan's, and what is left of the number is the number
 -- less the level's offset. Assumes nothing.
-use mathlib.Core.Path.{_≡_, refl, sym, ap, _∙_}
-use Prim.Native.Nat.{ℕ, _+_, _*_, _-_, _<_}
+use mathlib.Core.Path.{_≡_}
+use Prim.Native.Nat.{_+_, _*_, _-_, _<_}
 use native.Mathlib.Omega.{arith}
 use borrow.Author.Needs.{needs}
 use Rattle.grid.specs.Plan.{widened, columnsAt, rowsAt}
