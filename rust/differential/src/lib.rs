@@ -413,6 +413,19 @@ pub fn random_refined(random: &mut Random, plan: Plan) -> BTreeSet<Cell> {
     model::smallest(plan, base)
 }
 
+/// Refined cells of a mesh of class 0 in which each lies in the support of a deactivated function of
+/// its own level: supports of random functions of random levels, cut to the part that qualifies.
+pub fn random_covered(random: &mut Random, plan: Plan) -> BTreeSet<Cell> {
+    let mut base = BTreeSet::new();
+    for level in 0..plan.levels - 1 {
+        let functions: Vec<Function> = plan.functions().filter(|f| f.level == level).collect();
+        for _ in 0..random.pick(&[0, 2, 5, functions.len() / 2]) {
+            base.extend(plan.support(random.pick(&functions)));
+        }
+    }
+    covered_part(plan, model::smallest(plan, base))
+}
+
 /// The largest part of a mesh of class 0 in which each refined cell lies in the support of a
 /// deactivated function of its own level.
 pub fn covered_part(plan: Plan, refined: BTreeSet<Cell>) -> BTreeSet<Cell> {
