@@ -97,16 +97,17 @@ impl Plan {
 
     /// T, the number of cells of all levels. For a plan in range.
     pub fn cell_total(self) -> usize {
-        (0..self.levels).map(|level| self.cells_of_level(level)).sum()
+        self.cells_before(self.levels)
+    }
+
+    /// A·B·(4^k - 1)/3, the number of cells of the levels before k.
+    fn cells_before(self, level: u32) -> usize {
+        self.columns as usize * self.rows as usize * (4usize.pow(level) - 1) / 3
     }
 
     /// F, the number of functions of all levels. For a plan in range.
     pub fn function_total(self) -> usize {
         (0..self.levels).map(|level| self.functions_of_level(level)).sum()
-    }
-
-    fn cells_of_level(self, level: u32) -> usize {
-        self.width(level) as usize * self.height(level) as usize
     }
 
     fn functions_of_level(self, level: u32) -> usize {
@@ -116,8 +117,9 @@ impl Plan {
     }
 
     pub fn cell_number(self, cell: Cell) -> usize {
-        let before: usize = (0..cell.level).map(|level| self.cells_of_level(level)).sum();
-        before + cell.row as usize * self.width(cell.level) as usize + cell.column as usize
+        self.cells_before(cell.level)
+            + cell.row as usize * self.width(cell.level) as usize
+            + cell.column as usize
     }
 
     pub fn function_number(self, function: Function) -> usize {
@@ -128,12 +130,11 @@ impl Plan {
 
     /// The cell with that number, which is to be below T.
     pub fn cell_at(self, number: usize) -> Cell {
-        let mut rest = number;
         let mut level = 0;
-        while rest >= self.cells_of_level(level) {
-            rest -= self.cells_of_level(level);
+        while number >= self.cells_before(level + 1) {
             level += 1;
         }
+        let rest = number - self.cells_before(level);
         let width = self.width(level) as usize;
         Cell { level, row: (rest / width) as u32, column: (rest % width) as u32 }
     }
