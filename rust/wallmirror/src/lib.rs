@@ -49,6 +49,11 @@ use std::fmt;
 
 pub mod ffi;
 
+/// The examples of the documentation, run with the others.
+#[cfg(doctest)]
+#[doc = include_str!("../../../docs/RUST_AND_C.md")]
+pub struct Documentation;
+
 /// The plan of a mesh. Any numbers may stand in it; the calls refuse those out of range.
 #[derive(Clone, Copy, Debug, PartialEq, Eq, Hash)]
 pub struct Plan {
@@ -434,6 +439,13 @@ fn function_numbers(marks: &[Function]) -> &[u32] {
 #[cfg(test)]
 mod tests {
     use super::*;
+
+    #[test]
+    fn the_documentation_has_the_c_example() {
+        let documentation = include_str!("../../../docs/RUST_AND_C.md");
+        let example = include_str!("../../../examples/c/refine.c");
+        assert!(documentation.contains(example));
+    }
 
     #[test]
     fn refusals_have_their_numbers() {
