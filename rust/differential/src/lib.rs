@@ -13,7 +13,7 @@ impl Random {
         Random(seed)
     }
 
-    pub fn next(&mut self) -> u64 {
+    pub fn bits(&mut self) -> u64 {
         self.0 = self.0.wrapping_add(0x9e37_79b9_7f4a_7c15);
         let mut x = self.0;
         x = (x ^ (x >> 30)).wrapping_mul(0xbf58_476d_1ce4_e5b9);
@@ -23,7 +23,7 @@ impl Random {
 
     /// A number from 0 to n-1.
     pub fn below(&mut self, n: usize) -> usize {
-        (self.next() % n as u64) as usize
+        (self.bits() % n as u64) as usize
     }
 
     /// True once in n times.
@@ -36,7 +36,7 @@ impl Random {
     }
 
     pub fn numbers(&mut self, n: usize) -> Vec<u32> {
-        (0..n).map(|_| self.next() as u32).collect()
+        (0..n).map(|_| self.bits() as u32).collect()
     }
 
     pub fn shuffle<T>(&mut self, list: &mut [T]) {

@@ -33,7 +33,7 @@ impl Seen {
 }
 
 fn damage_plan(random: &mut Random, plan: &mut Plan) {
-    let huge = random.next() as u32 | 1 << 31;
+    let huge = random.bits() as u32 | 1 << 31;
     let (number, values) = match random.below(7) {
         0 => (&mut plan.columns, vec![0, 17, huge]),
         1 => (&mut plan.rows, vec![0, 17, huge]),
@@ -93,7 +93,7 @@ fn damage_marks(random: &mut Random, tables: &Tables, kind: Kind, marks: &mut Ve
     for _ in 0..random.below(3) + 1 {
         let bad = match random.below(4) {
             0 => random.pick(&[total, total + 1, u32::MAX, u32::MAX - 1]),
-            1 => random.next() as u32,
+            1 => random.bits() as u32,
             // Of the last level, more often than not.
             2 => total - 1 - random.below(total as usize / 2 + 1) as u32,
             _ => random.below(total as usize) as u32,
