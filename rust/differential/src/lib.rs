@@ -141,11 +141,17 @@ impl<T: Copy + PartialEq + Debug> Lent<T> {
         &self.buffer[GUARDS..GUARDS + self.len()]
     }
 
-    fn expect(&self, expected: &[T], what: &str) {
-        assert!(self.content() == expected, "{what}: {:?}, not {expected:?}", self.content());
+    /// The content is the expected one and the guards are untouched; `said` tells of what call.
+    fn expect(&self, expected: &[T], what: &str, said: &dyn Fn() -> String) {
+        let differ = self.content().iter().zip(expected).position(|(is, expected)| is != expected);
+        if let Some(i) = differ {
+            let (is, expected) = (self.content()[i], expected[i]);
+            panic!("{what}: entry {i} is {is:?}, not {expected:?}, after {}", said());
+        }
         let (before, rest) = self.buffer.split_at(GUARDS);
-        let after = &rest[expected.len()..];
-        assert!(before.iter().chain(after).all(|&x| x == self.guard), "wrote outside the {what}");
+        let after = &rest[self.len()..];
+        let kept = before.iter().chain(after).all(|&entry| entry == self.guard);
+        assert!(kept, "wrote outside the {what}: {}", said());
     }
 }
 
@@ -188,6 +194,8 @@ impl Tables {
 
     pub fn open(&mut self) -> u32 {
         let (mut cells, mut functions) = self.lend();
+        let plan = self.plan;
+        let said = || format!("open {plan:?}");
         // SAFETY: separate buffers of these lengths.
         let number = unsafe {
             ffi::wallmirror_open(
@@ -199,19 +207,21 @@ impl Tables {
             )
         };
         match model::open(self.plan, self.cells.len(), self.functions.len()) {
-            Err(refusal) => assert_eq!(number, refusal, "open {:?}", self.plan),
+            Err(refusal) => assert_eq!(number, refusal, "{}", said()),
             Ok(opened) => {
-                assert_eq!(number, 0, "open {:?}", self.plan);
+                assert_eq!(number, 0, "{}", said());
                 (self.cells, self.functions) = opened;
             }
         }
-        cells.expect(&self.cells, "cell table");
-        functions.expect(&self.functions, "function table");
+        cells.expect(&self.cells, "cell table", &said);
+        functions.expect(&self.functions, "function table", &said);
         number
     }
 
     pub fn check(&self) -> u32 {
         let (mut cells, mut functions) = self.lend();
+        let plan = self.plan;
+        let said = || format!("check {plan:?}");
         // SAFETY: separate buffers of these lengths.
         let number = unsafe {
             ffi::wallmirror_check(
@@ -223,14 +233,16 @@ impl Tables {
             )
         };
         let expected = model::check(self.plan, &self.cells, &self.functions);
-        assert_eq!(number, expected.err().unwrap_or(0), "check {self:?}");
-        cells.expect(&self.cells, "cell table");
-        functions.expect(&self.functions, "function table");
+        assert_eq!(number, expected.err().unwrap_or(0), "{}", said());
+        cells.expect(&self.cells, "cell table", &said);
+        functions.expect(&self.functions, "function table", &said);
         number
     }
 
     pub fn count(&self) -> ffi::Count {
         let (mut cells, mut functions) = self.lend();
+        let plan = self.plan;
+        let said = || format!("count {plan:?}");
         // SAFETY: separate buffers of these lengths.
         let count = unsafe {
             ffi::wallmirror_count(
@@ -251,9 +263,9 @@ impl Tables {
                 area: count.area,
             },
         };
-        assert_eq!(count, expected, "count {self:?}");
-        cells.expect(&self.cells, "cell table");
-        functions.expect(&self.functions, "function table");
+        assert_eq!(count, expected, "{}", said());
+        cells.expect(&self.cells, "cell table", &said);
+        functions.expect(&self.functions, "function table", &said);
         count
     }
 
@@ -269,6 +281,11 @@ impl Tables {
         let mut lent_marks = Lent::new(marks, 0x1234_5678);
         let mut cell_lent = Lent::new(cell_list, 0x8765_4321);
         let mut function_lent = Lent::new(function_list, 0x1357_9bdf);
+        let plan = self.plan;
+        let said = || {
+            let few = &marks[..marks.len().min(40)];
+            format!("{kind:?} {plan:?}, {} marks {few:?}", marks.len())
+        };
         // SAFETY: separate buffers of these lengths.
         let answer = unsafe {
             kind.of_library()(
@@ -284,10 +301,6 @@ impl Tables {
                 function_lent.pointer(),
                 function_lent.len(),
             )
-        };
-        let said = || {
-            let (plan, few) = (self.plan, &marks[..marks.len().min(40)]);
-            format!("{kind:?} {plan:?}, {} marks {few:?}", marks.len())
         };
         let expected = kind.of_model()(
             self.plan,
@@ -314,11 +327,15 @@ impl Tables {
                 Outcome { number: 0, cells: change.cell_list, functions: change.function_list }
             }
         };
-        cells.expect(&self.cells, "cell table");
-        functions.expect(&self.functions, "function table");
-        lent_marks.expect(marks, "marks");
-        cell_lent.expect(&overwritten(cell_list, &outcome.cells), "cell list");
-        function_lent.expect(&overwritten(function_list, &outcome.functions), "function list");
+        cells.expect(&self.cells, "cell table", &said);
+        functions.expect(&self.functions, "function table", &said);
+        lent_marks.expect(marks, "marks", &said);
+        cell_lent.expect(&overwritten(cell_list, &outcome.cells), "cell list", &said);
+        function_lent.expect(
+            &overwritten(function_list, &outcome.functions),
+            "function list",
+            &said,
+        );
         outcome
     }
 
