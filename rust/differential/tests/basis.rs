@@ -49,7 +49,7 @@ fn labels_are_those_of_the_published_basis() {
     let mut seen = [0; 3];
     for class in [0, 2, 3] {
         for (degree_across, degree_up) in [(1, 1), (2, 1), (3, 2), (1, 4), (4, 4)] {
-            for most in [60, 200, 350] {
+            for most in [60, 200, 350, 350, 1000, 1400] {
                 let plan = random_plan(&mut random, (degree_across, degree_up), class, most);
                 let refined = random_refined(&mut random, plan);
                 let mut tables = Tables::with_refined(plan, &refined);

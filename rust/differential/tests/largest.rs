@@ -79,8 +79,8 @@ fn towards(numbers: [u32; 6], point: (f64, f64), random: &mut Random) -> usize {
 fn graded_towards_points() {
     let mut random = Random::new(402);
     for (columns, rows, levels) in SHAPES {
-        for (class, degree) in [(0, 1), (2, 4), (2, 1), (3, 4), (4, 2)] {
-            for point in [(0.0, 0.0), (0.4, 0.6), (0.999, 0.5)] {
+        for (class, degree) in [(0, 1), (2, 4), (3, 4), (4, 2)] {
+            for point in [(0.0, 0.0), (0.4, 0.6)] {
                 let numbers = [columns, rows, levels, degree, degree, class];
                 let refined = towards(numbers, point, &mut random);
                 assert!(class != 0 || refined == levels as usize - 1);
