@@ -5,6 +5,9 @@
  * for each function of each level. The library allocates nothing, keeps nothing between calls and
  * may be called from several threads on different meshes.
  *
+ * In the words of the scope document a mesh is a wall, refining and coarsening are splitting and
+ * joining, admissible of class m is graded, and reactivable is joinable.
+ *
  * Cells are numbered from 0, level by level, row by row; functions likewise. Cell 5 and function 5
  * name different things.
  *
@@ -39,7 +42,7 @@ typedef struct WallmirrorPlan {
     uint32_t levels;              /* 1 to 8; each level halves the cells of the one before */
     uint32_t degree_across;       /* 1 to 4 */
     uint32_t degree_up;           /* 1 to 4 */
-    uint32_t admissibility_class; /* 2 to 8, or 0 for meshes with no grading */
+    uint32_t admissibility_class; /* 2 to 8, or 0: every mesh is admissible */
 } WallmirrorPlan;
 
 /* A byte of the cell table. */

@@ -23,10 +23,10 @@ fn main() {
         wholly("wholly refined", [1, 1, 8, 3, 3, 0]),
         wholly("wholly refined", [16, 16, 4, 3, 3, 0]),
         wholly("wholly refined", [16, 1, 6, 3, 3, 0]),
-        graded("graded towards a corner", [1, 1, 8, 4, 4, 2]),
-        graded("graded towards a corner", [16, 16, 4, 4, 4, 2]),
-        graded("graded towards a corner", [16, 1, 6, 4, 4, 2]),
-        wholly("wholly refined, graded", [1, 1, 8, 4, 4, 2]),
+        cornered("refined towards a corner", [1, 1, 8, 4, 4, 2]),
+        cornered("refined towards a corner", [16, 16, 4, 4, 4, 2]),
+        cornered("refined towards a corner", [16, 1, 6, 4, 4, 2]),
+        wholly("wholly refined", [1, 1, 8, 4, 4, 2]),
         nearly_empty("nearly empty", [16, 16, 4, 4, 4, 2]),
         nearly_empty("nearly empty", [1, 1, 8, 3, 3, 0]),
     ] {
@@ -47,7 +47,7 @@ fn wholly(name: &'static str, numbers: [u32; 6]) -> Scenario {
 }
 
 /// The cell at one corner refined down to the last level, and the mesh before the last step.
-fn graded(name: &'static str, numbers: [u32; 6]) -> Scenario {
+fn cornered(name: &'static str, numbers: [u32; 6]) -> Scenario {
     let mut tables = Tables::opened(plan(numbers));
     let mut before = tables.clone();
     for level in 0..tables.plan.levels - 1 {

@@ -129,8 +129,8 @@ fn smallest_of_all_meshes() {
         ([3, 1, 3, 1, 1, 2], 10),
         ([3, 1, 3, 2, 1, 2], 10),
         ([1, 3, 3, 1, 1, 2], 10),
-        ([1, 1, 4, 1, 1, 2], 40),
-        ([1, 1, 4, 1, 1, 3], 400),
+        ([1, 1, 4, 1, 1, 2], 200),
+        ([1, 1, 4, 1, 1, 3], 2000),
     ] {
         let plan = plan(numbers);
         let refinable: Vec<Cell> = plan.cells().filter(|c| c.level + 1 < plan.levels).collect();

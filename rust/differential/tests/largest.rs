@@ -1,5 +1,5 @@
-//! The largest plans: refined level by level to the end and back, graded towards points, and runs in
-//! the classes that only many levels make different from ungraded.
+//! The largest plans: refined level by level to the end and back, refined towards points, and runs
+//! in the classes that only many levels make different from class 0.
 
 use differential::{plan, undo_by_cells, undo_by_functions, Kind, Log, Random, Tables};
 use Kind::*;
@@ -76,7 +76,7 @@ fn towards(numbers: [u32; 6], point: (f64, f64), random: &mut Random) -> usize {
 }
 
 #[test]
-fn graded_towards_points() {
+fn refined_towards_points() {
     let mut random = Random::new(402);
     for (columns, rows, levels) in SHAPES {
         for (class, degree) in [(0, 1), (2, 4), (3, 4), (4, 2)] {

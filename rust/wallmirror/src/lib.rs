@@ -5,6 +5,9 @@
 //! deactivated). [`Plan`] gives their lengths. Every call takes any plan, tables and marks; what it
 //! cannot serve it refuses with a [`Refusal`], and then tables and lists hold what they held before.
 //!
+//! In the words of the scope document a mesh is a wall, refining and coarsening are splitting and
+//! joining, admissible of class m is graded, and reactivable is joinable.
+//!
 //! ```
 //! use wallmirror::{open, refine_cells, Cell, Function, Plan};
 //!
@@ -67,7 +70,7 @@ pub struct Plan {
     pub degree_across: u32,
     /// 1 to 4.
     pub degree_up: u32,
-    /// Class of admissibility, 2 to 8, or 0 for meshes with no grading.
+    /// Class of admissibility, 2 to 8, or 0: every mesh is admissible.
     pub class: u32,
 }
 
