@@ -1,0 +1,28 @@
+PREFIX ?= /usr/local
+DESTDIR ?=
+
+ARCHIVE := target/staticlib/libwallmirror.a
+HEADER := include/wallmirror.h
+
+.PHONY: all test bench install clean
+
+# Proves the library and writes the archive; what has not changed is not proved again.
+all:
+	rt staticlib wallmirror
+
+# Everything: proofs from nothing, must-fail edits, programs, C and Rust.
+test:
+	.ci/run
+
+# The library beside the model, on the largest meshes.
+bench: all
+	cd rust && WALLMIRROR_LIB_DIR="$(CURDIR)/target/staticlib" CARGO_TARGET_DIR="$(CURDIR)/target/cargo" \
+		cargo run --release --offline --locked --quiet -p bench
+
+install: all
+	install -d "$(DESTDIR)$(PREFIX)/include" "$(DESTDIR)$(PREFIX)/lib"
+	install -m 644 $(HEADER) "$(DESTDIR)$(PREFIX)/include/"
+	install -m 644 $(ARCHIVE) "$(DESTDIR)$(PREFIX)/lib/"
+
+clean:
+	rm -rf target

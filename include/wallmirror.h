@@ -1,0 +1,216 @@
+/*
+ * wallmirror: refining and coarsening hierarchical spline meshes.
+ *
+ * A mesh is held by the caller as two tables of bytes, one byte for each cell of each level and one
+ * for each function of each level. The library allocates nothing, keeps nothing between calls and
+ * may be called from several threads on different meshes.
+ *
+ * In the words of the scope document a mesh is a wall, refining and coarsening are splitting and
+ * joining, admissible of class m is graded, and reactivable is joinable.
+ *
+ * Cells are numbered from 0, level by level, row by row; functions likewise. Cell 5 and function 5
+ * name different things.
+ *
+ * Every call takes any plan, tables and marks whatever and returns. What it cannot serve it refuses
+ * with a number (WallmirrorRefusal), and then every table and list holds the bytes it held before.
+ *
+ * Pointers. Each table, mark list and output list is a pointer and its number of entries. A null
+ * pointer with length 0 is taken as an empty slice. With any other length the pointer must be
+ * aligned for its type and lead to that many entries, readable, and writable where it is not const.
+ * The tables and lists of one call must not overlap each other. So the cell list of an earlier call
+ * may serve as marks, but not as the cell list of the same call too.
+ */
+#ifndef WALLMIRROR_H
+#define WALLMIRROR_H
+
+#include <stddef.h>
+#include <stdint.h>
+
+#ifdef __cplusplus
+extern "C" {
+#endif
+
+/* The most cells a mesh may have on all levels together, and the most functions such a mesh has:
+ * buffers of these sizes serve every plan. */
+#define WALLMIRROR_MAX_CELLS 21845
+#define WALLMIRROR_MAX_FUNCTIONS 26220
+
+/* The plan of a mesh, passed by value. */
+typedef struct WallmirrorPlan {
+    uint32_t columns;             /* of level 0, 1 to 16 */
+    uint32_t rows;                /* of level 0, 1 to 16 */
+    uint32_t levels;              /* 1 to 8; each level halves the cells of the one before */
+    uint32_t degree_across;       /* 1 to 4 */
+    uint32_t degree_up;           /* 1 to 4 */
+    uint32_t admissibility_class; /* 2 to 8, or 0: every mesh is admissible */
+} WallmirrorPlan;
+
+/* A byte of the cell table. */
+enum WallmirrorCell {
+    WALLMIRROR_CELL_ABSENT = 0,
+    WALLMIRROR_CELL_ACTIVE = 1,
+    WALLMIRROR_CELL_REFINED = 2
+};
+
+/* A byte of the function table. It is fixed by the cells of the function's own level in its
+ * support: passive if any is absent, deactivated if all are refined, active otherwise. */
+enum WallmirrorFunction {
+    WALLMIRROR_FUNCTION_PASSIVE = 0,
+    WALLMIRROR_FUNCTION_ACTIVE = 1,
+    WALLMIRROR_FUNCTION_DEACTIVATED = 2
+};
+
+/* The number that every call answers. Where several apply, the first of this order is given:
+ * 1 to 6; then the marks in list order, each tried for 7, 8, 9; then 10, 11. */
+enum WallmirrorRefusal {
+    WALLMIRROR_ACCEPTED = 0,
+    /* a number of the plan is out of range */
+    WALLMIRROR_PLAN_OUT_OF_RANGE = 1,
+    /* all levels together have more than WALLMIRROR_MAX_CELLS cells */
+    WALLMIRROR_TOO_MANY_CELLS = 2,
+    /* a table has not the length that the plan gives it */
+    WALLMIRROR_TABLE_LENGTH = 3,
+    /* the cell bytes are not a mesh: another byte than 0, 1, 2, an absent cell of level 0, a refined
+     * cell with an absent child, any other cell with a child that is not absent, or a refined cell
+     * of the last level */
+    WALLMIRROR_NOT_A_MESH = 4,
+    /* the mesh is not admissible for the class of the plan */
+    WALLMIRROR_NOT_ADMISSIBLE = 5,
+    /* a function byte is not the one that the cells fix */
+    WALLMIRROR_WRONG_FUNCTION_BYTE = 6,
+    /* a mark is not below the number of cells (or of functions) */
+    WALLMIRROR_MARK_OUT_OF_RANGE = 7,
+    /* a mark is not of the kind that its call names */
+    WALLMIRROR_MARK_OF_WRONG_KIND = 8,
+    /* a mark of a refining call is of the last level */
+    WALLMIRROR_MARK_OF_LAST_LEVEL = 9,
+    /* the cell list is shorter than the cells it must name */
+    WALLMIRROR_CELL_LIST_TOO_SHORT = 10,
+    /* the function list is shorter than the functions it must name */
+    WALLMIRROR_FUNCTION_LIST_TOO_SHORT = 11
+};
+
+/* What wallmirror_count answers. After a refusal all but the number are 0. */
+typedef struct WallmirrorCount {
+    uint32_t number;           /* a WallmirrorRefusal */
+    uint32_t active_cells;
+    uint32_t refined_cells;
+    uint32_t active_functions;
+    uint32_t area;             /* of the active cells, in cells of the last level */
+} WallmirrorCount;
+
+/* What a refining or coarsening call answers. After a refusal both lengths are 0. */
+typedef struct WallmirrorAnswer {
+    uint32_t number;    /* a WallmirrorRefusal */
+    uint32_t cells;     /* how many entries of the cell list were written */
+    uint32_t functions; /* how many entries of the function list were written */
+} WallmirrorAnswer;
+
+/* Whether the plan is one that wallmirror_open takes (refusals 1 and 2 do not apply). */
+static inline int wallmirror_plan_is_valid(WallmirrorPlan plan)
+{
+    if (plan.columns < 1 || plan.columns > 16 || plan.rows < 1 || plan.rows > 16 ||
+        plan.levels < 1 || plan.levels > 8 ||
+        plan.degree_across < 1 || plan.degree_across > 4 ||
+        plan.degree_up < 1 || plan.degree_up > 4 ||
+        plan.admissibility_class == 1 || plan.admissibility_class > 8)
+        return 0;
+    /* 1 + 4 + ... + 4^(levels-1) cells for each cell of level 0 */
+    return plan.columns * plan.rows * (((1u << (2 * plan.levels)) - 1) / 3) <= WALLMIRROR_MAX_CELLS;
+}
+
+/* The length of the cell table, and the most entries a cell list needs.
+ * 0 for a plan that is out of range or has too many cells. */
+static inline size_t wallmirror_cells_len(WallmirrorPlan plan)
+{
+    if (!wallmirror_plan_is_valid(plan))
+        return 0;
+    return (size_t)plan.columns * plan.rows * (((1u << (2 * plan.levels)) - 1) / 3);
+}
+
+/* The length of the function table, and the most entries a function list needs.
+ * 0 for a plan that is out of range or has too many cells. */
+static inline size_t wallmirror_functions_len(WallmirrorPlan plan)
+{
+    size_t total = 0;
+    uint32_t level;
+    if (!wallmirror_plan_is_valid(plan))
+        return 0;
+    for (level = 0; level < plan.levels; level++)
+        total += (size_t)((plan.columns << level) + plan.degree_across) *
+                 ((plan.rows << level) + plan.degree_up);
+    return total;
+}
+
+/* Makes both tables the coarsest mesh of the plan: every cell and function of level 0 active,
+ * the rest absent and passive. Refuses 1 to 3; what the tables held does not matter. */
+uint32_t wallmirror_open(WallmirrorPlan plan,
+                         uint8_t *cells, size_t cells_len,
+                         uint8_t *functions, size_t functions_len);
+
+/* 0 if both tables are an admissible mesh of the plan with the function bytes that it fixes,
+ * otherwise the first of refusals 1 to 6. */
+uint32_t wallmirror_check(WallmirrorPlan plan,
+                          const uint8_t *cells, size_t cells_len,
+                          const uint8_t *functions, size_t functions_len);
+
+/* Counts the active and the refined cells, the active functions, and the area of the active cells,
+ * where one of level k counts 4^(levels-1-k). Refuses 1 to 6. */
+WallmirrorCount wallmirror_count(WallmirrorPlan plan,
+                                 const uint8_t *cells, size_t cells_len,
+                                 const uint8_t *functions, size_t functions_len);
+
+/*
+ * The four calls below take marks, in any order; repeats mean one mark, and no marks at all are
+ * accepted. They change both tables and write, each in rising order and once each,
+ *   to the cell list the cells that became refined (refining) or ceased to be (coarsening),
+ *   to the function list the functions that became deactivated, or ceased to be.
+ * Entries past the answered lengths keep their values. They refuse 1 to 11 (coarsening never 9).
+ *
+ * A refining call is undone by wallmirror_coarsen_cells and a coarsening call by
+ * wallmirror_refine_cells, with the cell list it wrote as marks; so is a whole run of calls, taken
+ * from the last to the first.
+ */
+
+/* Marks are active cells. The smallest admissible mesh of the plan's class in which the cells
+ * refined before and the marked ones are refined. */
+WallmirrorAnswer wallmirror_refine_cells(WallmirrorPlan plan,
+                                         uint8_t *cells, size_t cells_len,
+                                         uint8_t *functions, size_t functions_len,
+                                         const uint32_t *marks, size_t marks_len,
+                                         uint32_t *cell_list, size_t cell_list_len,
+                                         uint32_t *function_list, size_t function_list_len);
+
+/* Marks are active functions. Each stands for the active cells of its level in its support. */
+WallmirrorAnswer wallmirror_refine_functions(WallmirrorPlan plan,
+                                             uint8_t *cells, size_t cells_len,
+                                             uint8_t *functions, size_t functions_len,
+                                             const uint32_t *marks, size_t marks_len,
+                                             uint32_t *cell_list, size_t cell_list_len,
+                                             uint32_t *function_list, size_t function_list_len);
+
+/* Marks are reactivable cells: refined, with four active children. The smallest admissible mesh of
+ * the plan's class in which all cells refined before but the marked ones are refined. A marked cell
+ * that the others need stays refined. */
+WallmirrorAnswer wallmirror_coarsen_cells(WallmirrorPlan plan,
+                                          uint8_t *cells, size_t cells_len,
+                                          uint8_t *functions, size_t functions_len,
+                                          const uint32_t *marks, size_t marks_len,
+                                          uint32_t *cell_list, size_t cell_list_len,
+                                          uint32_t *function_list, size_t function_list_len);
+
+/* Marks are deactivated functions with a reactivable cell of their own level in their support. The
+ * cells meant are the reactivable ones of that level in the support of a marked function and of no
+ * unmarked deactivated function of that level; the result is that of coarsening those cells. */
+WallmirrorAnswer wallmirror_coarsen_functions(WallmirrorPlan plan,
+                                              uint8_t *cells, size_t cells_len,
+                                              uint8_t *functions, size_t functions_len,
+                                              const uint32_t *marks, size_t marks_len,
+                                              uint32_t *cell_list, size_t cell_list_len,
+                                              uint32_t *function_list, size_t function_list_len);
+
+#ifdef __cplusplus
+}
+#endif
+
+#endif

@@ -1,0 +1,471 @@
+//! Running a call of the compiled library on lent tables and holding everything it did to the model.
+
+use model::{Cell, Function, Mesh, Plan};
+use std::collections::BTreeSet;
+use std::fmt::Debug;
+use wallmirror::ffi;
+
+/// A seeded generator (splitmix64), so that every run of the tests is the same.
+pub struct Random(u64);
+
+impl Random {
+    pub fn new(seed: u64) -> Random {
+        Random(seed)
+    }
+
+    pub fn bits(&mut self) -> u64 {
+        self.0 = self.0.wrapping_add(0x9e37_79b9_7f4a_7c15);
+        let mut x = self.0;
+        x = (x ^ (x >> 30)).wrapping_mul(0xbf58_476d_1ce4_e5b9);
+        x = (x ^ (x >> 27)).wrapping_mul(0x94d0_49bb_1331_11eb);
+        x ^ (x >> 31)
+    }
+
+    /// A number from 0 to n-1.
+    pub fn below(&mut self, n: usize) -> usize {
+        (self.bits() % n as u64) as usize
+    }
+
+    /// True once in n times.
+    pub fn once_in(&mut self, n: usize) -> bool {
+        self.below(n) == 0
+    }
+
+    pub fn pick<T: Copy>(&mut self, from: &[T]) -> T {
+        from[self.below(from.len())]
+    }
+
+    pub fn numbers(&mut self, n: usize) -> Vec<u32> {
+        (0..n).map(|_| self.bits() as u32).collect()
+    }
+
+    pub fn shuffle<T>(&mut self, list: &mut [T]) {
+        for i in (1..list.len()).rev() {
+            list.swap(i, self.below(i + 1));
+        }
+    }
+}
+
+/// The refining and coarsening calls.
+#[derive(Clone, Copy, Debug, PartialEq, Eq)]
+pub enum Kind {
+    RefineCells,
+    RefineFunctions,
+    CoarsenCells,
+    CoarsenFunctions,
+}
+
+use Kind::*;
+
+impl Kind {
+    pub const ALL: [Kind; 4] = [RefineCells, RefineFunctions, CoarsenCells, CoarsenFunctions];
+
+    pub fn refines(self) -> bool {
+        matches!(self, RefineCells | RefineFunctions)
+    }
+
+    pub fn by_functions(self) -> bool {
+        matches!(self, RefineFunctions | CoarsenFunctions)
+    }
+
+    /// The call by cells that undoes this one.
+    pub fn opposite(self) -> Kind {
+        if self.refines() {
+            CoarsenCells
+        } else {
+            RefineCells
+        }
+    }
+
+    pub fn of_library(self) -> ffi::Change {
+        match self {
+            RefineCells => ffi::wallmirror_refine_cells,
+            RefineFunctions => ffi::wallmirror_refine_functions,
+            CoarsenCells => ffi::wallmirror_coarsen_cells,
+            CoarsenFunctions => ffi::wallmirror_coarsen_functions,
+        }
+    }
+
+    pub fn of_model(self) -> model::Call {
+        match self {
+            RefineCells => model::refine_cells,
+            RefineFunctions => model::refine_functions,
+            CoarsenCells => model::coarsen_cells,
+            CoarsenFunctions => model::coarsen_functions,
+        }
+    }
+}
+
+/// The plan in the order A, B, L, p, q, m.
+pub fn plan(numbers: [u32; 6]) -> Plan {
+    let [columns, rows, levels, degree_across, degree_up, class] = numbers;
+    Plan { columns, rows, levels, degree_across, degree_up, class }
+}
+
+pub fn raw(plan: Plan) -> ffi::Plan {
+    ffi::Plan {
+        columns: plan.columns,
+        rows: plan.rows,
+        levels: plan.levels,
+        degree_across: plan.degree_across,
+        degree_up: plan.degree_up,
+        class: plan.class,
+    }
+}
+
+/// A slice as it is lent to the library, with guards before and behind it that must stay.
+struct Lent<T> {
+    buffer: Vec<T>,
+    guard: T,
+}
+
+const GUARDS: usize = 16;
+
+impl<T: Copy + PartialEq + Debug> Lent<T> {
+    fn new(content: &[T], guard: T) -> Lent<T> {
+        let mut buffer = vec![guard; GUARDS];
+        buffer.extend_from_slice(content);
+        buffer.extend_from_slice(&[guard; GUARDS]);
+        Lent { buffer, guard }
+    }
+
+    fn len(&self) -> usize {
+        self.buffer.len() - 2 * GUARDS
+    }
+
+    fn pointer(&mut self) -> *mut T {
+        self.buffer[GUARDS..].as_mut_ptr()
+    }
+
+    fn content(&self) -> &[T] {
+        &self.buffer[GUARDS..GUARDS + self.len()]
+    }
+
+    /// The content is the expected one and the guards are untouched; `said` tells of what call.
+    fn expect(&self, expected: &[T], what: &str, said: &dyn Fn() -> String) {
+        let differ = self.content().iter().zip(expected).position(|(is, expected)| is != expected);
+        if let Some(i) = differ {
+            let (is, expected) = (self.content()[i], expected[i]);
+            panic!("{what}: entry {i} is {is:?}, not {expected:?}, after {}", said());
+        }
+        let (before, rest) = self.buffer.split_at(GUARDS);
+        let after = &rest[self.len()..];
+        let kept = before.iter().chain(after).all(|&entry| entry == self.guard);
+        assert!(kept, "wrote outside the {what}: {}", said());
+    }
+}
+
+/// A plan and both tables, of whatever content and lengths.
+#[derive(Clone, Debug, PartialEq, Eq)]
+pub struct Tables {
+    pub plan: Plan,
+    pub cells: Vec<u8>,
+    pub functions: Vec<u8>,
+}
+
+/// The answered number and both lists, cut to the answered lengths.
+#[derive(Clone, Debug, PartialEq, Eq)]
+pub struct Outcome {
+    pub number: u32,
+    pub cells: Vec<u32>,
+    pub functions: Vec<u32>,
+}
+
+impl Tables {
+    /// The coarsest mesh of a plan that is in range, as the library opens it.
+    pub fn opened(plan: Plan) -> Tables {
+        let cells = vec![77; plan.cell_total()];
+        let functions = vec![78; plan.function_total()];
+        let mut tables = Tables { plan, cells, functions };
+        assert_eq!(tables.open(), 0, "{plan:?}");
+        tables
+    }
+
+    /// The mesh with these refined cells, which are to have their parents refined.
+    pub fn with_refined(plan: Plan, refined: &BTreeSet<Cell>) -> Tables {
+        let cells = model::table(plan, refined);
+        let functions = model::labels(plan, &cells);
+        Tables { plan, cells, functions }
+    }
+
+    fn lend(&self) -> (Lent<u8>, Lent<u8>) {
+        (Lent::new(&self.cells, 0xa5), Lent::new(&self.functions, 0x5a))
+    }
+
+    pub fn open(&mut self) -> u32 {
+        let (mut cells, mut functions) = self.lend();
+        let plan = self.plan;
+        let said = || format!("open {plan:?}");
+        // SAFETY: separate buffers of these lengths.
+        let number = unsafe {
+            ffi::wallmirror_open(
+                raw(self.plan),
+                cells.pointer(),
+                cells.len(),
+                functions.pointer(),
+                functions.len(),
+            )
+        };
+        match model::open(self.plan, self.cells.len(), self.functions.len()) {
+            Err(refusal) => assert_eq!(number, refusal, "{}", said()),
+            Ok(opened) => {
+                assert_eq!(number, 0, "{}", said());
+                (self.cells, self.functions) = opened;
+            }
+        }
+        cells.expect(&self.cells, "cell table", &said);
+        functions.expect(&self.functions, "function table", &said);
+        number
+    }
+
+    pub fn check(&self) -> u32 {
+        let (mut cells, mut functions) = self.lend();
+        let plan = self.plan;
+        let said = || format!("check {plan:?}");
+        // SAFETY: separate buffers of these lengths.
+        let number = unsafe {
+            ffi::wallmirror_check(
+                raw(self.plan),
+                cells.pointer(),
+                cells.len(),
+                functions.pointer(),
+                functions.len(),
+            )
+        };
+        let expected = model::check(self.plan, &self.cells, &self.functions);
+        assert_eq!(number, expected.err().unwrap_or(0), "{}", said());
+        cells.expect(&self.cells, "cell table", &said);
+        functions.expect(&self.functions, "function table", &said);
+        number
+    }
+
+    pub fn count(&self) -> ffi::Count {
+        let (mut cells, mut functions) = self.lend();
+        let plan = self.plan;
+        let said = || format!("count {plan:?}");
+        // SAFETY: separate buffers of these lengths.
+        let count = unsafe {
+            ffi::wallmirror_count(
+                raw(self.plan),
+                cells.pointer(),
+                cells.len(),
+                functions.pointer(),
+                functions.len(),
+            )
+        };
+        let expected = match model::count(self.plan, &self.cells, &self.functions) {
+            Err(number) => ffi::Count { number, ..ffi::Count::default() },
+            Ok(count) => ffi::Count {
+                number: 0,
+                active_cells: count.active_cells,
+                refined_cells: count.refined_cells,
+                active_functions: count.active_functions,
+                area: count.area,
+            },
+        };
+        assert_eq!(count, expected, "{}", said());
+        cells.expect(&self.cells, "cell table", &said);
+        functions.expect(&self.functions, "function table", &said);
+        count
+    }
+
+    /// Runs one of the four calls with the lists as lent. The tables are then as it left them.
+    pub fn call(
+        &mut self,
+        kind: Kind,
+        marks: &[u32],
+        cell_list: &[u32],
+        function_list: &[u32],
+    ) -> Outcome {
+        let (mut cells, mut functions) = self.lend();
+        let mut lent_marks = Lent::new(marks, 0x1234_5678);
+        let mut cell_lent = Lent::new(cell_list, 0x8765_4321);
+        let mut function_lent = Lent::new(function_list, 0x1357_9bdf);
+        let plan = self.plan;
+        let said = || {
+            let few = &marks[..marks.len().min(40)];
+            format!("{kind:?} {plan:?}, {} marks {few:?}", marks.len())
+        };
+        // SAFETY: separate buffers of these lengths.
+        let answer = unsafe {
+            kind.of_library()(
+                raw(self.plan),
+                cells.pointer(),
+                cells.len(),
+                functions.pointer(),
+                functions.len(),
+                lent_marks.pointer(),
+                lent_marks.len(),
+                cell_lent.pointer(),
+                cell_lent.len(),
+                function_lent.pointer(),
+                function_lent.len(),
+            )
+        };
+        let expected = kind.of_model()(
+            self.plan,
+            &self.cells,
+            &self.functions,
+            marks,
+            cell_list.len(),
+            function_list.len(),
+        );
+        let outcome = match expected {
+            Err(number) => {
+                let refused = ffi::Answer { number, cells: 0, functions: 0 };
+                assert_eq!(answer, refused, "{}", said());
+                Outcome { number, cells: vec![], functions: vec![] }
+            }
+            Ok(change) => {
+                let accepted = ffi::Answer {
+                    number: 0,
+                    cells: change.cell_list.len() as u32,
+                    functions: change.function_list.len() as u32,
+                };
+                assert_eq!(answer, accepted, "{}", said());
+                (self.cells, self.functions) = (change.cells, change.functions);
+                Outcome { number: 0, cells: change.cell_list, functions: change.function_list }
+            }
+        };
+        cells.expect(&self.cells, "cell table", &said);
+        functions.expect(&self.functions, "function table", &said);
+        lent_marks.expect(marks, "marks", &said);
+        cell_lent.expect(&overwritten(cell_list, &outcome.cells), "cell list", &said);
+        function_lent.expect(
+            &overwritten(function_list, &outcome.functions),
+            "function list",
+            &said,
+        );
+        outcome
+    }
+
+    /// The same with lists of T and F entries.
+    pub fn call_with_room(&mut self, kind: Kind, marks: &[u32]) -> Outcome {
+        let cell_list = vec![0xdead_beef; self.cells.len()];
+        let function_list = vec![0xfeed_f00d; self.functions.len()];
+        self.call(kind, marks, &cell_list, &function_list)
+    }
+
+    /// The marks that the call takes, in rising order. For tables that check passes.
+    pub fn markable(&self, kind: Kind) -> Vec<u32> {
+        let mesh = Mesh::new(self.plan, &self.cells, &self.functions).expect("a mesh");
+        let last = self.plan.levels - 1;
+        let cells_where = |test: &dyn Fn(Cell) -> bool| -> Vec<u32> {
+            self.plan.cells().zip(0..).filter(|&(cell, _)| test(cell)).map(|(_, n)| n).collect()
+        };
+        let functions_where = |test: &dyn Fn(Function) -> bool| -> Vec<u32> {
+            self.plan.functions().zip(0..).filter(|&(f, _)| test(f)).map(|(_, n)| n).collect()
+        };
+        match kind {
+            RefineCells => {
+                cells_where(&|cell| cell.level < last && mesh.cell(cell) == model::ACTIVE)
+            }
+            RefineFunctions => {
+                functions_where(&|f| f.level < last && mesh.function(f) == model::ACTIVE)
+            }
+            CoarsenCells => cells_where(&|cell| mesh.is_reactivable(cell)),
+            CoarsenFunctions => functions_where(&|f| {
+                mesh.function(f) == model::DEACTIVATED
+                    && self.plan.support(f).any(|cell| mesh.is_reactivable(cell))
+            }),
+        }
+    }
+}
+
+/// The list with its first entries replaced.
+fn overwritten(list: &[u32], first: &[u32]) -> Vec<u32> {
+    let mut list = list.to_vec();
+    list[..first.len()].copy_from_slice(first);
+    list
+}
+
+/// A call of a run with what it answered.
+pub type Log = Vec<(Kind, Outcome)>;
+
+/// Takes a run back by its cell lists, each lent list longer than needed by `spare` entries of
+/// garbage, and sees that every call is accepted and names what the call it takes back named.
+pub fn undo_by_cells(tables: &mut Tables, log: &Log, spare: usize, random: &mut Random) {
+    for (kind, outcome) in log.iter().rev() {
+        let cell_list = random.numbers(outcome.cells.len() + spare);
+        let function_list = random.numbers(outcome.functions.len() + spare);
+        let undone = tables.call(kind.opposite(), &outcome.cells, &cell_list, &function_list);
+        assert_eq!(undone, Outcome { number: 0, ..outcome.clone() });
+    }
+}
+
+/// The same by function lists, for a run of refinements by functions in class 0.
+pub fn undo_by_functions(tables: &mut Tables, log: &Log, spare: usize, random: &mut Random) {
+    for (kind, outcome) in log.iter().rev() {
+        assert_eq!(*kind, RefineFunctions);
+        let cell_list = random.numbers(outcome.cells.len() + spare);
+        let function_list = random.numbers(outcome.functions.len() + spare);
+        let undone = tables.call(CoarsenFunctions, &outcome.functions, &cell_list, &function_list);
+        assert_eq!(undone, Outcome { number: 0, ..outcome.clone() });
+    }
+}
+
+/// A plan of these degrees and class with at most so many cells on all levels.
+pub fn random_plan(random: &mut Random, degrees: (u32, u32), class: u32, most: usize) -> Plan {
+    loop {
+        // Long and narrow, or square: both, at every number of levels.
+        let widest = random.pick(&[1, 2, 4, 16]);
+        let mut side = || random.below(widest) as u32 + 1;
+        let (columns, rows) = (side(), side());
+        let levels = random.below(8) as u32 + 1;
+        let plan = plan([columns, rows, levels, degrees.0, degrees.1, class]);
+        if plan.cell_total() <= most {
+            return plan;
+        }
+    }
+}
+
+/// Refined cells of an admissible mesh, from nothing to most of it.
+pub fn random_refined(random: &mut Random, plan: Plan) -> BTreeSet<Cell> {
+    let refinable: usize = plan.cells().filter(|cell| cell.level + 1 < plan.levels).count();
+    if refinable == 0 {
+        return BTreeSet::new();
+    }
+    let seeds = random.pick(&[0, 1, 2, 5, refinable / 8, refinable]);
+    let base = (0..seeds).map(|_| plan.cell_at(random.below(refinable))).collect();
+    model::smallest(plan, base)
+}
+
+/// Refined cells of a mesh of class 0 in which each lies in the support of a deactivated function of
+/// its own level: supports of random functions of random levels, cut to the part that qualifies.
+pub fn random_covered(random: &mut Random, plan: Plan) -> BTreeSet<Cell> {
+    let mut base = BTreeSet::new();
+    for level in 0..plan.levels - 1 {
+        let functions: Vec<Function> = plan.functions().filter(|f| f.level == level).collect();
+        for _ in 0..random.pick(&[0, 2, 5, functions.len() / 2]) {
+            base.extend(plan.support(random.pick(&functions)));
+        }
+    }
+    covered_part(plan, model::smallest(plan, base))
+}
+
+/// The largest part of a mesh of class 0 in which each refined cell lies in the support of a
+/// deactivated function of its own level.
+pub fn covered_part(plan: Plan, refined: BTreeSet<Cell>) -> BTreeSet<Cell> {
+    let mut refined = refined;
+    loop {
+        let labels = model::labels(plan, &model::table(plan, &refined));
+        let covered: BTreeSet<Cell> = plan
+            .functions()
+            .zip(&labels)
+            .filter(|&(_, &label)| label == model::DEACTIVATED)
+            .flat_map(|(function, _)| plan.support(function))
+            .collect();
+        // Level by level, so that a cell goes with its parent.
+        let mut kept = BTreeSet::new();
+        for &cell in &refined {
+            let parent_kept = plan.parent(cell).is_none_or(|parent| kept.contains(&parent));
+            if covered.contains(&cell) && parent_kept {
+                kept.insert(cell);
+            }
+        }
+        if kept == refined {
+            return refined;
+        }
+        refined = kept;
+    }
+}

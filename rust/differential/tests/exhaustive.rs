@@ -1,0 +1,170 @@
+//! Small plans without exception: every table, every mesh, every mark.
+
+use differential::{plan, Kind, Tables};
+use model::{Cell, Plan};
+use std::collections::BTreeSet;
+use Kind::*;
+
+/// The refined cells of every mesh of the plan, admissible or not.
+fn all_meshes(plan: Plan) -> Vec<BTreeSet<Cell>> {
+    let mut meshes = vec![BTreeSet::new()];
+    for cell in plan.cells().filter(|cell| cell.level + 1 < plan.levels) {
+        // A cell may be refined where it is present.
+        let refined: Vec<_> = meshes
+            .iter()
+            .filter(|mesh| plan.parent(cell).is_none_or(|parent| mesh.contains(&parent)))
+            .map(|mesh| mesh.iter().copied().chain([cell]).collect())
+            .collect();
+        meshes.extend(refined);
+    }
+    meshes
+}
+
+/// The tables of every admissible mesh of the plan.
+fn all_admissible(plan: Plan) -> impl Iterator<Item = Tables> {
+    all_meshes(plan)
+        .into_iter()
+        .map(move |refined| Tables::with_refined(plan, &refined))
+        .filter(|tables| tables.check() == 0)
+}
+
+#[test]
+fn the_number_of_meshes() {
+    // A cell with n levels below it is active, or refined with four such cells of n-1.
+    assert_eq!(all_meshes(plan([1, 1, 3, 1, 1, 0])).len(), 17);
+    assert_eq!(all_meshes(plan([2, 1, 3, 1, 1, 0])).len(), 17 * 17);
+}
+
+/// Check on every content of a cell table, the labels being those of the open mesh or those that
+/// the cells fix.
+#[test]
+fn every_cell_table() {
+    for numbers in [[1, 1, 2, 1, 1, 0], [1, 1, 2, 2, 1, 2], [2, 1, 2, 1, 2, 2]] {
+        let opened = Tables::opened(plan(numbers));
+        let bytes: u32 = if opened.cells.len() <= 5 { 4 } else { 3 };
+        let (mut accepted, mut refused) = (0, 0);
+        for code in 0..bytes.pow(opened.cells.len() as u32) {
+            let mut tables = opened.clone();
+            for (i, cell) in tables.cells.iter_mut().enumerate() {
+                *cell = (code / bytes.pow(i as u32) % bytes) as u8;
+            }
+            tables.check();
+            tables.functions = model::labels(tables.plan, &tables.cells);
+            *if tables.check() == 0 { &mut accepted } else { &mut refused } += 1;
+        }
+        assert_eq!(accepted, all_meshes(plan(numbers)).len());
+        assert!(refused > accepted);
+    }
+}
+
+/// Check and count with every single byte of both tables of every admissible mesh changed.
+#[test]
+fn every_byte_changed() {
+    for numbers in [[1, 1, 3, 1, 1, 2], [2, 1, 2, 2, 1, 2], [1, 2, 2, 3, 4, 0]] {
+        for tables in all_admissible(plan(numbers)) {
+            for byte in [0, 1, 2, 3, 255] {
+                for number in 0..tables.cells.len() {
+                    let mut changed = tables.clone();
+                    changed.cells[number] = byte;
+                    assert_eq!(changed.check(), if changed == tables { 0 } else { 4 });
+                    assert_eq!(changed.count().number, changed.check());
+                }
+                for number in 0..tables.functions.len() {
+                    let mut changed = tables.clone();
+                    changed.functions[number] = byte;
+                    assert_eq!(changed.check(), if changed == tables { 0 } else { 6 });
+                    assert_eq!(changed.count().number, changed.check());
+                }
+            }
+        }
+    }
+}
+
+/// Every call with every single mark, in range and just out of it, on every admissible mesh.
+#[test]
+fn every_mark_on_every_mesh() {
+    for numbers in [[2, 1, 3, 1, 1, 0], [2, 1, 3, 1, 1, 2], [1, 2, 3, 2, 1, 2], [1, 1, 3, 3, 4, 3]]
+    {
+        for mesh in all_admissible(plan(numbers)) {
+            for kind in Kind::ALL {
+                let by_functions = kind.by_functions();
+                let total = if by_functions { mesh.functions.len() } else { mesh.cells.len() };
+                for mark in 0..=total as u32 {
+                    mesh.clone().call_with_room(kind, &[mark]);
+                }
+            }
+        }
+    }
+}
+
+/// Every call with every set of marks that it takes, on every admissible mesh, of the first seven where
+/// there are more.
+#[test]
+fn every_set_of_marks() {
+    for numbers in [[1, 1, 3, 1, 1, 0], [1, 1, 3, 2, 1, 2], [3, 1, 2, 1, 1, 2], [2, 2, 2, 2, 2, 0]]
+    {
+        for mesh in all_admissible(plan(numbers)) {
+            for kind in Kind::ALL {
+                let mut markable = mesh.markable(kind);
+                markable.truncate(7);
+                for chosen in 0..1u32 << markable.len() {
+                    let marks: Vec<u32> = (0..markable.len())
+                        .filter(|i| chosen >> i & 1 == 1)
+                        .map(|i| markable[i])
+                        .collect();
+                    let outcome = mesh.clone().call_with_room(kind, &marks);
+                    assert_eq!(outcome.number, 0);
+                }
+            }
+        }
+    }
+}
+
+/// "Smallest" word for word, with no use of the model's way to it: of all admissible meshes that
+/// have the base refined, the result is one, and every other contains it.
+#[test]
+fn smallest_of_all_meshes() {
+    for (numbers, every) in [
+        ([3, 1, 3, 1, 1, 0], 40),
+        ([3, 1, 3, 1, 1, 2], 10),
+        ([3, 1, 3, 2, 1, 2], 10),
+        ([1, 3, 3, 1, 1, 2], 10),
+        ([1, 1, 4, 1, 1, 2], 200),
+        ([1, 1, 4, 1, 1, 3], 2000),
+    ] {
+        let plan = plan(numbers);
+        let refinable: Vec<Cell> = plan.cells().filter(|c| c.level + 1 < plan.levels).collect();
+        let bits = |mesh: &BTreeSet<Cell>| -> u32 {
+            mesh.iter().map(|cell| 1 << refinable.binary_search(cell).unwrap()).sum()
+        };
+        let admissible: Vec<u32> = all_meshes(plan)
+            .iter()
+            .filter(|mesh| model::is_admissible(plan, &model::table(plan, mesh)))
+            .map(bits)
+            .collect();
+        let smallest = |base: u32| {
+            let holding = admissible.iter().filter(|&&mesh| mesh & base == base);
+            let common = holding.fold(u32::MAX, |common, mesh| common & mesh);
+            assert!(admissible.contains(&common));
+            common
+        };
+        for &before in admissible.iter().step_by(every) {
+            let refined = (0..refinable.len()).filter(|i| before >> i & 1 == 1);
+            let refined = refined.map(|i| refinable[i]).collect();
+            let mesh = Tables::with_refined(plan, &refined);
+            for kind in [RefineCells, CoarsenCells] {
+                let markable = mesh.markable(kind);
+                let each = markable.iter().map(|&mark| vec![mark]);
+                let pairs = markable.windows(2).map(|pair| pair.to_vec());
+                for marks in each.chain(pairs).chain([markable.clone()]) {
+                    let mut tables = mesh.clone();
+                    tables.call_with_room(kind, &marks);
+                    let marked: u32 = marks.iter().map(|&mark| 1 << mark).sum();
+                    let base = if kind.refines() { before | marked } else { before & !marked };
+                    let after = bits(&model::refined_cells(plan, &tables.cells));
+                    assert_eq!(after, smallest(base), "{kind:?} {marks:?} {numbers:?}");
+                }
+            }
+        }
+    }
+}

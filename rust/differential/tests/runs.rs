@@ -1,0 +1,166 @@
+//! Runs of dozens of calls, refused ones among them, and each run undone as a whole.
+
+use differential::{
+    random_covered, random_plan, random_refined, undo_by_cells, undo_by_functions, Kind, Log,
+    Random, Tables,
+};
+use Kind::*;
+
+/// Marks for a call: mostly ones that it takes, sometimes others among them, sometimes none.
+fn marks(random: &mut Random, tables: &Tables, kind: Kind) -> Vec<u32> {
+    let markable = tables.markable(kind);
+    let mut marks = vec![];
+    if !markable.is_empty() {
+        let many = random.pick(&[0, 1, 1, 1, 2, 4, markable.len() / 3, markable.len()]);
+        marks = (0..many).map(|_| random.pick(&markable)).collect();
+        if many == markable.len() && random.once_in(2) {
+            marks = markable;
+            random.shuffle(&mut marks);
+        }
+    }
+    if random.once_in(8) {
+        let total = if kind.by_functions() { tables.functions.len() } else { tables.cells.len() };
+        marks.insert(random.below(marks.len() + 1), random.below(total + 2) as u32);
+    }
+    marks
+}
+
+/// One call of a run, with lists of any length.
+fn step(random: &mut Random, tables: &mut Tables, kind: Kind, log: &mut Log) {
+    let marks = marks(random, tables, kind);
+    let mut room = |total: usize| match random.below(6) {
+        0 => random.below(total / 4 + 2),
+        1 => total + random.below(9),
+        _ => total,
+    };
+    let (cell_room, function_room) = (room(tables.cells.len()), room(tables.functions.len()));
+    let (cell_list, function_list) = (random.numbers(cell_room), random.numbers(function_room));
+    log.push((kind, tables.call(kind, &marks, &cell_list, &function_list)));
+}
+
+fn start(random: &mut Random, plan: model::Plan) -> Tables {
+    let refined = random_refined(random, plan);
+    Tables::with_refined(plan, &refined)
+}
+
+/// Runs of all four calls, from fresh and from other meshes, undone by cells: once with lists of
+/// exactly the needed length and once with longer ones.
+fn runs_undone_by_cells(class: u32, seed: u64) {
+    let mut random = Random::new(seed);
+    let (mut accepted, mut refused, mut changed) = (0, 0, 0);
+    for degree_across in 1..=4 {
+        for degree_up in 1..=4 {
+            for most in [100, 400, 1500] {
+                let plan = random_plan(&mut random, (degree_across, degree_up), class, most);
+                let first =
+                    if random.once_in(2) { Tables::opened(plan) } else { start(&mut random, plan) };
+                let mut tables = first.clone();
+                let mut log = Log::new();
+                for _ in 0..random.below(50) + 10 {
+                    // More refining than coarsening, so that there is something to coarsen.
+                    let kind = random.pick(&[
+                        RefineCells,
+                        RefineCells,
+                        RefineFunctions,
+                        CoarsenCells,
+                        CoarsenFunctions,
+                    ]);
+                    step(&mut random, &mut tables, kind, &mut log);
+                    if random.once_in(8) {
+                        assert_eq!(tables.check(), 0);
+                        let count = tables.count();
+                        let area = plan.columns * plan.rows * 4u32.pow(plan.levels - 1);
+                        assert_eq!(count.area, area);
+                    }
+                }
+                for (_, outcome) in &log {
+                    *if outcome.number == 0 { &mut accepted } else { &mut refused } += 1;
+                    changed += outcome.cells.len();
+                }
+                let mut again = tables.clone();
+                undo_by_cells(&mut tables, &log, 0, &mut random);
+                assert_eq!(tables, first);
+                undo_by_cells(&mut again, &log, 3, &mut random);
+                assert_eq!(again, first);
+            }
+        }
+    }
+    // Runs that change nothing would show nothing.
+    assert!(accepted > 500 && refused > 100 && changed > 1000, "{accepted} {refused} {changed}");
+}
+
+macro_rules! by_cells {
+    ($($name:ident $class:literal)*) => {
+        $(#[test]
+        fn $name() {
+            runs_undone_by_cells($class, 100 + $class);
+        })*
+    };
+}
+
+by_cells! {
+    class_0_undone_by_cells 0
+    class_2_undone_by_cells 2
+    class_3_undone_by_cells 3
+    class_4_undone_by_cells 4
+    class_5_undone_by_cells 5
+    class_6_undone_by_cells 6
+    class_7_undone_by_cells 7
+    class_8_undone_by_cells 8
+}
+
+/// Runs of refinements by functions in class 0, from meshes in which each refined cell lies in the
+/// support of a deactivated function of its own level, undone by functions and by cells.
+#[test]
+fn class_0_undone_by_functions() {
+    let mut random = Random::new(200);
+    let (mut accepted, mut refused, mut changed, mut started) = (0, 0, 0, 0);
+    for degree_across in 1..=4 {
+        for degree_up in 1..=4 {
+            for most in [100, 400, 1500, 100, 400, 1500] {
+                let plan = random_plan(&mut random, (degree_across, degree_up), 0, most);
+                let refined = random_covered(&mut random, plan);
+                started += refined.len();
+                let first = Tables::with_refined(plan, &refined);
+                let mut tables = first.clone();
+                let mut log = Log::new();
+                for _ in 0..random.below(40) + 5 {
+                    step(&mut random, &mut tables, RefineFunctions, &mut log);
+                }
+                for (_, outcome) in &log {
+                    *if outcome.number == 0 { &mut accepted } else { &mut refused } += 1;
+                    changed += outcome.cells.len();
+                }
+                let last = tables.clone();
+                for spare in [0, 5] {
+                    tables = last.clone();
+                    undo_by_functions(&mut tables, &log, spare, &mut random);
+                    assert_eq!(tables, first);
+                }
+                tables = last;
+                undo_by_cells(&mut tables, &log, 0, &mut random);
+                assert_eq!(tables, first);
+            }
+        }
+    }
+    assert!(accepted > 500 && refused > 100 && changed > 1000, "{accepted} {refused} {changed}");
+    assert!(started > 1000, "{started}");
+}
+
+/// A long run on one mesh: hundreds of calls, many of them taking back what others did.
+#[test]
+fn a_long_run_undone() {
+    for (class, seed) in [(0, 300), (2, 301), (3, 302)] {
+        let mut random = Random::new(seed);
+        let plan = differential::plan([4, 3, 4, 2, 1, class]);
+        let first = Tables::opened(plan);
+        let mut tables = first.clone();
+        let mut log = Log::new();
+        for _ in 0..400 {
+            let kind = random.pick(&Kind::ALL);
+            step(&mut random, &mut tables, kind, &mut log);
+        }
+        undo_by_cells(&mut tables, &log, 0, &mut random);
+        assert_eq!(tables, first);
+    }
+}

@@ -1,0 +1,543 @@
+//! A model of the library, written from the definitions alone and sharing nothing with it.
+//!
+//! It restates the words: meshes are sets of refined cells, "smallest" is adding what is missing
+//! until nothing is, and every label is read off the cells of the support. Nothing is tuned beyond
+//! walking a rectangle instead of searching all cells for it.
+//!
+//! The calls are pure: a refusal is `Err` with its number, and an accepted call answers the new
+//! tables and the two lists. The terms are those of the literature; the scope document calls a mesh
+//! a wall, refining and coarsening splitting and joining, admissible graded, reactivable joinable.
+
+use std::collections::BTreeSet;
+use std::ops::RangeInclusive;
+
+#[derive(Clone, Copy, Debug, PartialEq, Eq)]
+pub struct Plan {
+    pub columns: u32,
+    pub rows: u32,
+    pub levels: u32,
+    pub degree_across: u32,
+    pub degree_up: u32,
+    pub class: u32,
+}
+
+/// A cell by its place. The order of the fields makes the order of places that of the numbers.
+#[derive(Clone, Copy, Debug, PartialEq, Eq, PartialOrd, Ord)]
+pub struct Cell {
+    pub level: u32,
+    pub row: u32,
+    pub column: u32,
+}
+
+/// A function by its place, ordered as its number.
+#[derive(Clone, Copy, Debug, PartialEq, Eq, PartialOrd, Ord)]
+pub struct Function {
+    pub level: u32,
+    pub row: u32,
+    pub column: u32,
+}
+
+#[derive(Clone, Copy, Debug, Default, PartialEq, Eq)]
+pub struct Count {
+    pub active_cells: u32,
+    pub refined_cells: u32,
+    pub active_functions: u32,
+    pub area: u32,
+}
+
+/// What an accepted refining or coarsening call makes.
+#[derive(Clone, Debug, PartialEq, Eq)]
+pub struct Change {
+    pub cells: Vec<u8>,
+    pub functions: Vec<u8>,
+    pub cell_list: Vec<u32>,
+    pub function_list: Vec<u32>,
+}
+
+pub const ABSENT: u8 = 0;
+pub const PASSIVE: u8 = 0;
+pub const ACTIVE: u8 = 1;
+pub const REFINED: u8 = 2;
+pub const DEACTIVATED: u8 = 2;
+
+// ---- The plan ----
+
+impl Plan {
+    /// Cells across on a level.
+    fn width(self, level: u32) -> u32 {
+        self.columns * 2u32.pow(level)
+    }
+
+    /// Cells up on a level.
+    fn height(self, level: u32) -> u32 {
+        self.rows * 2u32.pow(level)
+    }
+
+    /// All cells of all levels in the order of their numbers.
+    pub fn cells(self) -> impl Iterator<Item = Cell> {
+        (0..self.levels).flat_map(move |level| {
+            (0..self.height(level)).flat_map(move |row| {
+                (0..self.width(level)).map(move |column| Cell { level, row, column })
+            })
+        })
+    }
+
+    /// All functions of all levels in the order of their numbers.
+    pub fn functions(self) -> impl Iterator<Item = Function> {
+        (0..self.levels).flat_map(move |level| {
+            (0..self.height(level) + self.degree_up).flat_map(move |row| {
+                (0..self.width(level) + self.degree_across).map(move |column| Function {
+                    level,
+                    row,
+                    column,
+                })
+            })
+        })
+    }
+
+    /// T, the number of cells of all levels. For a plan in range.
+    pub fn cell_total(self) -> usize {
+        self.cells_before(self.levels)
+    }
+
+    /// A·B·(4^k - 1)/3, the number of cells of the levels before k.
+    fn cells_before(self, level: u32) -> usize {
+        self.columns as usize * self.rows as usize * (4usize.pow(level) - 1) / 3
+    }
+
+    /// F, the number of functions of all levels. For a plan in range.
+    pub fn function_total(self) -> usize {
+        (0..self.levels).map(|level| self.functions_of_level(level)).sum()
+    }
+
+    fn functions_of_level(self, level: u32) -> usize {
+        let across = self.width(level) + self.degree_across;
+        let up = self.height(level) + self.degree_up;
+        across as usize * up as usize
+    }
+
+    pub fn cell_number(self, cell: Cell) -> usize {
+        self.cells_before(cell.level)
+            + cell.row as usize * self.width(cell.level) as usize
+            + cell.column as usize
+    }
+
+    pub fn function_number(self, function: Function) -> usize {
+        let before: usize = (0..function.level).map(|level| self.functions_of_level(level)).sum();
+        let across = (self.width(function.level) + self.degree_across) as usize;
+        before + function.row as usize * across + function.column as usize
+    }
+
+    /// The cell with that number, which is to be below T.
+    pub fn cell_at(self, number: usize) -> Cell {
+        let mut level = 0;
+        while number >= self.cells_before(level + 1) {
+            level += 1;
+        }
+        let rest = number - self.cells_before(level);
+        let width = self.width(level) as usize;
+        Cell { level, row: (rest / width) as u32, column: (rest % width) as u32 }
+    }
+
+    /// The function with that number, which is to be below F.
+    pub fn function_at(self, number: usize) -> Function {
+        let mut rest = number;
+        let mut level = 0;
+        while rest >= self.functions_of_level(level) {
+            rest -= self.functions_of_level(level);
+            level += 1;
+        }
+        let across = (self.width(level) + self.degree_across) as usize;
+        Function { level, row: (rest / across) as u32, column: (rest % across) as u32 }
+    }
+
+    pub fn children(self, cell: Cell) -> [Cell; 4] {
+        let (level, row, column) = (cell.level + 1, 2 * cell.row, 2 * cell.column);
+        [(0, 0), (0, 1), (1, 0), (1, 1)].map(|(up, across)| Cell {
+            level,
+            row: row + up,
+            column: column + across,
+        })
+    }
+
+    pub fn parent(self, cell: Cell) -> Option<Cell> {
+        let level = cell.level.checked_sub(1)?;
+        Some(Cell { level, row: cell.row / 2, column: cell.column / 2 })
+    }
+
+    /// The cells of the function's own level that it covers.
+    pub fn support(self, function: Function) -> impl Iterator<Item = Cell> {
+        let level = function.level;
+        let rows = covered(function.row, self.degree_up, self.height(level));
+        let columns = covered(function.column, self.degree_across, self.width(level));
+        rows.flat_map(move |row| columns.clone().map(move |column| Cell { level, row, column }))
+    }
+
+    /// The cells that must be refined where this one, of level j, is: those of level j-m+1 whose
+    /// column differs by at most p, and row by at most q, from those of its ancestor there.
+    pub fn neighbourhood(self, cell: Cell) -> Vec<Cell> {
+        if self.class == 0 || cell.level + 1 < self.class {
+            return Vec::new();
+        }
+        let ancestor = self.ancestor(cell, self.class - 1);
+        let level = ancestor.level;
+        let rows = at_most_apart(ancestor.row, self.degree_up, self.height(level));
+        let columns = at_most_apart(ancestor.column, self.degree_across, self.width(level));
+        rows.flat_map(|row| columns.clone().map(move |column| Cell { level, row, column }))
+            .collect()
+    }
+
+    fn ancestor(self, cell: Cell, levels_up: u32) -> Cell {
+        (0..levels_up).fold(cell, |cell, _| self.parent(cell).expect("a level above"))
+    }
+}
+
+/// In one direction: function i of the given degree covers max(0, i-degree) to min(n-1, i).
+fn covered(i: u32, degree: u32, n: u32) -> RangeInclusive<u32> {
+    i.saturating_sub(degree)..=i.min(n - 1)
+}
+
+/// In one direction: the places of 0 to n-1 that differ from x by at most d.
+fn at_most_apart(x: u32, d: u32, n: u32) -> RangeInclusive<u32> {
+    x.saturating_sub(d)..=(x + d).min(n - 1)
+}
+
+// ---- The two tables ----
+
+fn refuse_sizes(plan: Plan, cells: usize, functions: usize) -> Result<(), u32> {
+    let in_range = (1..=16).contains(&plan.columns)
+        && (1..=16).contains(&plan.rows)
+        && (1..=8).contains(&plan.levels)
+        && (1..=4).contains(&plan.degree_across)
+        && (1..=4).contains(&plan.degree_up)
+        && (plan.class == 0 || (2..=8).contains(&plan.class));
+    if !in_range {
+        return Err(1);
+    }
+    if plan.cell_total() > 21_845 {
+        return Err(2);
+    }
+    if cells != plan.cell_total() || functions != plan.function_total() {
+        return Err(3);
+    }
+    Ok(())
+}
+
+/// Whether the bytes, T of them, are a mesh.
+pub fn is_mesh(plan: Plan, cells: &[u8]) -> bool {
+    let byte = |cell| cells[plan.cell_number(cell)];
+    let last = plan.levels - 1;
+    cells.iter().all(|&byte| matches!(byte, ABSENT | ACTIVE | REFINED))
+        && plan.cells().all(|cell| cell.level != 0 || byte(cell) != ABSENT)
+        && plan.cells().all(|cell| cell.level != last || byte(cell) != REFINED)
+        && plan.cells().filter(|cell| cell.level != last).all(|cell| {
+            let mut children = plan.children(cell).into_iter();
+            match byte(cell) {
+                REFINED => children.all(|child| byte(child) != ABSENT),
+                _ => children.all(|child| byte(child) == ABSENT),
+            }
+        })
+}
+
+/// Whether every refined cell has its neighbourhood refined.
+pub fn is_admissible(plan: Plan, cells: &[u8]) -> bool {
+    let refined = |cell| cells[plan.cell_number(cell)] == REFINED;
+    plan.cells()
+        .filter(|&cell| refined(cell))
+        .all(|cell| plan.neighbourhood(cell).into_iter().all(refined))
+}
+
+/// The function table that the cell table fixes.
+pub fn labels(plan: Plan, cells: &[u8]) -> Vec<u8> {
+    let byte = |cell| cells[plan.cell_number(cell)];
+    plan.functions()
+        .map(|function| {
+            if plan.support(function).any(|cell| byte(cell) == ABSENT) {
+                PASSIVE
+            } else if plan.support(function).all(|cell| byte(cell) == REFINED) {
+                DEACTIVATED
+            } else {
+                ACTIVE
+            }
+        })
+        .collect()
+}
+
+/// The refined cells of a cell table.
+pub fn refined_cells(plan: Plan, cells: &[u8]) -> BTreeSet<Cell> {
+    plan.cells().filter(|&cell| cells[plan.cell_number(cell)] == REFINED).collect()
+}
+
+/// The cell table of the mesh with these refined cells: others are present where they are of level 0
+/// or have a refined parent.
+pub fn table(plan: Plan, refined: &BTreeSet<Cell>) -> Vec<u8> {
+    plan.cells()
+        .map(|cell| {
+            if refined.contains(&cell) {
+                REFINED
+            } else if plan.parent(cell).is_none_or(|parent| refined.contains(&parent)) {
+                ACTIVE
+            } else {
+                ABSENT
+            }
+        })
+        .collect()
+}
+
+/// The refined cells of the smallest admissible mesh in which these are refined: whatever a refined
+/// cell asks for (its parent, for it is present; its neighbourhood) is added until nothing is missing.
+pub fn smallest(plan: Plan, base: BTreeSet<Cell>) -> BTreeSet<Cell> {
+    let mut refined = base;
+    loop {
+        let missing: Vec<Cell> = refined
+            .iter()
+            .flat_map(|&cell| plan.parent(cell).into_iter().chain(plan.neighbourhood(cell)))
+            .filter(|cell| !refined.contains(cell))
+            .collect();
+        if missing.is_empty() {
+            return refined;
+        }
+        refined.extend(missing);
+    }
+}
+
+// ---- The calls ----
+
+/// Both tables of the coarsest mesh.
+pub fn open(plan: Plan, cells: usize, functions: usize) -> Result<(Vec<u8>, Vec<u8>), u32> {
+    refuse_sizes(plan, cells, functions)?;
+    let first = |level| if level == 0 { 1 } else { 0 };
+    Ok((
+        plan.cells().map(|cell| first(cell.level)).collect(),
+        plan.functions().map(|function| first(function.level)).collect(),
+    ))
+}
+
+pub fn check(plan: Plan, cells: &[u8], functions: &[u8]) -> Result<(), u32> {
+    refuse_sizes(plan, cells.len(), functions.len())?;
+    if !is_mesh(plan, cells) {
+        return Err(4);
+    }
+    if !is_admissible(plan, cells) {
+        return Err(5);
+    }
+    if labels(plan, cells) != functions {
+        return Err(6);
+    }
+    Ok(())
+}
+
+pub fn count(plan: Plan, cells: &[u8], functions: &[u8]) -> Result<Count, u32> {
+    check(plan, cells, functions)?;
+    let mut count = Count::default();
+    for (cell, &byte) in plan.cells().zip(cells) {
+        match byte {
+            ACTIVE => {
+                count.active_cells += 1;
+                count.area += 4u32.pow(plan.levels - 1 - cell.level);
+            }
+            REFINED => count.refined_cells += 1,
+            _ => {}
+        }
+    }
+    count.active_functions = functions.iter().filter(|&&byte| byte == ACTIVE).count() as u32;
+    Ok(count)
+}
+
+/// A mesh that check passes, with what the calls say of its cells and functions.
+pub struct Mesh<'a> {
+    plan: Plan,
+    cells: &'a [u8],
+    functions: &'a [u8],
+}
+
+impl<'a> Mesh<'a> {
+    pub fn new(plan: Plan, cells: &'a [u8], functions: &'a [u8]) -> Result<Self, u32> {
+        check(plan, cells, functions)?;
+        Ok(Mesh { plan, cells, functions })
+    }
+
+    pub fn cell(&self, cell: Cell) -> u8 {
+        self.cells[self.plan.cell_number(cell)]
+    }
+
+    pub fn function(&self, function: Function) -> u8 {
+        self.functions[self.plan.function_number(function)]
+    }
+
+    /// Refined, with four active children.
+    pub fn is_reactivable(&self, cell: Cell) -> bool {
+        self.cell(cell) == REFINED
+            && self.plan.children(cell).into_iter().all(|child| self.cell(child) == ACTIVE)
+    }
+
+    /// The marked cells, where each is of the kind named and, if the last level is refused, above it.
+    fn cell_marks(
+        &self,
+        marks: &[u32],
+        of_kind: impl Fn(Cell) -> bool,
+        last_level_refused: bool,
+    ) -> Result<BTreeSet<Cell>, u32> {
+        let mut marked = BTreeSet::new();
+        for &mark in marks {
+            if mark as usize >= self.cells.len() {
+                return Err(7);
+            }
+            let cell = self.plan.cell_at(mark as usize);
+            if !of_kind(cell) {
+                return Err(8);
+            }
+            if last_level_refused && cell.level == self.plan.levels - 1 {
+                return Err(9);
+            }
+            marked.insert(cell);
+        }
+        Ok(marked)
+    }
+
+    /// The marked functions, likewise.
+    fn function_marks(
+        &self,
+        marks: &[u32],
+        of_kind: impl Fn(Function) -> bool,
+        last_level_refused: bool,
+    ) -> Result<BTreeSet<Function>, u32> {
+        let mut marked = BTreeSet::new();
+        for &mark in marks {
+            if mark as usize >= self.functions.len() {
+                return Err(7);
+            }
+            let function = self.plan.function_at(mark as usize);
+            if !of_kind(function) {
+                return Err(8);
+            }
+            if last_level_refused && function.level == self.plan.levels - 1 {
+                return Err(9);
+            }
+            marked.insert(function);
+        }
+        Ok(marked)
+    }
+
+    fn refine(
+        &self,
+        marked: BTreeSet<Cell>,
+        cell_room: usize,
+        function_room: usize,
+    ) -> Result<Change, u32> {
+        let mut base = refined_cells(self.plan, self.cells);
+        base.extend(marked);
+        let cells = table(self.plan, &smallest(self.plan, base));
+        let functions = labels(self.plan, &cells);
+        let cell_list = only_in_second(self.cells, &cells, REFINED);
+        let function_list = only_in_second(self.functions, &functions, DEACTIVATED);
+        fit(Change { cells, functions, cell_list, function_list }, cell_room, function_room)
+    }
+
+    fn coarsen(
+        &self,
+        marked: BTreeSet<Cell>,
+        cell_room: usize,
+        function_room: usize,
+    ) -> Result<Change, u32> {
+        let base = &refined_cells(self.plan, self.cells) - &marked;
+        let cells = table(self.plan, &smallest(self.plan, base));
+        let functions = labels(self.plan, &cells);
+        let cell_list = only_in_second(&cells, self.cells, REFINED);
+        let function_list = only_in_second(&functions, self.functions, DEACTIVATED);
+        fit(Change { cells, functions, cell_list, function_list }, cell_room, function_room)
+    }
+}
+
+/// The numbers whose byte is the given one in the second table and not in the first, rising.
+fn only_in_second(first: &[u8], second: &[u8], byte: u8) -> Vec<u32> {
+    (0..first.len())
+        .filter(|&number| first[number] != byte && second[number] == byte)
+        .map(|number| number as u32)
+        .collect()
+}
+
+fn fit(change: Change, cell_room: usize, function_room: usize) -> Result<Change, u32> {
+    if cell_room < change.cell_list.len() {
+        return Err(10);
+    }
+    if function_room < change.function_list.len() {
+        return Err(11);
+    }
+    Ok(change)
+}
+
+/// The shape of the four calls: plan, cells, functions, marks, entries of the cell list, entries of
+/// the function list.
+pub type Call = fn(Plan, &[u8], &[u8], &[u32], usize, usize) -> Result<Change, u32>;
+
+pub fn refine_cells(
+    plan: Plan,
+    cells: &[u8],
+    functions: &[u8],
+    marks: &[u32],
+    cell_room: usize,
+    function_room: usize,
+) -> Result<Change, u32> {
+    let mesh = Mesh::new(plan, cells, functions)?;
+    let marked = mesh.cell_marks(marks, |cell| mesh.cell(cell) == ACTIVE, true)?;
+    mesh.refine(marked, cell_room, function_room)
+}
+
+pub fn refine_functions(
+    plan: Plan,
+    cells: &[u8],
+    functions: &[u8],
+    marks: &[u32],
+    cell_room: usize,
+    function_room: usize,
+) -> Result<Change, u32> {
+    let mesh = Mesh::new(plan, cells, functions)?;
+    let marked = mesh.function_marks(marks, |f| mesh.function(f) == ACTIVE, true)?;
+    let meant = marked
+        .into_iter()
+        .flat_map(|function| plan.support(function))
+        .filter(|&cell| mesh.cell(cell) == ACTIVE)
+        .collect();
+    mesh.refine(meant, cell_room, function_room)
+}
+
+pub fn coarsen_cells(
+    plan: Plan,
+    cells: &[u8],
+    functions: &[u8],
+    marks: &[u32],
+    cell_room: usize,
+    function_room: usize,
+) -> Result<Change, u32> {
+    let mesh = Mesh::new(plan, cells, functions)?;
+    let marked = mesh.cell_marks(marks, |cell| mesh.is_reactivable(cell), false)?;
+    mesh.coarsen(marked, cell_room, function_room)
+}
+
+pub fn coarsen_functions(
+    plan: Plan,
+    cells: &[u8],
+    functions: &[u8],
+    marks: &[u32],
+    cell_room: usize,
+    function_room: usize,
+) -> Result<Change, u32> {
+    let mesh = Mesh::new(plan, cells, functions)?;
+    let of_kind = |function| {
+        mesh.function(function) == DEACTIVATED
+            && plan.support(function).any(|cell| mesh.is_reactivable(cell))
+    };
+    let marked = mesh.function_marks(marks, of_kind, false)?;
+    let under_unmarked: BTreeSet<Cell> = plan
+        .functions()
+        .filter(|&f| mesh.function(f) == DEACTIVATED && !marked.contains(&f))
+        .flat_map(|function| plan.support(function))
+        .collect();
+    let meant = marked
+        .into_iter()
+        .flat_map(|function| plan.support(function))
+        .filter(|&cell| mesh.is_reactivable(cell) && !under_unmarked.contains(&cell))
+        .collect();
+    mesh.coarsen(meant, cell_room, function_room)
+}

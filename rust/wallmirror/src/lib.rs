@@ -1,0 +1,504 @@
+//! Refining and coarsening hierarchical spline meshes.
+//!
+//! A mesh is two tables of bytes that the caller owns: one byte for each cell of each level (0
+//! absent, 1 active, 2 refined) and one for each function of each level (0 passive, 1 active, 2
+//! deactivated). [`Plan`] gives their lengths. Every call takes any plan, tables and marks; what it
+//! cannot serve it refuses with a [`Refusal`], and then tables and lists hold what they held before.
+//!
+//! In the words of the scope document a mesh is a wall, refining and coarsening are splitting and
+//! joining, admissible of class m is graded, and reactivable is joinable.
+//!
+//! ```
+//! use wallmirror::{open, refine_cells, Cell, Function, Plan};
+//!
+//! let plan = Plan { columns: 3, rows: 1, levels: 3, degree_across: 1, degree_up: 1, class: 2 };
+//! let (t, f) = (plan.cells().unwrap(), plan.functions().unwrap());
+//! let (mut cells, mut functions) = (vec![0; t], vec![0; f]);
+//! let (mut cell_list, mut function_list) = (vec![Cell(0); t], vec![Function(0); f]);
+//! open(plan, &mut cells, &mut functions)?;
+//! refine_cells(plan, &mut cells, &mut functions, &[Cell(0)], &mut cell_list, &mut function_list)?;
+//! let changed = refine_cells(
+//!     plan, &mut cells, &mut functions, &[Cell(3)], &mut cell_list, &mut function_list,
+//! )?;
+//! // Cell 1 became refined too, because the mesh has to stay admissible.
+//! assert_eq!(cell_list[..changed.cells], [Cell(1), Cell(3)]);
+//! assert_eq!(function_list[..changed.functions], [Function(1), Function(5), Function(8)]);
+//! # Ok::<(), wallmirror::Refusal>(())
+//! ```
+//!
+//! A run of calls is undone by its own cell lists, given from the last to the first, each to the
+//! opposite call by cells:
+//!
+//! ```
+//! # use wallmirror::{coarsen_cells, open, refine_functions, Cell, Function, Plan};
+//! # let plan = Plan { columns: 3, rows: 1, levels: 3, degree_across: 1, degree_up: 1, class: 0 };
+//! # let (mut cells, mut functions) = (vec![0; 63], vec![0; 94]);
+//! # let (mut cell_list, mut function_list) = ([Cell(0); 63], [Function(0); 94]);
+//! # open(plan, &mut cells, &mut functions)?;
+//! let before = (cells.clone(), functions.clone());
+//! let changed = refine_functions(
+//!     plan, &mut cells, &mut functions, &[Function(1)], &mut cell_list, &mut function_list,
+//! )?;
+//! let marks = cell_list[..changed.cells].to_vec();
+//! let undone = coarsen_cells(
+//!     plan, &mut cells, &mut functions, &marks, &mut cell_list, &mut function_list,
+//! )?;
+//! assert_eq!(undone, changed);
+//! assert_eq!((cells, functions), before);
+//! # Ok::<(), wallmirror::Refusal>(())
+//! ```
+
+use std::fmt;
+
+pub mod ffi;
+
+/// The examples of the documentation, run with the others.
+#[cfg(doctest)]
+#[doc = include_str!("../../../docs/RUST_AND_C.md")]
+pub struct Documentation;
+
+/// The plan of a mesh. Any numbers may stand in it; the calls refuse those out of range.
+#[derive(Clone, Copy, Debug, PartialEq, Eq, Hash)]
+pub struct Plan {
+    /// Columns of level 0, 1 to 16.
+    pub columns: u32,
+    /// Rows of level 0, 1 to 16.
+    pub rows: u32,
+    /// 1 to 8. Each level halves the cells of the one before.
+    pub levels: u32,
+    /// 1 to 4.
+    pub degree_across: u32,
+    /// 1 to 4.
+    pub degree_up: u32,
+    /// Class of admissibility, 2 to 8, or 0: every mesh is admissible.
+    pub class: u32,
+}
+
+/// The most cells that a mesh may have on all levels together.
+pub const MAX_CELLS: usize = 21_845;
+
+/// The most functions that a mesh of at most [`MAX_CELLS`] cells has.
+pub const MAX_FUNCTIONS: usize = 26_220;
+
+impl Plan {
+    /// The length of the cell table, and the most entries that a cell list needs. `None` for a plan
+    /// that is out of range or has more than [`MAX_CELLS`] cells.
+    ///
+    /// ```
+    /// # use wallmirror::Plan;
+    /// let plan = Plan { columns: 3, rows: 1, levels: 3, degree_across: 1, degree_up: 1, class: 2 };
+    /// assert_eq!(plan.cells(), Some(63));
+    /// assert_eq!(plan.functions(), Some(94));
+    /// assert_eq!(Plan { columns: 17, ..plan }.cells(), None);
+    /// ```
+    pub fn cells(self) -> Option<usize> {
+        let in_range = (1..=16).contains(&self.columns)
+            && (1..=16).contains(&self.rows)
+            && (1..=8).contains(&self.levels)
+            && (1..=4).contains(&self.degree_across)
+            && (1..=4).contains(&self.degree_up)
+            && (self.class == 0 || (2..=8).contains(&self.class));
+        if !in_range {
+            return None;
+        }
+        let cells = self.sum_over_levels(0, 0);
+        (cells <= MAX_CELLS).then_some(cells)
+    }
+
+    /// The length of the function table, and the most entries that a function list needs. `None`
+    /// where [`Plan::cells`] is.
+    pub fn functions(self) -> Option<usize> {
+        self.cells()?;
+        Some(self.sum_over_levels(self.degree_across, self.degree_up))
+    }
+
+    fn sum_over_levels(self, more_across: u32, more_up: u32) -> usize {
+        (0..self.levels)
+            .map(|level| {
+                let across = (self.columns << level) + more_across;
+                let up = (self.rows << level) + more_up;
+                across as usize * up as usize
+            })
+            .sum()
+    }
+
+    fn raw(self) -> ffi::Plan {
+        ffi::Plan {
+            columns: self.columns,
+            rows: self.rows,
+            levels: self.levels,
+            degree_across: self.degree_across,
+            degree_up: self.degree_up,
+            class: self.class,
+        }
+    }
+}
+
+/// The number of a cell: from 0, level by level, row by row.
+#[repr(transparent)]
+#[derive(Clone, Copy, Debug, Default, PartialEq, Eq, PartialOrd, Ord, Hash)]
+pub struct Cell(pub u32);
+
+/// The number of a function: from 0, level by level, row by row. Never to be taken for a [`Cell`].
+#[repr(transparent)]
+#[derive(Clone, Copy, Debug, Default, PartialEq, Eq, PartialOrd, Ord, Hash)]
+pub struct Function(pub u32);
+
+/// Why a call was refused. Where several apply, the first of this order is given: 1 to 6; then the
+/// marks in list order, each tried for 7, 8, 9; then 10, 11.
+#[derive(Clone, Copy, Debug, PartialEq, Eq, Hash)]
+#[repr(u32)]
+pub enum Refusal {
+    PlanOutOfRange = 1,
+    TooManyCells = 2,
+    TableLength = 3,
+    NotAMesh = 4,
+    NotAdmissible = 5,
+    WrongFunctionByte = 6,
+    MarkOutOfRange = 7,
+    MarkOfWrongKind = 8,
+    MarkOfLastLevel = 9,
+    CellListTooShort = 10,
+    FunctionListTooShort = 11,
+}
+
+impl Refusal {
+    /// All refusals in the order of their numbers.
+    pub const ALL: [Refusal; 11] = [
+        Refusal::PlanOutOfRange,
+        Refusal::TooManyCells,
+        Refusal::TableLength,
+        Refusal::NotAMesh,
+        Refusal::NotAdmissible,
+        Refusal::WrongFunctionByte,
+        Refusal::MarkOutOfRange,
+        Refusal::MarkOfWrongKind,
+        Refusal::MarkOfLastLevel,
+        Refusal::CellListTooShort,
+        Refusal::FunctionListTooShort,
+    ];
+
+    /// The number that the library answers, 1 to 11.
+    pub fn number(self) -> u32 {
+        self as u32
+    }
+
+    /// The refusal with that number; `None` for 0 (accepted) and for numbers that none has.
+    ///
+    /// ```
+    /// # use wallmirror::Refusal;
+    /// assert_eq!(Refusal::from_number(8), Some(Refusal::MarkOfWrongKind));
+    /// assert_eq!(Refusal::from_number(0), None);
+    /// assert_eq!(
+    ///     Refusal::MarkOfWrongKind.to_string(),
+    ///     "refusal 8: a mark is not of the kind that the call takes",
+    /// );
+    /// ```
+    pub fn from_number(number: u32) -> Option<Refusal> {
+        Refusal::ALL.into_iter().find(|refusal| refusal.number() == number)
+    }
+}
+
+impl fmt::Display for Refusal {
+    fn fmt(&self, f: &mut fmt::Formatter<'_>) -> fmt::Result {
+        let message = match self {
+            Refusal::PlanOutOfRange => {
+                "a number of the plan is out of range (columns and rows 1 to 16, levels 1 to 8, degrees 1 to 4, class 0 or 2 to 8)"
+            }
+            Refusal::TooManyCells => "all levels together have more than 21845 cells",
+            Refusal::TableLength => "a table has not the length that the plan gives it",
+            Refusal::NotAMesh => "the cell table is not a mesh",
+            Refusal::NotAdmissible => "the mesh is not admissible for the class of the plan",
+            Refusal::WrongFunctionByte => {
+                "a byte of the function table is not the one that the cells fix"
+            }
+            Refusal::MarkOutOfRange => "a mark is not the number of a cell or function of the plan",
+            Refusal::MarkOfWrongKind => "a mark is not of the kind that the call takes",
+            Refusal::MarkOfLastLevel => "a mark is of the last level, which cannot be refined",
+            Refusal::CellListTooShort => "the cell list is too short for the cells that change",
+            Refusal::FunctionListTooShort => {
+                "the function list is too short for the functions that change"
+            }
+        };
+        write!(f, "refusal {}: {message}", self.number())
+    }
+}
+
+impl std::error::Error for Refusal {}
+
+/// What [`count`] finds in a mesh.
+#[derive(Clone, Copy, Debug, PartialEq, Eq)]
+pub struct Count {
+    pub active_cells: usize,
+    pub refined_cells: usize,
+    pub active_functions: usize,
+    /// Of the active cells, in cells of the last level.
+    pub area: usize,
+}
+
+/// How many entries a call wrote to its two lists.
+#[derive(Clone, Copy, Debug, PartialEq, Eq)]
+pub struct Changed {
+    pub cells: usize,
+    pub functions: usize,
+}
+
+/// Makes both tables the coarsest mesh of the plan, whatever they held. Refuses 1 to 3.
+pub fn open(plan: Plan, cells: &mut [u8], functions: &mut [u8]) -> Result<(), Refusal> {
+    // SAFETY: pointers and lengths are those of two slices, which cannot overlap.
+    accepted(unsafe {
+        ffi::wallmirror_open(
+            plan.raw(),
+            cells.as_mut_ptr(),
+            cells.len(),
+            functions.as_mut_ptr(),
+            functions.len(),
+        )
+    })
+}
+
+/// Whether both tables are an admissible mesh of the plan. Refuses 1 to 6.
+///
+/// ```
+/// # use wallmirror::{check, open, Plan, Refusal};
+/// # let plan = Plan { columns: 3, rows: 1, levels: 3, degree_across: 1, degree_up: 1, class: 0 };
+/// # let (mut cells, mut functions) = (vec![0; 63], vec![0; 94]);
+/// open(plan, &mut cells, &mut functions)?;
+/// assert_eq!(check(plan, &cells, &functions), Ok(()));
+/// functions[0] = 2;
+/// assert_eq!(check(plan, &cells, &functions), Err(Refusal::WrongFunctionByte));
+/// # Ok::<(), Refusal>(())
+/// ```
+pub fn check(plan: Plan, cells: &[u8], functions: &[u8]) -> Result<(), Refusal> {
+    // SAFETY: pointers and lengths are those of two slices, which are only read.
+    accepted(unsafe {
+        ffi::wallmirror_check(
+            plan.raw(),
+            cells.as_ptr(),
+            cells.len(),
+            functions.as_ptr(),
+            functions.len(),
+        )
+    })
+}
+
+/// Counts cells, functions and area of a mesh. Refuses 1 to 6.
+///
+/// ```
+/// # use wallmirror::{count, open, Plan};
+/// # let plan = Plan { columns: 3, rows: 1, levels: 3, degree_across: 1, degree_up: 1, class: 0 };
+/// # let (mut cells, mut functions) = (vec![0; 63], vec![0; 94]);
+/// # open(plan, &mut cells, &mut functions)?;
+/// let count = count(plan, &cells, &functions)?;
+/// assert_eq!((count.active_cells, count.refined_cells, count.area), (3, 0, 48));
+/// # Ok::<(), wallmirror::Refusal>(())
+/// ```
+pub fn count(plan: Plan, cells: &[u8], functions: &[u8]) -> Result<Count, Refusal> {
+    // SAFETY: pointers and lengths are those of two slices, which are only read.
+    let count = unsafe {
+        ffi::wallmirror_count(
+            plan.raw(),
+            cells.as_ptr(),
+            cells.len(),
+            functions.as_ptr(),
+            functions.len(),
+        )
+    };
+    accepted(count.number)?;
+    Ok(Count {
+        active_cells: count.active_cells as usize,
+        refined_cells: count.refined_cells as usize,
+        active_functions: count.active_functions as usize,
+        area: count.area as usize,
+    })
+}
+
+/// Refines the marked cells, which are to be active, and what the class needs besides: the mesh
+/// becomes the smallest admissible one with the old refined cells and the marked ones. Lists the
+/// cells that became refined and the functions that became deactivated, each in rising order.
+/// Entries past the answered lengths keep their values. Refuses 1 to 11.
+pub fn refine_cells(
+    plan: Plan,
+    cells: &mut [u8],
+    functions: &mut [u8],
+    marks: &[Cell],
+    cell_list: &mut [Cell],
+    function_list: &mut [Function],
+) -> Result<Changed, Refusal> {
+    let marks = cell_numbers(marks);
+    change(ffi::wallmirror_refine_cells, plan, cells, functions, marks, cell_list, function_list)
+}
+
+/// Refines the active cells of its level in the support of each marked function, which is to be
+/// active. Otherwise as [`refine_cells`].
+pub fn refine_functions(
+    plan: Plan,
+    cells: &mut [u8],
+    functions: &mut [u8],
+    marks: &[Function],
+    cell_list: &mut [Cell],
+    function_list: &mut [Function],
+) -> Result<Changed, Refusal> {
+    let marks = function_numbers(marks);
+    change(
+        ffi::wallmirror_refine_functions,
+        plan,
+        cells,
+        functions,
+        marks,
+        cell_list,
+        function_list,
+    )
+}
+
+/// Coarsens the marked cells, which are to be reactivable: refined, with four active children. The
+/// mesh becomes the smallest admissible one with the old refined cells that are not marked, so a
+/// marked cell that the others need stays refined. Lists the cells that ceased to be refined and
+/// the functions that ceased to be deactivated, each in rising order. Entries past the answered
+/// lengths keep their values. Refuses 1 to 8, 10 and 11.
+pub fn coarsen_cells(
+    plan: Plan,
+    cells: &mut [u8],
+    functions: &mut [u8],
+    marks: &[Cell],
+    cell_list: &mut [Cell],
+    function_list: &mut [Function],
+) -> Result<Changed, Refusal> {
+    let marks = cell_numbers(marks);
+    change(ffi::wallmirror_coarsen_cells, plan, cells, functions, marks, cell_list, function_list)
+}
+
+/// Coarsens the reactivable cells that lie in the support of a marked function and of no unmarked
+/// deactivated one of the same level. Marks are deactivated functions with a reactivable cell of
+/// their own level in their support. Otherwise as [`coarsen_cells`].
+pub fn coarsen_functions(
+    plan: Plan,
+    cells: &mut [u8],
+    functions: &mut [u8],
+    marks: &[Function],
+    cell_list: &mut [Cell],
+    function_list: &mut [Function],
+) -> Result<Changed, Refusal> {
+    let marks = function_numbers(marks);
+    change(
+        ffi::wallmirror_coarsen_functions,
+        plan,
+        cells,
+        functions,
+        marks,
+        cell_list,
+        function_list,
+    )
+}
+
+fn change(
+    call: ffi::Change,
+    plan: Plan,
+    cells: &mut [u8],
+    functions: &mut [u8],
+    marks: &[u32],
+    cell_list: &mut [Cell],
+    function_list: &mut [Function],
+) -> Result<Changed, Refusal> {
+    // SAFETY: pointers and lengths are those of slices; the mutable ones overlap no other. Cell and
+    // Function are transparent over u32.
+    let answer = unsafe {
+        call(
+            plan.raw(),
+            cells.as_mut_ptr(),
+            cells.len(),
+            functions.as_mut_ptr(),
+            functions.len(),
+            marks.as_ptr(),
+            marks.len(),
+            cell_list.as_mut_ptr().cast(),
+            cell_list.len(),
+            function_list.as_mut_ptr().cast(),
+            function_list.len(),
+        )
+    };
+    accepted(answer.number)?;
+    Ok(Changed { cells: answer.cells as usize, functions: answer.functions as usize })
+}
+
+fn accepted(number: u32) -> Result<(), Refusal> {
+    match number {
+        0 => Ok(()),
+        _ => Err(Refusal::from_number(number)
+            .unwrap_or_else(|| panic!("the library answered {number}, which no refusal has"))),
+    }
+}
+
+fn cell_numbers(marks: &[Cell]) -> &[u32] {
+    // SAFETY: Cell is transparent over u32.
+    unsafe { std::slice::from_raw_parts(marks.as_ptr().cast(), marks.len()) }
+}
+
+fn function_numbers(marks: &[Function]) -> &[u32] {
+    // SAFETY: Function is transparent over u32.
+    unsafe { std::slice::from_raw_parts(marks.as_ptr().cast(), marks.len()) }
+}
+
+#[cfg(test)]
+mod tests {
+    use super::*;
+
+    #[test]
+    fn the_documentation_has_the_c_example() {
+        let documentation = include_str!("../../../docs/RUST_AND_C.md");
+        let example = include_str!("../../../examples/c/refine.c");
+        assert!(documentation.contains(example));
+    }
+
+    #[test]
+    fn refusals_have_their_numbers() {
+        for (i, refusal) in Refusal::ALL.into_iter().enumerate() {
+            assert_eq!(refusal.number() as usize, i + 1);
+            assert_eq!(Refusal::from_number(refusal.number()), Some(refusal));
+            assert!(refusal.to_string().starts_with(&format!("refusal {}: ", i + 1)));
+        }
+        assert_eq!(Refusal::from_number(0), None);
+        assert_eq!(Refusal::from_number(12), None);
+    }
+
+    #[test]
+    fn lengths_are_those_that_open_takes() {
+        let range = |last: u32| (0..=last + 1).chain([u32::MAX]);
+        let (mut most_cells, mut most_functions) = (0, 0);
+        for columns in range(16) {
+            for rows in range(16) {
+                for levels in range(8) {
+                    for (degree_across, degree_up) in
+                        range(4).flat_map(|p| range(4).map(move |q| (p, q)))
+                    {
+                        for class in [0, 1, 2, 8, 9] {
+                            let (t, f) = try_lengths(Plan {
+                                columns,
+                                rows,
+                                levels,
+                                degree_across,
+                                degree_up,
+                                class,
+                            });
+                            most_cells = most_cells.max(t);
+                            most_functions = most_functions.max(f);
+                        }
+                    }
+                }
+            }
+        }
+        assert_eq!((most_cells, most_functions), (MAX_CELLS, MAX_FUNCTIONS));
+    }
+
+    /// Opens tables of the plan's lengths, or sees the plan refused.
+    fn try_lengths(plan: Plan) -> (usize, usize) {
+        let (Some(t), Some(f)) = (plan.cells(), plan.functions()) else {
+            let refusal = open(plan, &mut [], &mut []).unwrap_err();
+            assert!(matches!(refusal, Refusal::PlanOutOfRange | Refusal::TooManyCells), "{plan:?}");
+            return (0, 0);
+        };
+        let (mut cells, mut functions) = (vec![9; t], vec![9; f]);
+        assert_eq!(open(plan, &mut cells, &mut functions), Ok(()), "{plan:?}");
+        (t, f)
+    }
+}

@@ -1,0 +1,50 @@
+/*
+ * The lengths that the header computes are those that the library takes, for every plan in range and
+ * for the numbers just outside. The output is to be that of sizes.expected.
+ */
+#include <stdio.h>
+
+#include "wallmirror.h"
+
+static uint8_t cells[WALLMIRROR_MAX_CELLS + 1], functions[WALLMIRROR_MAX_FUNCTIONS + 1];
+static unsigned long taken, refused, wrong;
+static size_t most_cells, most_functions;
+
+static void try_plan(WallmirrorPlan plan)
+{
+    size_t t = wallmirror_cells_len(plan), f = wallmirror_functions_len(plan);
+    uint32_t number = wallmirror_open(plan, cells, t, functions, f);
+    if (!wallmirror_plan_is_valid(plan)) {
+        refused++;
+        if (t != 0 || f != 0 || (number != WALLMIRROR_PLAN_OUT_OF_RANGE &&
+                                 number != WALLMIRROR_TOO_MANY_CELLS))
+            wrong++;
+        return;
+    }
+    taken++;
+    if (t > most_cells)
+        most_cells = t;
+    if (f > most_functions)
+        most_functions = f;
+    if (number != WALLMIRROR_ACCEPTED ||
+        wallmirror_open(plan, cells, t + 1, functions, f) != WALLMIRROR_TABLE_LENGTH ||
+        wallmirror_open(plan, cells, t, functions, f + 1) != WALLMIRROR_TABLE_LENGTH)
+        wrong++;
+}
+
+int main(void)
+{
+    WallmirrorPlan plan;
+    for (plan.columns = 0; plan.columns <= 17; plan.columns++)
+        for (plan.rows = 0; plan.rows <= 17; plan.rows++)
+            for (plan.levels = 0; plan.levels <= 9; plan.levels++)
+                for (plan.degree_across = 0; plan.degree_across <= 5; plan.degree_across++)
+                    for (plan.degree_up = 0; plan.degree_up <= 5; plan.degree_up++)
+                        for (plan.admissibility_class = 0; plan.admissibility_class <= 9;
+                             plan.admissibility_class++)
+                            try_plan(plan);
+    printf("%lu plans taken, %lu refused, %lu wrong\n", taken, refused, wrong);
+    printf("at most %lu cells and %lu functions\n", (unsigned long)most_cells,
+           (unsigned long)most_functions);
+    return wrong != 0;
+}
