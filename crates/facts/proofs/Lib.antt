@@ -1,3 +1,6 @@
 pub mod Tests
 pub mod Bounded
 pub mod Numbers
+pub mod Sums
+pub mod Least
+pub mod Ranges

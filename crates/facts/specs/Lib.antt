@@ -1,2 +1,4 @@
 pub mod Bounded
 pub mod Numbers
+pub mod Least
+pub mod Ranges

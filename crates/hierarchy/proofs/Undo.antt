@@ -71,7 +71,7 @@ module _ (H : Hierarchy) (L : Lawful H) (S M : Cells) (G : Admissible H S) (W : 
   }
 
   -- a cell that is refined afterwards has a parent that was refined before
-  refine-parent : (c : ℕ) → T (closure H (S ∪ M) c) → 1 ≤ H .level c → T (S (H .parent c))
+  pub refine-parent : (c : ℕ) → T (closure H (S ∪ M) c) → 1 ≤ H .level c → T (S (H .parent c))
   refine-parent c t l =
       let (x, i, u, r) = closure→ H L (S ∪ M) c t in
       let k : 1 ≤ H .level x = omega (arith, needs-level H L i r) in
@@ -104,7 +104,7 @@ module _ (H : Hierarchy) (L : Lawful H) (S M : Cells) (G : Admissible H S) (W : 
 
 module _ (H : Hierarchy) (L : Lawful H) (S M : Cells) (G : Admissible H S) (W : MeshSet H S)
     (may : (c : ℕ) → c < H .size → T (M c) → T (reactivable H S c)) where
-  coarsen-parent : (c : ℕ) → c < H .size → T (S c) → 1 ≤ H .level c → T ((S ∖ M) (H .parent c))
+  pub coarsen-parent : (c : ℕ) → c < H .size → T (S c) → 1 ≤ H .level c → T ((S ∖ M) (H .parent c))
   coarsen-parent c i t l =
       let p : T (S (H .parent c)) = W .closed c i t l in
       let n : T (not (M (H .parent c))) = not-i (M (H .parent c)) (λ m.

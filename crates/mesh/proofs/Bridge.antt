@@ -156,11 +156,11 @@ module _ (p : Plan) (range : InRange p) where
         rw (T-false (eqb (cellLevel p c) 0) (not-e (eqb (cellLevel p c) 0) z))
         (ap (λ d. not (absent cs d)) (sym e) ∙ fit (parent p c) (parent-lt p range c i l) .below k a b ha hb))
 
-    fit-is : length cs ≡ cellTotal p → cs ≡ tableOf p (refined cs)
+    pub fit-is : length cs ≡ cellTotal p → cs ≡ tableOf p (refined cs)
     unfolding tableOf
     fit-is s = tabulate-is (cellTotal p) _ cs s (λ c i. unfold refined in byte-is (getD cs c 0) (rooted p (refined cs) c) (fit c i .byte) (unfold absent in present-is c i))
 
-    fit-mesh : MeshSet (hierarchy p) (refined cs)
+    pub fit-mesh : MeshSet (hierarchy p) (refined cs)
     unfolding refined absent
     fit-mesh = record {
       closed = λ c i r l.
