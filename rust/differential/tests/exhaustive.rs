@@ -1,4 +1,5 @@
-//! Small plans without exception: every table, every mesh, every mark.
+//! Small plans, tried systematically: all cell tables of a few byte values, all admissible meshes with
+//! all single marks. Where a test only samples, it says so.
 
 use differential::{plan, Kind, Tables};
 use model::{Cell, Plan};
@@ -35,7 +36,7 @@ fn the_number_of_meshes() {
     assert_eq!(all_meshes(plan([2, 1, 3, 1, 1, 0])).len(), 17 * 17);
 }
 
-/// Check on every content of a cell table, the labels being those of the open mesh or those that
+/// Check on every cell table of the bytes 0 to 3 (0 to 2 where there are ten cells), the labels being those of the open mesh or those that
 /// the cells fix.
 #[test]
 fn every_cell_table() {
@@ -121,7 +122,8 @@ fn every_set_of_marks() {
 }
 
 /// "Smallest" word for word, with no use of the model's way to it: of all admissible meshes that
-/// have the base refined, the result is one, and every other contains it.
+/// have the base refined, the result is one, and every other contains it. The meshes to start from are
+/// a sample, each so many; those to compare with are all.
 #[test]
 fn smallest_of_all_meshes() {
     for (numbers, every) in [
