@@ -3,7 +3,7 @@
 use mathlib.Core.Path.{_≡_, refl}
 use mathlib.Core.Bool.{Bool, true, false, not, _&&_, _||_, cond}
 use mathlib.Core.List.{List, [], _∷_, _++_}
-use Prim.Native.Nat.{ℕ}
+use Prim.Native.Nat.{ℕ, _-_}
 use lib.Dec.{T, eqb, eqb-refl}
 use lib.ListN.{length, set, take, replicate}
 use Rattle.facts.specs.Bounded.{implies, some, every, sum}
@@ -72,8 +72,8 @@ answers t s o =
     eqb (o .answer .number) (s .number)
     && (eqb (o .answer .cells) (length (s .cells))
     && (eqb (o .answer .functions) (length (s .functions))
-    && (same (o .cellList) (written (s .cells) (lent (s .cellRoom)))
-    && (same (o .functionList) (written (s .functions) (lent (s .functionRoom)))
+    && (same (o .cellList) (s .cells ++ lent (s .cellRoom - length (s .cells)))
+    && (same (o .functionList) (s .functions ++ lent (s .functionRoom - length (s .functions)))
     && (eqb (s .number) 0 || sameTables (left o) t)))))
 
 -- what a plan's numbers alone decide
