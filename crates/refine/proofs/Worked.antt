@@ -34,8 +34,8 @@ pub record Step : Type 0 where
 pub data Fact : Type 0 where
   -- T is the number; the plan's numbers give refusal 1 or 2, or 0; open, and check, answer the number
   totals plans opens checks : ℕ → Fact
-  -- the cells that are refined, the functions that are deactivated, and those that the steps made active
-  refinedCells deactivated newlyActive : List ℕ → Fact
+  -- the functions that are deactivated, and those that the steps made active
+  deactivated newlyActive : List ℕ → Fact
   -- both tables are these; they are not
   are differ : Tables → Fact
 
@@ -98,7 +98,6 @@ factHolds p start t (totals n) = eqb (cellTotal p) n
 factHolds p start t (plans n) = eqb (planRefusal p) n
 factHolds p start t (opens n) = eqb (openMesh p (t .cells) (t .functions) .number) n
 factHolds p start t (checks n) = eqb (check p (t .cells) (t .functions)) n
-factHolds p start t (refinedCells xs) = same (listed (cellTotal p) (refined (t .cells))) xs
 factHolds p start t (deactivated xs) = same (listed (functionTotal p) (refined (t .functions))) xs
 factHolds p start t (newlyActive xs) =
     same (listed (functionTotal p) (λ f. active (t .functions) f && not (active (start .functions) f))) xs
@@ -139,16 +138,12 @@ W2 = plan 3 1 3 1 1 2
 abbrev pub tables : List ℕ → List ℕ → Tables
 tables cs fs = record { cells = cs; functions = fs }
 
--- tables just opened; those in which just these cells are refined; those that the steps leave
+-- tables just opened, and those in which just these cells are refined
 abbrev pub fresh : Plan → Tables
 fresh p = tables (freshCells p) (freshFunctions p)
 
 abbrev pub refining : Plan → List ℕ → Tables
 refining p xs = let cs = tableOf p (λ c. elem c xs) in tables cs (labels p cs)
-
-abbrev pub after : Plan → Tables → List Step → Tables
-after p t [] = t
-after p t (s ∷ ss) = let o = call p t s in after p (left o) ss
 
 -- a step that is lent lists of n and m entries: its call and marks; number, cells and functions
 abbrev pub lending : ℕ → ℕ → Direction → By → List ℕ → ℕ → List ℕ → List ℕ → Step
@@ -181,38 +176,32 @@ table =
     let none = tables [] [] in
     let fresh0 = fresh W0 in
     let fresh2 = fresh W2 in
-    let p2 = split cells (1 ∷ []) 0 (1 ∷ []) [] in
-    let p3 = split functions (1 ∷ []) 0 (0 ∷ 1 ∷ []) (0 ∷ 1 ∷ 4 ∷ 5 ∷ []) in
-    let p70 = split cells (0 ∷ []) 0 (0 ∷ []) (0 ∷ 4 ∷ []) in
-    let p7 = split cells (3 ∷ []) 0 (1 ∷ 3 ∷ []) (1 ∷ 5 ∷ 8 ∷ []) in
-    let afterP2 = after W0 fresh0 (p2 ∷ []) in
-    let afterP3 = after W0 fresh0 (p3 ∷ []) in
-    let afterP70 = after W2 fresh2 (p70 ∷ []) in
-    let afterP7 = after W2 afterP70 (p7 ∷ []) in
-    let W22 = plan 2 2 3 1 1 2 in
+    let afterP2 = refining W0 (1 ∷ []) in
+    let afterP3 = refining W0 (0 ∷ 1 ∷ []) in
+    let afterP7 = refining W2 (0 ∷ 1 ∷ 3 ∷ []) in
     -- P1 W0 fresh, split 0: 0; 0 4. Functions newly active: 8 9 15 16 22 23.
-    row W0 fresh0 (split cells (0 ∷ []) 0 (0 ∷ []) (0 ∷ 4 ∷ []) ∷ []) (newlyActive (8 ∷ 9 ∷ 15 ∷ 16 ∷ 22 ∷ 23 ∷ []) ∷ checks 0 ∷ [])
+    row W0 fresh0 (split cells (0 ∷ []) 0 (0 ∷ []) (0 ∷ 4 ∷ []) ∷ []) (newlyActive (8 ∷ 9 ∷ 15 ∷ 16 ∷ 22 ∷ 23 ∷ []) ∷ [])
     -- P2 W0 fresh, split 1: 1; none. Newly active: 11 18 25.
-    ∷ row W0 fresh0 (p2 ∷ []) (newlyActive (11 ∷ 18 ∷ 25 ∷ []) ∷ [])
-    -- P3 W0 fresh, split by function 1: 0 1; 0 1 4 5.
-    ∷ row W0 fresh0 (p3 ∷ []) (are afterP3 ∷ checks 0 ∷ [])
+    ∷ row W0 fresh0 (split cells (1 ∷ []) 0 (1 ∷ []) [] ∷ []) (newlyActive (11 ∷ 18 ∷ 25 ∷ []) ∷ are afterP2 ∷ [])
+    -- P3 W0 fresh, split by function 1: 0 1; 0 1 4 5. (Lists of 2 and 4 entries are long enough.)
+    ∷ row W0 fresh0 (lending 2 4 refine functions (1 ∷ []) 0 (0 ∷ 1 ∷ []) (0 ∷ 1 ∷ 4 ∷ 5 ∷ []) ∷ []) (are afterP3 ∷ [])
     -- P4 after P3, join by function 1: none; none.
     ∷ row W0 afterP3 (join functions (1 ∷ []) 0 [] [] ∷ []) (are afterP3 ∷ [])
     -- P5 after P3, join by functions 1 5: 1; 1 5.
-    ∷ row W0 afterP3 (join functions (1 ∷ 5 ∷ []) 0 (1 ∷ []) (1 ∷ 5 ∷ []) ∷ []) (refinedCells (0 ∷ []) ∷ deactivated (0 ∷ 4 ∷ []) ∷ checks 0 ∷ [])
+    ∷ row W0 afterP3 (join functions (1 ∷ 5 ∷ []) 0 (1 ∷ []) (1 ∷ 5 ∷ []) ∷ []) (are (refining W0 (0 ∷ [])) ∷ [])
     -- P6 after P3, join by functions 0 1 4 5: 0 1; 0 1 4 5, and the wall is fresh.
     ∷ row W0 afterP3 (join functions (0 ∷ 1 ∷ 4 ∷ 5 ∷ []) 0 (0 ∷ 1 ∷ []) (0 ∷ 1 ∷ 4 ∷ 5 ∷ []) ∷ []) (are fresh0 ∷ [])
-    -- P7 W2, split 0 (step p70), then split 3: 1 3; 1 5 8. Function 0 stays deactivated and its child 8 is not active.
-    ∷ row W2 fresh2 (p70 ∷ p7 ∷ []) (are afterP7 ∷ refinedCells (0 ∷ 1 ∷ 3 ∷ []) ∷ deactivated (0 ∷ 1 ∷ 4 ∷ 5 ∷ 8 ∷ []) ∷ checks 0 ∷ [])
-    -- P8 after P7, join 1: none; none. Cell 3 needs it.
-    ∷ row W2 afterP7 (join cells (1 ∷ []) 0 [] [] ∷ []) (are afterP7 ∷ [])
+    -- P7 W2, split 0, then split 3: 1 3; 1 5 8. Function 0 stays deactivated, and its child 8 is not active.
+    ∷ row W2 fresh2 (split cells (0 ∷ []) 0 (0 ∷ []) (0 ∷ 4 ∷ []) ∷ split cells (3 ∷ []) 0 (1 ∷ 3 ∷ []) (1 ∷ 5 ∷ 8 ∷ []) ∷ []) (are afterP7 ∷ deactivated (0 ∷ 1 ∷ 4 ∷ 5 ∷ 8 ∷ []) ∷ [])
+    -- P8 after P7, join 1: none; none. Cell 3 needs it. (Lists of no entries are long enough.)
+    ∷ row W2 afterP7 (lending 0 0 coarsen cells (1 ∷ []) 0 [] [] ∷ []) (are afterP7 ∷ [])
     -- P9 after P7, join 0: refusal 8.
-    ∷ row W2 afterP7 (join cells (0 ∷ []) 8 [] [] ∷ []) (are afterP7 ∷ [])
+    ∷ row W2 afterP7 (join cells (0 ∷ []) 8 [] [] ∷ []) []
     -- P10 after P7, join 1 3: 1 3; 1 5 8.
-    ∷ row W2 afterP7 (join cells (1 ∷ 3 ∷ []) 0 (1 ∷ 3 ∷ []) (1 ∷ 5 ∷ 8 ∷ []) ∷ []) (are afterP70 ∷ [])
+    ∷ row W2 afterP7 (join cells (1 ∷ 3 ∷ []) 0 (1 ∷ 3 ∷ []) (1 ∷ 5 ∷ 8 ∷ []) ∷ []) (are (refining W2 (0 ∷ [])) ∷ [])
     -- P11 W0, split 1 (P2), split by function 1, join by functions 0 1 4 5: cells 0 and 1 are joined, so the earlier wall is not
     -- regained.
-    ∷ row W0 afterP2 (split functions (1 ∷ []) 0 (0 ∷ []) (0 ∷ 1 ∷ 4 ∷ 5 ∷ []) ∷ join functions (0 ∷ 1 ∷ 4 ∷ 5 ∷ []) 0 (0 ∷ 1 ∷ []) (0 ∷ 1 ∷ 4 ∷ 5 ∷ []) ∷ []) (differ afterP2 ∷ are fresh0 ∷ [])
+    ∷ row W0 afterP2 (split functions (1 ∷ []) 0 (0 ∷ []) (0 ∷ 1 ∷ 4 ∷ 5 ∷ []) ∷ join functions (0 ∷ 1 ∷ 4 ∷ 5 ∷ []) 0 (0 ∷ 1 ∷ []) (0 ∷ 1 ∷ 4 ∷ 5 ∷ []) ∷ []) (are fresh0 ∷ differ afterP2 ∷ [])
     -- 1 1 8 (T = 21,845) and 16 16 4 (21,760) open; class 8 opens, 9 is refused; 17 columns are refused. (Of tables this large
     -- only what the plan decides is computed; opens-planned says that open answers just that.)
     ∷ row (plan 1 1 8 1 1 0) none [] (totals 21845 ∷ plans 0 ∷ [])
@@ -232,32 +221,29 @@ table =
     ∷ row W0 (tables (set (fresh0 .cells) 0 0) (fresh0 .functions)) (split cells (0 ∷ []) 4 [] [] ∷ []) (checks 4 ∷ [])
     -- 5: the wall is not graded for its class. W2, cells 0 and 3 split, 1 active; W0 takes these tables.
     ∷ row W2 (refining W2 (0 ∷ 3 ∷ [])) (split cells (1 ∷ []) 5 [] [] ∷ []) (checks 5 ∷ [])
-    ∷ row W0 (refining W0 (0 ∷ 3 ∷ [])) [] (checks 0 ∷ [])
+    ∷ row W0 (refining W2 (0 ∷ 3 ∷ [])) [] (checks 0 ∷ [])
     -- 6: a function byte is not the one fixed above. W0 fresh, function 0 set to 2.
     ∷ row W0 (tables (fresh0 .cells) (set (fresh0 .functions) 0 2)) (split cells (0 ∷ []) 6 [] [] ∷ []) (checks 6 ∷ [])
-    -- 7: a mark is T (or F) or more. W0, split 63.
-    ∷ row W0 fresh0 (split cells (63 ∷ []) 7 [] [] ∷ split functions (94 ∷ []) 7 [] [] ∷ join cells (63 ∷ []) 7 [] [] ∷ join functions (94 ∷ []) 7 [] [] ∷ []) (are fresh0 ∷ [])
-    -- 8: a mark is not of the kind its call names. W0 fresh, split 3.
-    ∷ row W0 fresh0 (split cells (3 ∷ []) 8 [] [] ∷ split functions (8 ∷ []) 8 [] [] ∷ join cells (0 ∷ []) 8 [] [] ∷ join functions (0 ∷ []) 8 [] [] ∷ []) (are fresh0 ∷ [])
-    -- 9: a split mark is of level L-1. 1 1 1 1 1 0, split 0.
-    ∷ row (plan 1 1 1 1 1 0) (fresh (plan 1 1 1 1 1 0)) (split cells (0 ∷ []) 9 [] [] ∷ split functions (0 ∷ []) 9 [] [] ∷ []) (checks 0 ∷ [])
-    -- 10: the cell list is shorter than the cells it must name. W0 fresh, split 0, list of 0.
-    ∷ row W0 fresh0 (lending 0 9 refine cells (0 ∷ []) 10 [] [] ∷ []) (are fresh0 ∷ [])
+    -- 7: a mark is T (or F) or more. W0, split 63; join by function 94.
+    ∷ row W0 fresh0 (split cells (63 ∷ []) 7 [] [] ∷ join functions (94 ∷ []) 7 [] [] ∷ []) []
+    -- 8: a mark is not of the kind its call names. W0 fresh, split 3; split by function 8; join by function 0.
+    ∷ row W0 fresh0 (split cells (3 ∷ []) 8 [] [] ∷ split functions (8 ∷ []) 8 [] [] ∷ join functions (0 ∷ []) 8 [] [] ∷ []) []
+    -- 9: a split mark is of level L-1. 1 1 1 1 1 0, split 0; split by function 0.
+    ∷ row (plan 1 1 1 1 1 0) (fresh (plan 1 1 1 1 1 0)) (split cells (0 ∷ []) 9 [] [] ∷ split functions (0 ∷ []) 9 [] [] ∷ []) []
+    -- 10: the cell list is shorter than the cells it must name. W0 fresh, split 0, list of 0. Also where both are: "then 10, 11".
+    ∷ row W0 fresh0 (lending 0 9 refine cells (0 ∷ []) 10 [] [] ∷ lending 1 3 refine functions (1 ∷ []) 10 [] [] ∷ []) []
     -- 11: the function list is shorter than the functions it must name. W0 fresh, split 0, both lists of 1.
-    ∷ row W0 fresh0 (lending 1 1 refine cells (0 ∷ []) 11 [] [] ∷ []) (are fresh0 ∷ [])
-    -- "then 10, 11": 10 comes first, each list is held to its own changes and not to the marks, and just enough is enough.
-    ∷ row W0 fresh0 (lending 1 3 refine functions (1 ∷ []) 10 [] [] ∷ lending 2 3 refine functions (1 ∷ []) 11 [] [] ∷ lending 2 4 refine functions (1 ∷ []) 0 (0 ∷ 1 ∷ []) (0 ∷ 1 ∷ 4 ∷ 5 ∷ []) ∷ []) (are afterP3 ∷ [])
-    ∷ row W2 afterP7 (lending 0 0 coarsen cells (1 ∷ []) 0 [] [] ∷ []) (are afterP7 ∷ [])
-    -- "then marks in list order": the first mark that is refused gives the number.
-    ∷ row W0 fresh0 (split cells (0 ∷ 63 ∷ 3 ∷ []) 7 [] [] ∷ split cells (0 ∷ 3 ∷ 63 ∷ []) 8 [] [] ∷ []) (are fresh0 ∷ [])
-    -- "Marks may repeat; repeats mean one mark; no marks at all is accepted"; a list is in rising order, whatever the marks' order.
-    ∷ row W0 fresh0 (split cells [] 0 [] [] ∷ split cells (2 ∷ 0 ∷ 2 ∷ []) 0 (0 ∷ 2 ∷ []) (0 ∷ 3 ∷ 4 ∷ 7 ∷ []) ∷ []) (refinedCells (0 ∷ 2 ∷ []) ∷ [])
+    ∷ row W0 fresh0 (lending 1 1 refine cells (0 ∷ []) 11 [] [] ∷ []) []
+    -- "marks in list order": the first mark that is refused gives the number.
+    ∷ row W0 fresh0 (split cells (0 ∷ 63 ∷ 3 ∷ []) 7 [] [] ∷ split cells (0 ∷ 3 ∷ 63 ∷ []) 8 [] [] ∷ []) []
+    -- "Marks may repeat; repeats mean one mark; no marks at all is accepted." The lists rise, whatever the order of the marks.
+    ∷ row W0 fresh0 (split cells [] 0 [] [] ∷ split cells (2 ∷ 0 ∷ 2 ∷ []) 0 (0 ∷ 2 ∷ []) (0 ∷ 3 ∷ 4 ∷ 7 ∷ []) ∷ []) []
     -- Grading is not against edge neighbours alone: 2 2 3 1 1 2, after split 0, split 4: cell 3, which the ancestor 0 meets in a point,
     -- is split too.
-    ∷ row W22 (refining W22 (0 ∷ [])) (split cells (4 ∷ []) 0 (1 ∷ 2 ∷ 3 ∷ 4 ∷ []) (1 ∷ 2 ∷ 3 ∷ 4 ∷ 5 ∷ 6 ∷ 7 ∷ 8 ∷ 9 ∷ []) ∷ []) []
-    -- Nor around the cell's own column: W2, split 2, then split 8, of level 1, row 0, column 5. Its ancestor's column is 2, so cell 1
+    ∷ row (plan 2 2 3 1 1 2) (refining (plan 2 2 3 1 1 2) (0 ∷ [])) (split cells (4 ∷ []) 0 (1 ∷ 2 ∷ 3 ∷ 4 ∷ []) (1 ∷ 2 ∷ 3 ∷ 4 ∷ 5 ∷ 6 ∷ 7 ∷ 8 ∷ 9 ∷ []) ∷ []) []
+    -- Nor around the cell's own column: W2, after split 2, split 8, of level 1, row 0, column 5. Its ancestor's column is 2, so cell 1
     -- is split too.
-    ∷ row W2 fresh2 (split cells (2 ∷ []) 0 (2 ∷ []) (3 ∷ 7 ∷ []) ∷ split cells (8 ∷ []) 0 (1 ∷ 8 ∷ []) (2 ∷ 6 ∷ 14 ∷ []) ∷ []) []
+    ∷ row W2 (refining W2 (2 ∷ [])) (split cells (8 ∷ []) 0 (1 ∷ 8 ∷ []) (2 ∷ 6 ∷ 14 ∷ []) ∷ []) []
     ∷ []
 
 pub worked : T (allHold table)
