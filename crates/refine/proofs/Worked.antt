@@ -15,7 +15,7 @@ use Rattle.grid.specs.Numbering.{offset, number, levelOf, placeOn, place}
 use Rattle.grid.specs.Plan.{between, inRange, ratio, grown, tooLarge, lastLevel, above, below, parent, child, covers, supportedAt, supported, apart, ancestor, nearAt, near, cellTotal, functionTotal}
 use Rattle.mesh.specs.Mesh.{Opened, absent, active, refined, children, cellFits, isMesh, isAdmissible, reactivable, tableOf, labelOf, labels, isLabelled, refusal3, refusal6, check, freshCells, freshFunctions, openMesh}
 use Rattle.refine.specs.Calls.{Direction, refine, coarsen, By, cells, functions, Outcome, isKind, isTooDeep, markRefusal, underMarked, underKept, meant, base, smallest, changed, written, refused, settle, newCells, refusal, outcome}
-use Rattle.refine.specs.Runs.{Tables}
+use Rattle.refine.specs.Runs.{Tables, covered}
 
 -- ---- rows
 
@@ -38,6 +38,8 @@ pub data Fact : Type 0 where
   deactivated newlyActive : List ℕ → Fact
   -- both tables are these; they are not
   are differ : Tables → Fact
+  -- each refined cell is covered, as the undo by functions asks; not each is
+  isCovered notCovered : Fact
 
 pub record Row : Type 0 where
   pub plan : Plan
@@ -103,6 +105,8 @@ factHolds p start t (newlyActive xs) =
     same (listed (functionTotal p) (λ f. active (t .functions) f && not (active (start .functions) f))) xs
 factHolds p start t (are u) = sameTables t u
 factHolds p start t (differ u) = not (sameTables t u)
+factHolds p start t isCovered = covered p (t .cells) (t .functions)
+factHolds p start t notCovered = not (covered p (t .cells) (t .functions))
 
 abbrev pub factsHold : Plan → Tables → Tables → List Fact → Bool
 factsHold p start t [] = true
@@ -184,7 +188,7 @@ table =
     -- P2 W0 fresh, split 1: 1; none. Newly active: 11 18 25.
     ∷ row W0 fresh0 (split cells (1 ∷ []) 0 (1 ∷ []) [] ∷ []) (newlyActive (11 ∷ 18 ∷ 25 ∷ []) ∷ are afterP2 ∷ [])
     -- P3 W0 fresh, split by function 1: 0 1; 0 1 4 5. (Lists of 2 and 4 entries are long enough.)
-    ∷ row W0 fresh0 (lending 2 4 refine functions (1 ∷ []) 0 (0 ∷ 1 ∷ []) (0 ∷ 1 ∷ 4 ∷ 5 ∷ []) ∷ []) (are afterP3 ∷ [])
+    ∷ row W0 fresh0 (lending 2 4 refine functions (1 ∷ []) 0 (0 ∷ 1 ∷ []) (0 ∷ 1 ∷ 4 ∷ 5 ∷ []) ∷ []) (are afterP3 ∷ isCovered ∷ [])
     -- P4 after P3, join by function 1: none; none.
     ∷ row W0 afterP3 (join functions (1 ∷ []) 0 [] [] ∷ []) (are afterP3 ∷ [])
     -- P5 after P3, join by functions 1 5: 1; 1 5.
@@ -200,7 +204,8 @@ table =
     -- P10 after P7, join 1 3: 1 3; 1 5 8.
     ∷ row W2 afterP7 (join cells (1 ∷ 3 ∷ []) 0 (1 ∷ 3 ∷ []) (1 ∷ 5 ∷ 8 ∷ []) ∷ []) (are (refining W2 (0 ∷ [])) ∷ [])
     -- P11 W0, split 1 (P2), split by function 1, join by functions 0 1 4 5: cells 0 and 1 are joined, so the earlier wall is not
-    -- regained.
+    -- regained. Hence the premise of the mission's third demand: the first wall does not have it.
+    ∷ row W0 afterP2 [] (notCovered ∷ [])
     ∷ row W0 afterP2 (split functions (1 ∷ []) 0 (0 ∷ []) (0 ∷ 1 ∷ 4 ∷ 5 ∷ []) ∷ join functions (0 ∷ 1 ∷ 4 ∷ 5 ∷ []) 0 (0 ∷ 1 ∷ []) (0 ∷ 1 ∷ 4 ∷ 5 ∷ []) ∷ []) (are fresh0 ∷ differ afterP2 ∷ [])
     -- 1 1 8 (T = 21,845) and 16 16 4 (21,760) open; class 8 opens, 9 is refused; 17 columns are refused. (Of tables this large
     -- only what the plan decides is computed; opens-planned says that open answers just that.)
@@ -247,5 +252,5 @@ table =
     ∷ []
 
 pub worked : T (allHold table)
-unfolding table planRefusal some every sum elem all listed tabulate stored first reach needs closure offset number levelOf placeOn place between inRange ratio grown tooLarge lastLevel above below parent child covers supportedAt supported apart ancestor nearAt near absent active refined children cellFits isMesh isAdmissible labelOf labels isLabelled refusal3 refusal6 check freshCells freshFunctions openMesh reactivable isKind isTooDeep markRefusal underMarked underKept meant base tableOf smallest changed written refused settle newCells refusal outcome
+unfolding table planRefusal some every sum elem all listed tabulate stored first reach needs closure offset number levelOf placeOn place between inRange ratio grown tooLarge lastLevel above below parent child covers supportedAt supported apart ancestor nearAt near absent active refined children cellFits isMesh isAdmissible labelOf labels isLabelled refusal3 refusal6 check freshCells freshFunctions openMesh reactivable isKind isTooDeep markRefusal underMarked underKept meant base tableOf smallest changed written refused settle newCells refusal outcome covered
 worked = tt
