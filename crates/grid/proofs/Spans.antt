@@ -278,8 +278,9 @@ near-own p range q b has =
     near-of p range q (cellNumber p x) (cell-number-lt p range x i)
     (rw (cell-place-number p range x i) (near-fact p (cellPlace p q) x (near-ancestor p (cellPlace p q) has)))
 
--- two places computed, of a plan of class 2 and degree 1. The cell of level 1 in row 2 and column 6 stands on row 1 and column 3: the
--- cell in row 0 and column 2, which shares a corner with that one, is near; and no cell is near by q's own column alone
+-- two pairs of places computed, of a plan of class 2 and degree 1. The cell of level 1 in row 2 and column 6 stands on row 1 and
+-- column 3 of level 0: the cell in row 0 and column 2 only shares a corner with that one and is near; the cell in row 1 and
+-- column 5 is beside column 6, the first cell's own, and is not
 abbrev sixByFour : Plan
 sixByFour = record { columns = 6; rows = 4; levels = 2; across = 1; up = 1; class = 2 }
 
