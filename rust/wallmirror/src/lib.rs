@@ -54,7 +54,7 @@ pub mod ffi;
 
 /// The examples of the documentation, run with the others.
 #[cfg(doctest)]
-#[doc = include_str!("../../../docs/RUST_AND_C.md")]
+#[doc = include_str!("../../../README.md")]
 pub struct Documentation;
 
 /// The plan of a mesh. Any numbers may stand in it; the calls refuse those out of range.
@@ -445,7 +445,7 @@ mod tests {
 
     #[test]
     fn the_documentation_has_the_c_example() {
-        let documentation = include_str!("../../../docs/RUST_AND_C.md");
+        let documentation = include_str!("../../../README.md");
         let example = include_str!("../../../examples/c/refine.c");
         assert!(documentation.contains(example));
     }
