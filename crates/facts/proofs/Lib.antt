@@ -4,3 +4,4 @@ pub mod Numbers
 pub mod Sums
 pub mod Least
 pub mod Ranges
+pub mod Turns

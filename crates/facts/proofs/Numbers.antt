@@ -25,7 +25,7 @@ all-i p [] h = tt
 all-i p (x ∷ xs) h =
     and-i (p x) (all p xs) (h x (or-l (eqb x x) (elem x xs) (eqb-refl x))) (all-i p xs (λ c m. h c (or-r (eqb c x) (elem c xs) m)))
 
-elem-append : (c : ℕ) (xs ys : List ℕ) → elem c (xs ++ ys) ≡ elem c xs || elem c ys
+pub elem-append : (c : ℕ) (xs ys : List ℕ) → elem c (xs ++ ys) ≡ elem c xs || elem c ys
 unfolding elem
 elem-append c [] ys = refl
 elem-append c (x ∷ xs) ys = rw (elem-append c xs ys, or-assoc (eqb c x) (elem c xs) (elem c ys))

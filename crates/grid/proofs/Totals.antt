@@ -2,12 +2,12 @@
 use Prim.Native.Nat.{ℕ, zero, suc, _+_, _-_, _*_, _/_, _^_, _≤_}
 use native.Mathlib.Nat.{pow-zero, pow-suc, mul-one, mul-sub, mul-le-mul, le-trans, div-eq-of-eq-mul-right}
 use native.Mathlib.Omega.{arith}
-use mathlib.Core.Bool.{Bool}
+use mathlib.Core.Bool.{Bool, _&&_}
 use mathlib.Core.Path.{_≡_, refl, ap, sym}
 use lib.Dec.{T, leb, leb→le, le→leb, lit≤}
 use Rattle.facts.specs.Bounded.{implies, every}
 use Rattle.facts.proofs.Bounded.{every-e}
-use Rattle.facts.proofs.Tests.{implies-e}
+use Rattle.facts.proofs.Tests.{and-i, implies-e}
 use Rattle.grid.specs.declared.Plan.{Plan}
 use Rattle.grid.specs.Numbering.{offset}
 use Rattle.grid.specs.Plan.{ratio, grown, functionColumnsAt, functionRowsAt, cellOffset, cellTotal, functionTotal}
@@ -37,7 +37,7 @@ cells-closed p k = omega (arith, closed 2 2 (p .columns) (p .rows) k)
 pub cell-total : (p : Plan) → cellTotal p ≡ p .columns * p .rows * (4 ^ p .levels - 1) / 3
 cell-total p = sym (div-eq-of-eq-mul-right (lit≤ tt) (rw mul-sub (omega (arith, cells-closed p (p .levels)))))
 
--- ---- F is at most 26,220 where T is at most 21,845: it grows with the degrees, and at degree 4 each shape is tried
+-- ---- the largest F by the largest T: F grows with the degrees, and at degree 4 each shape is tried
 
 offset-le : (w h u v : ℕ → ℕ) → ((k : ℕ) → w k ≤ u k) → ((k : ℕ) → h k ≤ v k) → (k : ℕ) → offset w h k ≤ offset u v k
 unfolding offset
@@ -48,33 +48,42 @@ offset-le w h u v f g (suc k) = omega (arith, offset-le w h u v f g k, mul-le-mu
 abbrev shape : ℕ → ℕ → ℕ → Plan
 shape L a b = record { columns = a; rows = b; levels = L; across = 4; up = 4; class = 0 }
 
-unfoldable fits : ℕ → ℕ → ℕ → Bool
-fits L a b = implies (leb (cellTotal (shape L a b)) 21845) (leb (functionTotal (shape L a b)) 26220)
+-- where such a plan has at most `limit` cells, it has at most `bound` functions
+unfoldable fits : ℕ → ℕ → ℕ → ℕ → ℕ → Bool
+fits limit bound L a b = implies (leb 1 a && (leb 1 b && leb (cellTotal (shape L a b)) limit)) (leb (functionTotal (shape L a b)) bound)
 
-abbrev rowsFit : ℕ → ℕ → Bool
-rowsFit L a = every 17 (fits L a)
+abbrev rowsFit : ℕ → ℕ → ℕ → ℕ → Bool
+rowsFit limit bound L a = every 17 (fits limit bound L a)
 
-abbrev shapesFit : ℕ → Bool
-shapesFit L = every 17 (rowsFit L)
+abbrev shapesFit : ℕ → ℕ → ℕ → Bool
+shapesFit limit bound L = every 17 (rowsFit limit bound L)
 
-all-fit : T (every 9 shapesFit)
-unfolding every fits offset grown ratio
-all-fit = tt
+module _ (limit bound : ℕ) (all-fit : T (every 9 (shapesFit limit bound))) where
+  fits-fact : (L a b : ℕ) → T (fits limit bound L a b) → 1 ≤ a → 1 ≤ b → cellTotal (shape L a b) ≤ limit → functionTotal (shape L a b) ≤ bound
+  unfolding fits
+  fits-fact L a b t x y m =
+      leb→le _ _ (implies-e (leb 1 a && (leb 1 b && leb (cellTotal (shape L a b)) limit)) _ t
+      (and-i (leb 1 a) _ (le→leb 1 a x) (and-i (leb 1 b) _ (le→leb 1 b y) (le→leb _ _ m))))
 
-fits-fact : (L a b : ℕ) → T (fits L a b) → cellTotal (shape L a b) ≤ 21845 → functionTotal (shape L a b) ≤ 26220
-unfolding fits
-fits-fact L a b t m = leb→le _ _ (implies-e (leb (cellTotal (shape L a b)) 21845) _ t (le→leb _ _ m))
+  functions-within : (p : Plan) → InRange p → cellTotal p ≤ limit → functionTotal p ≤ bound
+  unfolding ratio
+  functions-within p r m =
+      let s : Plan = shape (p .levels) (p .columns) (p .rows) in
+      let f1 = every-e 9 (shapesFit limit bound) all-fit (p .levels) (omega arith) in
+      let f2 = every-e 17 (rowsFit limit bound (p .levels)) f1 (p .columns) (omega arith) in
+      let f3 = every-e 17 (fits limit bound (p .levels) (p .columns)) f2 (p .rows) (omega arith) in
+      le-trans
+      (offset-le (functionColumnsAt p) (functionRowsAt p) (functionColumnsAt s) (functionRowsAt s) (λ k. omega arith) (λ k. omega arith) (p .levels))
+      (fits-fact (p .levels) (p .columns) (p .rows) f3 (r .columns≥) (r .rows≥) m)
 
 pub functions-bound : (p : Plan) → InRange p → cellTotal p ≤ 21845 → functionTotal p ≤ 26220
-unfolding ratio
-functions-bound p r m =
-    let s : Plan = shape (p .levels) (p .columns) (p .rows) in
-    let f1 = every-e 9 shapesFit all-fit (p .levels) (omega arith) in
-    let f2 = every-e 17 (rowsFit (p .levels)) f1 (p .columns) (omega arith) in
-    let f3 = every-e 17 (fits (p .levels) (p .columns)) f2 (p .rows) (omega arith) in
-    le-trans
-    (offset-le (functionColumnsAt p) (functionRowsAt p) (functionColumnsAt s) (functionRowsAt s) (λ k. omega arith) (λ k. omega arith) (p .levels))
-    (fits-fact (p .levels) (p .columns) (p .rows) f3 m)
+unfolding every fits offset grown ratio
+functions-bound = functions-within 21845 26220 tt
+
+-- the session program's walls have at most 4,096 cells
+pub session-functions-bound : (p : Plan) → InRange p → cellTotal p ≤ 4096 → functionTotal p ≤ 5784
+unfolding every fits offset grown ratio
+session-functions-bound = functions-within 4096 5784 tt
 
 -- and no smaller bound holds: 16 1 6 of degree 4 has as many
 pub functions-reached : (p : Plan) × InRange p × (cellTotal p ≤ 21845) × (functionTotal p ≡ 26220)

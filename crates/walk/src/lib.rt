@@ -1,14 +1,18 @@
 // From a cell table to the smallest admissible mesh around a base set: the closure under neighbourhoods, in code.
+use grid::Cell;
 use grid::Place;
 use grid::Plan;
 ghost use mathlib.Core.Path.{_≡_};
-ghost use Prim.Native.Nat.{ℕ, _+_, _*_, _-_, _<_, _≤_};
-ghost use lib.ListN.{length, getD, set};
+ghost use Prim.Native.Nat.{ℕ, _+_, _<_, _≤_};
+ghost use lib.ListN.{length, set};
 ghost use Rattle.grid.specs.Range.{InRange};
-ghost use Rattle.grid.specs.Plan.{cellTotal, cellPlace, cellNumber, CellInside, below};
+ghost use Rattle.grid.specs.Plan.{ratio, cellTotal, cellPlace, cellNumber, CellInside, below};
 ghost use Rattle.refine.specs.Calls.{refine, coarsen, base, smallest};
-ghost use Rattle.walk.specs.Walk.{at, fillRow, fillChildren, writeCell, walkNear, refineCell, flagged, visit, pass};
+ghost use Rattle.walk.specs.Walk.{fillRow, fillChildren, writeCell, walkNear, refineCell, flagged, visit, pass};
 ghost use Rattle.walk.specs.Ready.{Sized, Ready};
+
+// How many columns of the next level stand on one: where this crate's code knows the grid's ratio.
+const RATIO: u32 = 2;
 
 // What a pass does at each cell.
 enum Pass {
@@ -18,17 +22,6 @@ enum Pass {
     Activate,
     // the neighbourhood of a refined cell is refined with all that it needs
     Close,
-}
-
-// The byte of the cell at a place.
-fn byte_at(plan: Plan, cells: &[u8], place: Place) -> u8
-    requires { ⌜ Sized plan (length (now cells)) ⌝ }
-    requires { ⌜ CellInside plan place ⌝ }
-    ensures { λ r. ⌜ r ≡ getD (now (cells .entry)) (cellNumber plan place) 0 ⌝ }
-{
-    let cell = plan.cell_number(place);
-    let at = cell.0 as usize;
-    cells[at]
 }
 
 // Writes one byte of a level's part of the table.
@@ -57,7 +50,7 @@ fn put(plan: Plan, cells: &mut [u8], place: Place, value: u8)
 fn child(plan: Plan, place: Place, a: u32, b: u32) -> Place
     requires { ⌜ InRange plan ⌝ }
     requires { ⌜ CellInside plan place ⌝ }
-    requires { ⌜ (a < 2) × (b < 2) ⌝ }
+    requires { ⌜ (a < ratio plan) × (b < ratio plan) ⌝ }
     ensures { λ r. ⌜ r ≡ below plan place a b ⌝ }
 {
     let level = place.level;
@@ -65,8 +58,8 @@ fn child(plan: Plan, place: Place, a: u32, b: u32) -> Place
     let column = place.column;
     Place {
         level: level + 1,
-        row: row * 2 + a,
-        column: column * 2 + b,
+        row: row * RATIO + a,
+        column: column * RATIO + b,
     }
 }
 
@@ -75,11 +68,11 @@ fn fill_row(plan: Plan, cells: &mut [u8], place: Place, a: u32, value: u8)
     requires { ⌜ Sized plan (length (now cells)) ⌝ }
     requires { ⌜ CellInside plan place ⌝ }
     requires { ⌜ place .level + 1 < plan .levels ⌝ }
-    requires { ⌜ a < 2 ⌝ }
+    requires { ⌜ a < ratio plan ⌝ }
     ensures { λ _. ⌜ now (cells .exit) ≡ fillRow plan value place a (now (cells .entry)) ⌝ }
 {
     let mut b = 0;
-    while b < 2 {
+    while b < RATIO {
         put(plan, cells, child(plan, place, a, b), value);
         b += 1;
     }
@@ -93,7 +86,7 @@ fn fill_children(plan: Plan, cells: &mut [u8], place: Place, value: u8)
     ensures { λ _. ⌜ now (cells .exit) ≡ fillChildren plan value place (now (cells .entry)) ⌝ }
 {
     let mut a = 0;
-    while a < 2 {
+    while a < RATIO {
         fill_row(plan, cells, place, a, value);
         a += 1;
     }
@@ -112,13 +105,15 @@ fn write_cell(plan: Plan, cells: &mut [u8], place: Place, value: u8)
 }
 
 // Refines the cell at a place, after its neighbourhood.
-fn refine_cell(plan: Plan, cells: &mut [u8], place: Place)
+fn refine_cell(plan: Plan, cells: &mut [u8], cell: Cell, place: Place)
     requires { ⌜ Sized plan (length (now cells)) ⌝ }
     requires { ⌜ CellInside plan place ⌝ }
+    requires { ⌜ cell .0 ≡ cellNumber plan place ⌝ }
     requires { ⌜ place .level + 1 < plan .levels ⌝ }
     ensures { λ _. ⌜ ((n : ℕ) → place .level < n → now (cells .exit) ≡ refineCell n plan place (now (cells .entry))) ⌝ }
 {
-    if byte_at(plan, cells, place) == 2 {
+    let number = cell.0 as usize;
+    if cells[number] == 2 {
         return;
     }
     refine_neighbourhood(plan, cells, place);
@@ -144,6 +139,8 @@ fn refine_neighbourhood(plan: Plan, cells: &mut [u8], place: Place)
     let coarse = near.level;
     let rows = near.rows;
     let columns = near.columns;
+    let offset = plan.cell_offset(coarse);
+    let width = plan.columns_at(coarse);
     let north = rows.end;
     let west = columns.first;
     let east = columns.end;
@@ -151,9 +148,11 @@ fn refine_neighbourhood(plan: Plan, cells: &mut [u8], place: Place)
     while row < north {
         let mut column = west;
         while column < east {
+            let number = offset + (row * width + column);
             refine_cell(
                 plan,
                 cells,
+                Cell(number),
                 Place {
                     level: coarse,
                     row,
@@ -196,20 +195,21 @@ fn next(plan: Plan, place: Place) -> Place
     }
 }
 
-// What a pass does at the cell with number c.
-fn visit(plan: Plan, cells: &mut [u8], flags: &[u8], step: Pass, c: usize, place: Place)
+// What a pass does at a cell.
+fn visit(plan: Plan, cells: &mut [u8], flags: &[u8], step: Pass, cell: Cell, place: Place)
     requires { ⌜ Sized plan (length (now cells)) ⌝ }
     requires { ⌜ length (now flags) ≡ cellTotal plan ⌝ }
-    requires { ⌜ c < cellTotal plan ⌝ }
-    requires { ⌜ place ≡ cellPlace plan c ⌝ }
+    requires { ⌜ cell .0 < cellTotal plan ⌝ }
+    requires { ⌜ place ≡ cellPlace plan (cell .0) ⌝ }
     requires { ⌜ CellInside plan place ⌝ }
     requires { ⌜ place .level + 1 < plan .levels ⌝ }
-    ensures { λ _. ⌜ now (cells .exit) ≡ visit step plan (now (flags .entry)) c (now (cells .entry)) ⌝ }
+    ensures { λ _. ⌜ now (cells .exit) ≡ visit step plan (now (flags .entry)) (cell .0) (now (cells .entry)) ⌝ }
 {
+    let c = cell.0 as usize;
     match step {
         Pass::Refine => {
             if flags[c] == 1 {
-                refine_cell(plan, cells, place);
+                refine_cell(plan, cells, cell, place);
             }
         }
         Pass::Activate => {
@@ -232,7 +232,7 @@ fn run(plan: Plan, cells: &mut [u8], flags: &[u8], step: Pass)
     ensures { λ _. ⌜ now (cells .exit) ≡ pass step plan (now (flags .entry)) (now (cells .entry)) ⌝ }
 {
     let last = plan.levels - 1;
-    let inner = plan.cell_offset(last) as usize;
+    let inner = plan.cell_offset(last);
     let mut place = Place {
         level: 0,
         row: 0,
@@ -240,7 +240,7 @@ fn run(plan: Plan, cells: &mut [u8], flags: &[u8], step: Pass)
     };
     let mut c = 0;
     while c < inner {
-        visit(plan, cells, flags, step, c, place);
+        visit(plan, cells, flags, step, Cell(c), place);
         place = next(plan, place);
         c += 1;
     }

@@ -1,5 +1,6 @@
 -- `child` meets its contract: its row and column fit. Assumes nothing.
 use native.Mathlib.Omega.{arith}
+use Rattle.grid.specs.Plan.{ratio}
 use Rattle.walk.proofs.Places.{place-small, child-is}
 use borrow.Author.Needs.{needs}
 use Rattle.walk.proofs.child.Statement.{statement}
@@ -12,12 +13,14 @@ mul-t9 : tie.Need-mul-t9
 mul-t9 c = omega (arith, place-small (c .pre .0) (c .pre .1 .0))
 
 add-t10 : tie.Need-add-t10
+unfolding ratio
 add-t10 c = omega (arith, place-small (c .pre .0) (c .pre .1 .0))
 
 mul-t11 : tie.Need-mul-t11
 mul-t11 c = omega (arith, place-small (c .pre .0) (c .pre .1 .0))
 
 add-t12 : tie.Need-add-t12
+unfolding ratio
 add-t12 c = omega (arith, place-small (c .pre .0) (c .pre .1 .0))
 
 returns : tie.Need-returns

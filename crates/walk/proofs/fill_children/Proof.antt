@@ -20,6 +20,7 @@ loop-holds : tie.Need-loop-holds Inv-loop μ-loop
 loop-holds c = (search needs, search needs, sweep-none _ _ _)
 
 fill-row-requires : tie.Need-fill-row-requires Inv-loop μ-loop
+unfolding ratio
 fill-row-requires c κs = search needs
 
 add-a : tie.Need-add-a Inv-loop μ-loop

@@ -22,9 +22,11 @@ loop-holds : tie.Need-loop-holds Inv-loop μ-loop
 loop-holds c = (search needs, search needs, sweep-none _ _ _)
 
 child-requires : tie.Need-child-requires Inv-loop μ-loop
+unfolding ratio
 child-requires c κs = search needs
 
 put-requires : tie.Need-put-requires Inv-loop μ-loop
+unfolding ratio
 put-requires c κs =
     let s = c .before .before .before .before .before in
     let a = s .args in

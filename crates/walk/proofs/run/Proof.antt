@@ -28,9 +28,6 @@ sub-last c = omega (arith, c .before .before .before .pre .0 .range .levels≥)
 cell-offset-requires : tie.Need-cell-offset-requires Inv-loop μ-loop
 cell-offset-requires c κs = (c .before .before .before .pre .0 .range, omega arith)
 
-cast-inner : tie.Need-cast-inner Inv-loop μ-loop
-cast-inner c = search needs
-
 loop-holds : tie.Need-loop-holds Inv-loop μ-loop
 loop-holds c =
     let s = c .before .before .before .before in
@@ -107,7 +104,6 @@ run-spec =
     μ-loop
     sub-last
     cell-offset-requires
-    cast-inner
     loop-holds
     visit-requires
     next-requires

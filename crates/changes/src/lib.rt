@@ -1,0 +1,107 @@
+// What follows when the new tables of a call are known: the numbers that changed, refusals 10 and 11, and what is written.
+// Document 01, "The calls" and "The refusal table".
+ghost use mathlib.Core.Path.{_≡_};
+ghost use mathlib.Core.Bool.{not, Bool·beq};
+ghost use lib.Dec.{eqb};
+ghost use lib.ListN.{length};
+ghost use Rattle.refine.specs.Calls.{changed, written, settle};
+ghost use Rattle.changes.specs.Changes.{Room, Sizes, made};
+use grid::Plan;
+use refine::Answer;
+
+// The bytes of one table to another.
+pub fn copy_bytes(to: &mut [u8], from: &[u8])
+    requires { ⌜ length (now to) ≡ length (now from) ⌝ }
+    ensures { λ _. ⌜ now (to .exit) ≡ now (from .entry) ⌝ }
+{
+    let mut i = 0;
+    while i < from.len() {
+        to[i] = from[i];
+        i += 1;
+    }
+}
+
+// One of the bytes is 2 (refined, deactivated) and the other is not.
+fn differ(a: u8, b: u8) -> bool
+    ensures { λ r. ⌜ r ≡ not (Bool·beq (eqb a 2) (eqb b 2)) ⌝ }
+{
+    if a == 2 {
+        return b != 2;
+    }
+    b == 2
+}
+
+// How many numbers changed.
+fn count_changed(old: &[u8], new: &[u8]) -> usize
+    requires { ⌜ length (now old) ≡ length (now new) ⌝ }
+    ensures { λ r. ⌜ r ≡ length (changed (length (now (old .entry))) (now (old .entry)) (now (new .entry))) ⌝ }
+{
+    let mut n = 0;
+    let mut i = 0;
+    while i < old.len() {
+        if differ(old[i], new[i]) {
+            n += 1;
+        }
+        i += 1;
+    }
+    n
+}
+
+// The numbers that changed, in rising order; the entries past them stay.
+fn list_changed(old: &[u8], new: &[u8], list: &mut [u32])
+    requires { ⌜ Room (now old) (now new) (now list) ⌝ }
+    ensures { λ _. ⌜ now (list .exit) ≡ written (changed (length (now (old .entry))) (now (old .entry)) (now (new .entry))) (now (list .entry)) ⌝ }
+{
+    let mut n: usize = 0;
+    let mut i = 0;
+    while i < old.len() {
+        if differ(old[i], new[i]) {
+            list[n] = i as u32;
+            n += 1;
+        }
+        i += 1;
+    }
+}
+
+// A refusal answers its number, with zero lengths.
+fn refuse(number: u32) -> Answer
+    ensures { λ r. ⌜ r ≡ record { number = number; cells = 0; functions = 0 } ⌝ }
+{
+    Answer {
+        number,
+        cells: 0,
+        functions: 0,
+    }
+}
+
+// The changes are counted before anything is written; then refusal 10, refusal 11, or the lists, the cells and the functions.
+pub fn settle(
+    plan: Plan,
+    cells: &mut [u8],
+    functions: &mut [u8],
+    cell_list: &mut [u32],
+    function_list: &mut [u32],
+    new_cells: &[u8],
+    new_functions: &[u8],
+) -> Answer
+    requires { ⌜ Sizes plan (now cells) (now functions) (now «new_cells») (now «new_functions») ⌝ }
+    ensures { λ r. ⌜ made r (now (cells .exit)) (now (functions .exit)) (now («cell_list» .exit)) (now («function_list» .exit)) ≡ settle plan (now (cells .entry)) (now (functions .entry)) (now («cell_list» .entry)) (now («function_list» .entry)) (now («new_cells» .entry)) (now («new_functions» .entry)) ⌝ }
+{
+    let cell_count = count_changed(cells, new_cells);
+    let function_count = count_changed(functions, new_functions);
+    if cell_list.len() < cell_count {
+        return refuse(10);
+    }
+    if function_list.len() < function_count {
+        return refuse(11);
+    }
+    list_changed(cells, new_cells, cell_list);
+    list_changed(functions, new_functions, function_list);
+    copy_bytes(cells, new_cells);
+    copy_bytes(functions, new_functions);
+    Answer {
+        number: 0,
+        cells: cell_count as u32,
+        functions: function_count as u32,
+    }
+}

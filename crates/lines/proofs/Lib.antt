@@ -1,0 +1,5 @@
+pub mod Texts
+pub mod Fields
+pub mod Output
+pub mod ReadBack
+pub mod Examples
