@@ -24,8 +24,8 @@ use Rattle.grid.proofs.Small.{offset-small}
 use Rattle.mesh.specs.Mesh.{active, refined, isMesh, isAdmissible, isLabelled, refusal3, refusal6, check, freshCells, freshFunctions, openMesh, tally, count}
 use Rattle.mesh.proofs.Bridge.{chain, pass, stop}
 use Rattle.mesh.proofs.Area.{area-4}
-use Rattle.tables.specs.Scan.{byteIs, freshByte}
-use Rattle.tables.proofs.Levels.{offset-zero, offset-next, level-ends, columns-pos}
+use Rattle.tables.specs.Entries.{byteIs, freshByte}
+use Rattle.cells.proofs.Levels.{offset-zero, offset-next, level-ends, columns-pos}
 
 module _ (p : Plan) (cs fs : List ℕ) where
   -- ---- refusals 1 to 3

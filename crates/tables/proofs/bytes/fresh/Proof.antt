@@ -6,7 +6,7 @@ use lib.ListN.{length}
 use borrow.Author.Needs.{needs}
 use borrow.Author.Tests.{lt-ltb, le-ltb}
 use Rattle.facts.proofs.Ranges.{written-same, written-more, written-part}
-use Rattle.tables.specs.Scan.{freshByte}
+use Rattle.tables.specs.Entries.{freshByte}
 use Rattle.tables.proofs.bytes.fresh.Statement.{statement}
 use Rattle.tables.proofs.bytes.fresh.Tie as tie
 

@@ -7,7 +7,7 @@ use lib.ListN.{length}
 use borrow.Author.Needs.{needs}
 use Rattle.facts.specs.Bounded.{sum}
 use Rattle.mesh.specs.Mesh.{tally}
-use Rattle.tables.specs.Scan.{byteIs}
+use Rattle.tables.specs.Entries.{byteIs}
 use Rattle.tables.proofs.Calls.{tally-yes, tally-no}
 use Rattle.tables.proofs.bytes.tally.Statement.{statement}
 use Rattle.tables.proofs.bytes.tally.Tie as tie
