@@ -5,3 +5,5 @@ pub mod Sums
 pub mod Least
 pub mod Ranges
 pub mod Turns
+pub mod Greatest
+pub mod Mapped

@@ -2,3 +2,5 @@ pub mod Bounded
 pub mod Numbers
 pub mod Least
 pub mod Ranges
+pub mod Greatest
+pub mod Mapped

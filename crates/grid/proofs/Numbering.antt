@@ -28,7 +28,7 @@ module _ (w h : ℕ → ℕ) where
       go true e ih = let i = ih (ltb-true _ _ e) in omega arith
       go false e ih = omega (arith, ltb-false)
 
-  offset-step : (j k : ℕ) → j < k → offset w h j + h j * w j ≤ offset w h k
+  pub offset-step : (j k : ℕ) → j < k → offset w h j + h j * w j ≤ offset w h k
   unfolding offset
   offset-step j zero b = absurd (omega arith)
   offset-step j (suc k) b = go (eq-or-lt-of-le (le-of-suc-le-suc b)) (offset-step j k)

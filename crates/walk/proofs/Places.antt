@@ -18,7 +18,7 @@ use Rattle.grid.specs.Plan.{ratio, columnsAt, rowsAt, cellOffset, cellTotal, ce
 use Rattle.grid.specs.Range.{InRange}
 use Rattle.grid.proofs.Small.{grown-small}
 use Rattle.grid.proofs.Laws.{ratio-pos, cell-inside, cell-number-lt, cell-number-place, cell-place-number, child-lt, child-place}
-use Rattle.walk.specs.Walk.{at, inner}
+use Rattle.walk.specs.Walk.{at, innerLevels, inner}
 use Rattle.walk.specs.Ready.{Sized}
 
 -- a place's row and column are small
@@ -52,9 +52,6 @@ put-set xs a i v =
     let e₂ : drop (length xs - a) (drop a xs) ≡ [] = drop-of-length-le (drop a xs) (le-of-eq (length-drop a xs)) in
     rw (e₁, e₂, append-nil, ← drop-set-add a xs i v, ← take-set-le a xs (a + i) v (le-add-right a i)) (take-append-drop a (set xs (a + i) v))
 
-pub part-length : (xs : List ℕ) (a : ℕ) → length (take (length xs - a) (drop a xs)) ≡ length xs - a
-part-length xs a = rw (take-all _ _ (le-of-eq (length-drop a xs))) (length-drop a xs)
-
 -- a child's place, as the code makes it
 pub child-is : (p : Plan) (x : Place) (a b : ℕ) → record { level = x .level + 1; row = x .row * 2 + a; column = x .column * 2 + b } ≡ below p x a b
 unfolding below ratio
@@ -74,9 +71,9 @@ child-inside p x a b range i l ha hb =
 module _ (p : Plan) (range : InRange p) (c : ℕ) where
   pub inner-level : c < inner p → (c < cellTotal p) × (cellLevel p c + 1 < p .levels)
   inner-level h =
-      let x : Place = place (columnsAt p) (rowsAt p) (p .levels - 1) c in
-      let i = numbering.place-inside (columnsAt p) (rowsAt p) (λ k. grown-pos (ratio p) (ratio-pos p) (p .columns) k (range .columns≥)) (p .levels - 1) c h in
-      let n : cellNumber p x ≡ c = numbering.number-place (columnsAt p) (rowsAt p) (λ k. grown-pos (ratio p) (ratio-pos p) (p .columns) k (range .columns≥)) (p .levels - 1) c h in
+      let x : Place = place (columnsAt p) (rowsAt p) (innerLevels p) c in
+      let i = numbering.place-inside (columnsAt p) (rowsAt p) (λ k. grown-pos (ratio p) (ratio-pos p) (p .columns) k (range .columns≥)) (innerLevels p) c h in
+      let n : cellNumber p x ≡ c = numbering.number-place (columnsAt p) (rowsAt p) (λ k. grown-pos (ratio p) (ratio-pos p) (p .columns) k (range .columns≥)) (innerLevels p) c h in
       let lv : x .level + 1 < p .levels = omega (arith, i .level<) in
       let j : CellInside p x = record { level< = omega arith; row< = i .row<; column< = i .column< } in
       let e : cellPlace p c ≡ x = ap (cellPlace p) (sym n) ∙ cell-place-number p range x j in
@@ -86,7 +83,7 @@ module _ (p : Plan) (range : InRange p) (c : ℕ) where
   level-inner i l =
       let j = cell-inside p range c i in
       subst (λ (m : ℕ). m < inner p) (cell-number-place p range c i)
-      (numbering.number-lt (columnsAt p) (rowsAt p) (p .levels - 1) (cellPlace p c) (record { level< = omega arith; row< = j .row<; column< = j .column< }))
+      (numbering.number-lt (columnsAt p) (rowsAt p) (innerLevels p) (cellPlace p c) (record { level< = omega arith; row< = j .row<; column< = j .column< }))
 
 -- ---- the place of the next number
 

@@ -3,14 +3,13 @@
 use mathlib.Core.Path.{_≡_, refl, sym, ap, subst, _∙_}
 use mathlib.Core.Bool.{Bool, true, false, _||_, or-false}
 use mathlib.Core.List.{List}
-use Prim.Native.Nat.{ℕ, zero, suc, _+_, _-_, _≤_, _<_}
+use Prim.Native.Nat.{ℕ, zero, suc, _+_, _<_}
 use native.Mathlib.Omega.{arith}
 use lib.Dec.{T, eqb, eqb→eq, eqb-refl, leb, leb→le, nleb→lt}
 use Rattle.facts.proofs.Tests.{or-l, or-r, or-e, cases, differ, T-true, T-false, not-e}
 use Rattle.hierarchy.specs.Hierarchy.{Cells}
 use Rattle.grid.specs.declared.Plan.{Plan}
 use Rattle.grid.specs.declared.Place.{Place}
-use Rattle.grid.specs.declared.Span.{Span}
 use Rattle.grid.specs.declared.Rectangle.{Rectangle}
 use Rattle.grid.specs.Plan.{cellTotal, cellLevel, cellPlace, cellNumber, CellInside, parent, near, hierarchy}
 use Rattle.grid.specs.Spans.{aroundSpan, around, neighbourhood}
@@ -18,7 +17,7 @@ use Rattle.grid.specs.Range.{InRange, HasNeighbourhood}
 use Rattle.grid.proofs.Laws.{parent-lt, near-in, near-level, cell-inside, cell-number-lt, cell-number-place, cell-place-number}
 use Rattle.grid.proofs.Spans.{InSpan, InRectangle, rectangle-fact, rectangle-test, ancestor-in, near-neighbourhood, near-is}
 use Rattle.mesh.specs.Mesh.{tableOf}
-use Rattle.walk.specs.Walk.{sweep, at, writeCell, over, walkNear, refineCell}
+use Rattle.walk.specs.Walk.{at, writeCell, over, walkNear, refineCell}
 use Rattle.walk.proofs.Writing.{refined-is, rewritten}
 use Rattle.walk.proofs.Growing.{Allowed, Between, grows-none, grows-more, grows-up, Reaches, Walks, Swept, between-more, walks-none, walks-sweep, walks-is, walks-has, walks-up}
 
@@ -59,9 +58,6 @@ module _ (p : Plan) (range : InRange p) (q : ℕ) (i : q < cellTotal p) (has : H
 
 -- ---- walking a neighbourhood
 
-span-end : (s : Span) (x : ℕ) → s .first ≤ x → x < s .first + (s .end - s .first) → InSpan s x
-span-end s x a b = omega arith
-
 module _ (p : Plan) (range : InRange p) (A K : Cells) (l : ℕ) (f : Place → List ℕ → List ℕ) (q : ℕ) (i : q < cellTotal p)
     (each : (d : ℕ) → d < cellTotal p → T (near p q d) → Walks p A K l (f (cellPlace p d)) (λ e. e ≡ d)) where
   over-walks : HasNeighbourhood p (cellLevel p q) → Walks p A K l (over f (neighbourhood p (cellPlace p q))) (λ d. T (near p q d))
@@ -74,13 +70,9 @@ module _ (p : Plan) (range : InRange p) (A K : Cells) (l : ℕ) (f : Place → L
       let rows = n .rows in
       let columns = n .columns in
       (cellPlace p d .row, rows .from, omega arith, (cellPlace p d .column, columns .from, omega arith, near-place p range q i has d t)))
-      (walks-sweep p A K l
-      (λ y. sweep (λ x. f (at (r .level) y x)) (r .columns .first) (r .columns .end - r .columns .first))
-      (λ y. Swept p A K (D y) (r .columns .first) (r .columns .end - r .columns .first))
-      (r .rows .first) (r .rows .end - r .rows .first)
-      (λ y ys yn. walks-sweep p A K l (λ x. f (at (r .level) y x)) (D y) (r .columns .first) (r .columns .end - r .columns .first)
-      (λ x xw xe. let rows = span-end (r .rows) y ys yn in
-      let columns = span-end (r .columns) x xw xe in
+      (walks-sweep p A K l _ (λ y. Swept p A K (D y) _ _) _ _ (λ y ys yn. walks-sweep p A K l _ (D y) _ _ (λ x xw xe.
+      let rows : InSpan (r .rows) y = omega arith in
+      let columns : InSpan (r .columns) x = omega arith in
       subst (λ (z : Place). Walks p A K l (f z) (D y x)) (rectangle-place p range q i has y x rows columns)
       (each _ (rectangle-lt p range q i has y x rows columns) (rectangle-near p range q i has y x rows columns)))))
 

@@ -69,9 +69,13 @@ visit Refine p flags c t = cond (flagged flags c) (refineCell (p .levels) p (cel
 visit Activate p flags c t = cond (flagged flags c) (writeCell p 1 (cellPlace p c) t) t
 visit Close p flags c t = cond (eqb (getD t c 0) 2) (walkNear (refineCell (p .levels) p) p (cellPlace p c) t) t
 
--- how many cells are not of the last level: only these have children, and they come first
+-- the levels whose cells have children: all but the last
+abbrev pub innerLevels : Plan → ℕ
+innerLevels p = p .levels - 1
+
+-- how many cells they have; these come first
 abbrev pub inner : Plan → ℕ
-inner p = cellOffset p (p .levels - 1)
+inner p = cellOffset p (innerLevels p)
 
 unfoldable pub pass : Pass → Plan → List ℕ → List ℕ → List ℕ
 pass w p flags = sweep (visit w p flags) 0 (inner p)

@@ -5,7 +5,8 @@ use mathlib.Core.Path.{ap, _∙_}
 use Prim.Native.Nat.{ℕ, _+_, _*_, _-_}
 use native.Mathlib.Omega.{arith}
 use lib.ListN.{length, set}
-use Rattle.walk.proofs.Places.{Sited, sited, put-set, part-length}
+use Rattle.facts.proofs.Ranges.{mid-len}
+use Rattle.walk.proofs.Places.{Sited, sited, put-set}
 use borrow.Author.Needs.{needs}
 use Rattle.walk.proofs.put.Statement.{statement}
 use Rattle.walk.proofs.put.Tie as tie
@@ -42,7 +43,9 @@ cast-write : tie.Need-cast-write
 cast-write c = omega (arith, facts (c .before))
 
 write-requires : tie.Need-write-requires
-write-requires c κs = rw part-length (facts (c .before) .in-part)
+write-requires c κs =
+    let d = c .before in
+    rw (mid-len (d .before .cell-offset .result) (d .before .before .before .args .cells .now)) (facts d .in-part)
 
 same-length : tie.Need-same-length
 same-length c = search needs

@@ -1,0 +1,6 @@
+pub mod Boxes
+pub mod Families
+pub mod Levels
+pub mod Meaning
+pub mod Passes
+pub mod Supports
