@@ -17,8 +17,8 @@ ancestorLevel p j = j - (p .class - 1)
 unfoldable pub cellAdmissible : Plan → List ℕ → ℕ → Bool
 cellAdmissible p cells q = implies (refined cells q) (every (cellTotal p) (λ c. implies (near p q c) (refined cells c)))
 
--- a rectangle of cells: `rows` rows of `columns` cells, on a level that is `width` cells wide; its row a begins at at + a * width + left:
--- each of its cells is refined
+-- each cell of a rectangle is refined: it has `rows` rows of `columns` cells, on a level that is `width` cells wide, and its row a begins
+-- at at + a * width + left
 unfoldable pub refinedRows : List ℕ → ℕ → ℕ → ℕ → ℕ → ℕ → Bool
 refinedRows cells at left width rows columns = every rows (λ a. everyFrom (at + a * width + left) columns (refined cells))
 

@@ -20,8 +20,8 @@ pub record MeshTable (p : Plan) (cells : List ℕ) : Type 0 where
   pub sized : Sized p cells
   pub mesh : isMesh p cells ≡ true
 
--- a rectangle of cells: `rows` rows of `columns` cells, on a level that is `width` cells wide; its row a begins at at + a * width + left
--- lies in a table of n entries
+-- a rectangle lies in a table of n entries: it has `rows` rows of `columns` cells, on a level that is `width` cells wide, and its row a
+-- begins at at + a * width + left
 pub record Within (n at left width rows columns : ℕ) : Type 0 where
   pub wide : left + columns ≤ width
   pub tall : at + rows * width ≤ n

@@ -14,14 +14,16 @@ use Rattle.mesh.specs.Mesh.{labelOf}
 abbrev pub labelOn : Plan → List ℕ → ℕ → ℕ → ℕ
 labelOn p cells level j = labelOf p cells (functionOffset p level + j)
 
+-- what refusal 6 asks of one function
 unfoldable pub labelIs : Plan → List ℕ → List ℕ → ℕ → Bool
 labelIs p cells functions f = eqb (getD functions f 0) (labelOf p cells f)
 
--- a rectangle of cells: `rows` rows of `columns` cells, on a level that is `width` cells wide; its row a begins at at + a * width + left:
--- the smallest byte of n cells, and of the rectangle
+-- the smallest byte of n cells, the first of which is `at`
 unfoldable pub leastRow : List ℕ → ℕ → ℕ → ℕ
 leastRow cells at n = least 2 n (λ b. getD cells (at + b) 0)
 
+-- the smallest byte of a rectangle: it has `rows` rows of `columns` cells, on a level that is `width` cells wide, and its row a begins at
+-- at + a * width + left
 unfoldable pub leastRows : List ℕ → ℕ → ℕ → ℕ → ℕ → ℕ → ℕ
 leastRows cells at left width rows columns = least 2 rows (λ a. leastRow cells (at + a * width + left) columns)
 
