@@ -1,0 +1,87 @@
+// The library's interface: the calls, exported with C's calling convention. include/wallmirror.h declares them.
+use grid::Plan;
+use mesh::Count;
+use refine::Answer;
+ghost use mathlib.Core.Path.{_≡_};
+ghost use Rattle.mesh.specs.Mesh.{openMesh, check, count};
+ghost use Rattle.refine.specs.Calls.{refineCells, refineFunctions, coarsenCells, coarsenFunctions};
+ghost use Rattle.changes.specs.Changes.{made};
+
+#[no_mangle]
+pub extern "C" fn wallmirror_open(plan: Plan, cells: &mut [u8], functions: &mut [u8]) -> u32
+    ensures number { λ r. ⌜ r ≡ openMesh plan (now (cells .entry)) (now (functions .entry)) .number ⌝ }
+    ensures cells { λ r. ⌜ now (cells .exit) ≡ openMesh plan (now (cells .entry)) (now (functions .entry)) .cells ⌝ }
+    ensures functions { λ r. ⌜ now (functions .exit) ≡ openMesh plan (now (cells .entry)) (now (functions .entry)) .functions ⌝ }
+{
+    tables::open(plan, cells, functions)
+}
+
+#[no_mangle]
+pub extern "C" fn wallmirror_check(plan: Plan, cells: &[u8], functions: &[u8]) -> u32
+    ensures { λ r. ⌜ r ≡ check plan (now (cells .entry)) (now (functions .entry)) ⌝ }
+{
+    tables::check(plan, cells, functions)
+}
+
+#[no_mangle]
+pub extern "C" fn wallmirror_count(plan: Plan, cells: &[u8], functions: &[u8]) -> Count
+    ensures { λ r. ⌜ r ≡ count plan (now (cells .entry)) (now (functions .entry)) ⌝ }
+{
+    tables::count(plan, cells, functions)
+}
+
+#[no_mangle]
+pub extern "C" fn wallmirror_refine_cells(
+    plan: Plan,
+    cells: &mut [u8],
+    functions: &mut [u8],
+    marks: &[u32],
+    cell_list: &mut [u32],
+    function_list: &mut [u32],
+) -> Answer
+    ensures { λ r. ⌜ made r (now (cells .exit)) (now (functions .exit)) (now («cell_list» .exit)) (now («function_list» .exit)) ≡ refineCells plan (now (cells .entry)) (now (functions .entry)) (now (marks .entry)) (now («cell_list» .entry)) (now («function_list» .entry)) ⌝ }
+{
+    calls::refine_cells(plan, cells, functions, marks, cell_list, function_list)
+}
+
+#[no_mangle]
+pub extern "C" fn wallmirror_refine_functions(
+    plan: Plan,
+    cells: &mut [u8],
+    functions: &mut [u8],
+    marks: &[u32],
+    cell_list: &mut [u32],
+    function_list: &mut [u32],
+) -> Answer
+    ensures { λ r. ⌜ made r (now (cells .exit)) (now (functions .exit)) (now («cell_list» .exit)) (now («function_list» .exit)) ≡ refineFunctions plan (now (cells .entry)) (now (functions .entry)) (now (marks .entry)) (now («cell_list» .entry)) (now («function_list» .entry)) ⌝ }
+{
+    calls::refine_functions(plan, cells, functions, marks, cell_list, function_list)
+}
+
+#[no_mangle]
+pub extern "C" fn wallmirror_coarsen_cells(
+    plan: Plan,
+    cells: &mut [u8],
+    functions: &mut [u8],
+    marks: &[u32],
+    cell_list: &mut [u32],
+    function_list: &mut [u32],
+) -> Answer
+    ensures { λ r. ⌜ made r (now (cells .exit)) (now (functions .exit)) (now («cell_list» .exit)) (now («function_list» .exit)) ≡ coarsenCells plan (now (cells .entry)) (now (functions .entry)) (now (marks .entry)) (now («cell_list» .entry)) (now («function_list» .entry)) ⌝ }
+{
+    calls::coarsen_cells(plan, cells, functions, marks, cell_list, function_list)
+}
+
+#[no_mangle]
+pub extern "C" fn wallmirror_coarsen_functions(
+    plan: Plan,
+    cells: &mut [u8],
+    functions: &mut [u8],
+    marks: &[u32],
+    cell_list: &mut [u32],
+    function_list: &mut [u32],
+) -> Answer
+    ensures { λ r. ⌜ made r (now (cells .exit)) (now (functions .exit)) (now («cell_list» .exit)) (now («function_list» .exit)) ≡ coarsenFunctions plan (now (cells .entry)) (now (functions .entry)) (now (marks .entry)) (now («cell_list» .entry)) (now («function_list» .entry)) ⌝ }
+{
+    calls::coarsen_functions(plan, cells, functions, marks, cell_list, function_list)
+}
