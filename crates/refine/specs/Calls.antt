@@ -1,5 +1,6 @@
 -- Document 01, "The calls" and "The refusal table": refine ("split") and coarsen ("join"), by cells and by functions, each as one
--- function of its whole input. Definitions only.
+-- function of its whole input. Everywhere cs and fs are the cell and the function table, cl and fl the lent cell and function list;
+-- a prime marks what a call makes of them. Definitions only.
 use mathlib.Core.Bool.{Bool, true, false, not, _&&_, _||_, cond, Bool·beq}
 use mathlib.Core.List.{List, _++_}
 use Prim.Native.Nat.{ℕ}
@@ -73,7 +74,8 @@ unfoldable pub base : Direction → List ℕ → Cells → Cells
 base refine cs M c = refined cs c || M c
 base coarsen cs M c = refined cs c && not (M c)
 
--- "the smallest wall of class m whose split cells include" the cells of X (theorem smallest, in proofs/)
+-- "the smallest wall of class m whose split cells include" the cells of X: that it is one, and the smallest, is `call-accepted` of
+-- proofs/Results.antt
 unfoldable pub smallest : Plan → Cells → List ℕ
 smallest p X = tableOf p (stored (cellTotal p) (closure (hierarchy p) (stored (cellTotal p) X)))
 
@@ -100,6 +102,7 @@ refused n cs fs cl fl =
     record { answer = record { number = n; cells = 0; functions = 0 }; cells = cs; functions = fs; cellList = cl; functionList = fl }
 
 -- what follows when the new tables are known: 10, 11, or the changes
+-- (dc and df: the cells and the functions that changed)
 unfoldable pub settle : Plan → List ℕ → List ℕ → List ℕ → List ℕ → List ℕ → List ℕ → Outcome
 settle p cs fs cl fl cs′ fs′ =
     let dc = changed (cellTotal p) cs cs′ in
