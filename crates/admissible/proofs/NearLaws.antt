@@ -1,185 +1,138 @@
--- What the loops of refusal 5 read is the neighbourhood. Assumes nothing.
-use mathlib.Core.Path.{_≡_, sym, ap, _∙_}
-use mathlib.Core.Bool.{Bool, true, false}
+-- The least byte around a cell's ancestor is 2 where the neighbourhood is refined. Assumes nothing.
+use mathlib.Core.Path.{_≡_, sym, ap, subst, _∙_}
+use mathlib.Core.Bool.{Bool, true}
 use mathlib.Core.List.{List}
-use Prim.Native.Nat.{ℕ, suc, min, _+_, _-_, _*_, _≤_, _<_}
-use native.Mathlib.Nat.{min-le-left, min-le-right, le-min}
+use Prim.Native.Nat.{ℕ, _+_, _-_, _*_, _≤_, _<_}
+use native.Mathlib.Nat.{le-refl, le-of-eq, le-antisymm, mul-le-mul-right}
 use native.Mathlib.Omega.{arith}
-use lib.Dec.{T}
+use lib.Dec.{T, eqb, eqb→eq}
 use lib.ListN.{length, getD}
 use borrow.Author.Tests.{eq-eqb, ne-eqb}
 use Rattle.facts.specs.Bounded.{implies, every}
 use Rattle.facts.specs.Ranges.{everyFrom}
-use Rattle.facts.proofs.Tests.{same, implies-i, implies-e, T-true}
+use Rattle.facts.specs.Mapped.{filled}
+use Rattle.facts.proofs.Mapped.{filled-length}
+use Rattle.facts.proofs.Tests.{same, implies-i, implies-e, T-true, true-T, eqb-of}
 use Rattle.facts.proofs.Bounded.{every-i, every-e}
-use Rattle.facts.proofs.Ranges.{from-i, from-e, every-none, every-more, every-stop}
 use Rattle.grid.specs.declared.Plan.{Plan}
 use Rattle.grid.specs.declared.Place.{Place}
-use Rattle.grid.specs.declared.Rectangle.{Rectangle}
 use Rattle.grid.specs.Numbering.{number}
-use Rattle.grid.specs.Plan.{columnsAt, rowsAt, cellOffset, cellTotal, cellPlace, cellNumber, cellLevel, CellInside, ancestor, near}
+use Rattle.grid.specs.Plan.{columnsAt, rowsAt, cellOffset, cellTotal, cellPlace, cellNumber, cellLevel, CellInside, acrossAt, upAt, near}
 use Rattle.grid.specs.Range.{HasNeighbourhood}
-use Rattle.grid.specs.Spans.{aroundSpan, around, ancestorOf, neighbourhood}
+use Rattle.grid.specs.Side.{firstOver}
+use Rattle.grid.specs.Spans.{ancestorOf}
 use Rattle.grid.proofs.Numbering as numbering
-use Rattle.grid.proofs.Direction.{Apart}
-use Rattle.grid.proofs.Laws.{Near, near-places, near-of, cell-inside}
-use Rattle.grid.proofs.Spans.{ancestor-in}
-use Rattle.mesh.specs.Mesh.{refined}
-use Rattle.admissible.specs.Near.{ancestorLevel, cellAdmissible, refinedRows, refinedIn}
-use Rattle.cells.proofs.Levels.{columns-pos, tall}
-use Rattle.cells.proofs.Rows.{every-rows, gap}
-use Rattle.cells.specs.Table.{Sized, Holds}
-
--- ---- one row more
-
-module _ (cells : List ℕ) (at left width columns : ℕ) where
-  pub refined-none : refinedRows cells at left width 0 columns ≡ true
-  unfolding refinedRows
-  refined-none = every-none _
-
-  pub refined-more : (r : ℕ) → refinedRows cells at left width r columns ≡ true → everyFrom (at + r * width + left) columns (refined cells) ≡ true
-      → refinedRows cells at left width (r + 1) columns ≡ true
-  unfolding refinedRows
-  refined-more r e f = every-more r _ e f
-
-  pub refined-stop : (R r : ℕ) → r < R → everyFrom (at + r * width + left) columns (refined cells) ≡ false → refinedRows cells at left width R columns ≡ false
-  unfolding refinedRows
-  refined-stop R r l e = every-stop R r _ l e
-
--- ---- neighbourhoods
+use Rattle.grid.proofs.Laws.{cell-number-lt, cell-place-number, near-in}
+use Rattle.grid.proofs.Sides.{first-lt}
+use Rattle.grid.proofs.Spans.{ancestor-in, near-neighbourhood}
+use Rattle.mesh.specs.Mesh.{refined, isMesh, cellFits}
+use Rattle.mesh.proofs.Bridge.{fits-e}
+use Rattle.windows.specs.Level.{leastUnder, levelLeast, wide, high, LevelRoom, NearRoom}
+use Rattle.windows.proofs.Levels.{under-top, level-at}
+use Rattle.windows.proofs.Under.{near-le, near-ge}
+use Rattle.admissible.specs.Near.{ancestorLevel, cellAdmissible, NearTable}
+use Rattle.cells.proofs.Rows.{every-rows}
+use Rattle.cells.specs.Table.{Sized, MeshTable}
 
 abbrev at : ℕ → ℕ → ℕ → Place
 at k r c = record { level = k; row = r; column = c }
 
-around-low : (n d x : ℕ) → x < n → x - d ≤ min (x + d + 1) n
-around-low n d x l = le-min {k = x - d} {a = x + d + 1} {b = n} (omega arith) (omega arith)
+-- ---- the table of a level
 
--- the numbers at most d from x, below n, are those of the span
-around-in : (n d x y : ℕ) → Apart d y x → y < n → (x - d ≤ y) × (y < min (x + d + 1) n)
-around-in n d x y a l = (omega (arith, a .left), le-min {k = suc y} {a = x + d + 1} {b = n} (omega (arith, a .right)) l)
-
-around-apart : (n d x y : ℕ) → x - d ≤ y → y < min (x + d + 1) n → Apart d y x
-around-apart n d x y l m = record { right = omega (arith, min-le-left (x + d + 1) n); left = omega arith }
-
-module _ (p : Plan) (cells : List ℕ) (s : Sized p cells) (x : Place) (i : CellInside p x) (has : HasNeighbourhood p (x .level)) where
-  abbrev k : ℕ
-  k = ancestorLevel p (x .level)
-
-  abbrev W : ℕ
-  W = columnsAt p k
-
-  abbrev R : Rectangle
-  R = neighbourhood p x
-
-  abbrev row : ℕ
-  row = ancestor p (p .class - 1) (x .row)
-
-  abbrev column : ℕ
-  column = ancestor p (p .class - 1) (x .column)
-
-  inside : CellInside p (ancestorOf p x)
-  inside = ancestor-in p x has i
-
-  pub near-holds : Holds (length cells) (cellOffset p k) W R
-  unfolding neighbourhood around aroundSpan ancestorOf
-  near-holds = record {
-    rows≤ = around-low (rowsAt p k) (p .up) row (inside .row<);
-    columns≤ = around-low W (p .across) column (inside .column<);
-    wide = min-le-right (column + p .across + 1) W;
-    tall = tall p cells s k _ (inside .level<) (min-le-right (row + p .up + 1) (rowsAt p k));
+module _ (p : Plan) (cells : List ℕ) (table : MeshTable p cells) (k : ℕ) where
+  pub near-table : (found start : List ℕ) → k < p .levels → NearRoom p (length start)
+      → found ≡ filled 0 (high p k (2 * p .up) * wide p k (2 * p .across)) (levelLeast p cells k (2 * p .across) (2 * p .up)) start → NearTable p cells found k
+  near-table found start l room e = record {
+    long = rw (ap length e ∙ filled-length 0 _ _ start) (room .enough k l);
+    made = level-at p cells found start k (2 * p .across) (2 * p .up) e (room .enough k l);
   }
 
-  abbrev q : ℕ
-  q = cellNumber p x
+  pub level-room : {n m : ℕ} → k < p .levels → NearRoom p n → NearRoom p m → LevelRoom p k (length cells) m n (2 * p .across) (2 * p .up)
+  level-room l x y = record {
+    range = table .sized .range;
+    level< = l;
+    cells≤ = le-of-eq (sym (table .sized .size));
+    scratch≤ = y .enough k l;
+    out≤ = x .enough k l;
+  }
 
-  q-place : cellPlace p q ≡ x
-  q-place = numbering.place-number _ _ (p .levels) x i
+-- ---- neighbourhoods
 
-  levels : x .level + 1 ≡ k + p .class
-  levels = omega (arith, has .class≢, has .level≥)
+module _ (p : Plan) (cells : List ℕ) (table : MeshTable p cells) where
+  small : (n : ℕ) → n < cellTotal p → getD cells n 0 ≤ 2
+  unfolding isMesh
+  small n b = fits-e p cells n (every-e (cellTotal p) (cellFits p cells) (true-T _ (table .mesh)) n b) .byte
 
-  -- the cell in row a, column b of the rectangle
-  near-cell : (a b : ℕ) → row - p .up ≤ a → a < min (row + p .up + 1) (rowsAt p k) → column - p .across ≤ b → b < min (column + p .across + 1) W
-      → (cellNumber p (at k a b) < cellTotal p) × T (near p q (cellNumber p (at k a b)))
-  unfolding ancestorOf
-  near-cell a b al ah bl bh =
-      let j : CellInside p (at k a b) = record {
-        level< = inside .level<;
-        row< = omega (arith, min-le-right (row + p .up + 1) (rowsAt p k));
-        column< = omega (arith, min-le-right (column + p .across + 1) W);
-      } in
-      let l : cellNumber p (at k a b) < cellTotal p = numbering.number-lt _ _ (p .levels) (at k a b) j in (
-        l,
-        near-of p (s .range) q (cellNumber p (at k a b)) l (rw (q-place, numbering.place-number _ _ (p .levels) (at k a b) j) (record {
-          graded = has .class≢;
-          levels = levels;
-          columns = around-apart W (p .across) column b bl bh;
-          rows = around-apart (rowsAt p k) (p .up) row a al ah;
-        })),
-      )
+  -- the least byte around the ancestor a
+  abbrev least-around : Place → ℕ
+  least-around a = leastUnder p cells (a .level) (2 * p .across) (2 * p .up) (firstOver (upAt p (a .level)) (a .row) + p .up) (firstOver (acrossAt p (a .level)) (a .column) + p .across)
 
-  -- a near cell is in the rectangle
-  module _ (d : ℕ) (l : d < cellTotal p) (t : T (near p q d)) where
-    abbrev y : Place
-    y = cellPlace p d
+  abbrev all-pass : ℕ → Bool
+  all-pass q = every (cellTotal p) (λ c. implies (near p q c) (refined cells c))
 
-    by : Near p x y
-    by = rw q-place at (near-places p (s .range) q d t)
+  near-read : (q : ℕ) → q < cellTotal p → HasNeighbourhood p (cellLevel p q) → eqb (least-around (ancestorOf p (cellPlace p q))) 2 ≡ all-pass q
+  unfolding refined
+  near-read q b has =
+      let range = table .sized .range in
+      same _ _
+      (λ t.
+      let e : least-around (ancestorOf p (cellPlace p q)) ≡ 2 = eqb→eq _ 2 t in
+      every-i (cellTotal p) _ (λ c l. implies-i (near p q c) _ (λ n. eqb-of _ 2 (le-antisymm (small c l) (rw e at (near-le p range cells q b has c n))))))
+      (λ t. eqb-of _ 2 (le-antisymm (under-top p cells _ _ _ _ _)
+      (near-ge p range cells q b has 2 (le-refl 2) (λ c n. le-of-eq (sym (eqb→eq _ 2 (implies-e (near p q c) _ (every-e (cellTotal p) _ t c (near-in p range q c n)) n)))))))
 
-    same-level : y .level ≡ k
-    same-level = omega (arith, by .levels, levels, has .class≢)
+  module _ (x : Place) (i : CellInside p x) (has : HasNeighbourhood p (x .level)) where
+    abbrev k : ℕ
+    k = ancestorLevel p (x .level)
 
-    is : cellOffset p k + y .row * W + y .column ≡ d
-    unfolding number
-    is = rw (← same-level) (numbering.number-place _ _ (columns-pos p cells s) (p .levels) d l)
+    abbrev a : Place
+    a = ancestorOf p x
 
-    in-rows : (row - p .up ≤ y .row) × (y .row < min (row + p .up + 1) (rowsAt p k))
-    in-rows = around-in (rowsAt p k) (p .up) row (y .row) (by .rows) (rw same-level at (cell-inside p (s .range) d l .row<))
+    pub inside : CellInside p a
+    inside = ancestor-in p x has i
 
-    in-columns : (column - p .across ≤ y .column) × (y .column < min (column + p .across + 1) W)
-    in-columns = around-in W (p .across) column (y .column) (by .columns) (rw same-level at (cell-inside p (s .range) d l .column<))
+    abbrev q : ℕ
+    q = cellNumber p x
 
-  abbrev high : ℕ
-  high = min (row + p .up + 1) (rowsAt p k) - (row - p .up)
+    place-read : eqb (least-around a) 2 ≡ all-pass q
+    place-read =
+        let e : cellPlace p q ≡ x = cell-place-number p (table .sized .range) x i in
+        ap (λ (y : Place). eqb (least-around (ancestorOf p y)) 2) (sym e)
+        ∙ near-read q (cell-number-lt p (table .sized .range) x i) (subst (λ (y : Place). HasNeighbourhood p (y .level)) (sym e) has)
 
-  abbrev broad : ℕ
-  broad = min (column + p .across + 1) W - (column - p .across)
+    -- the byte that is read for the cell: r and c are its ancestor's first functions
+    module _ (bytes : List ℕ) (t : NearTable p cells bytes k) (w r c : ℕ) (v : w ≡ wide p k (2 * p .across)) (y : Place) (e : y ≡ a)
+        (er : r ≡ firstOver (upAt p (y .level)) (y .row)) (ec : c ≡ firstOver (acrossAt p (y .level)) (y .column)) where
+      is-row : r ≡ firstOver (upAt p (a .level)) (a .row)
+      is-row = er ∙ ap (λ (y : Place). firstOver (upAt p (y .level)) (y .row)) e
 
-  abbrev start : ℕ → ℕ
-  start a = cellOffset p k + (row - p .up) * W + a * W + (column - p .across)
+      is-column : c ≡ firstOver (acrossAt p (a .level)) (a .column)
+      is-column = ec ∙ ap (λ (y : Place). firstOver (acrossAt p (y .level)) (y .column)) e
 
-  abbrev rows-pass : Bool
-  rows-pass = every high (λ a. everyFrom (start a) broad (refined cells))
+      row-in : r + p .up < high p (a .level) (2 * p .up)
+      row-in = omega (arith, is-row, first-lt (upAt p (a .level)) (a .row) (inside .row<))
 
-  abbrev all-pass : Bool
-  all-pass = every (cellTotal p) (λ d. implies (near p q d) (refined cells d))
+      column-in : c + p .across < wide p (a .level) (2 * p .across)
+      column-in = omega (arith, is-column, first-lt (acrossAt p (a .level)) (a .column) (inside .column<))
 
-  to-rows : T all-pass → T rows-pass
-  unfolding number
-  to-rows t = every-i high _ (λ a u. from-i (start a) broad (refined cells) (λ d l m.
-      let r : ℕ = row - p .up + a in
-      let b : ℕ = d - (cellOffset p k + r * W) in
-      let e : cellOffset p k + r * W + b ≡ d = omega arith in
-      let c = near-cell r b (omega arith) (omega arith) (omega arith) (omega arith) in
-      rw e at (implies-e (near p q (cellNumber p (at k r b))) (refined cells (cellNumber p (at k r b))) (every-e (cellTotal p) _ t (cellNumber p (at k r b)) (c .0)) (c .1))))
+      pub read-fits : ((r + p .up) * w + (c + p .across) < length bytes) × ((r + p .up) * w < length bytes)
+      unfolding ancestorOf
+      read-fits =
+          let m = mul-le-mul-right (wide p k (2 * p .across)) row-in in
+          let n = column-in in
+          rw v (omega (arith, t .long), omega (arith, t .long))
 
-  from-rows : T rows-pass → T all-pass
-  from-rows t = every-i (cellTotal p) _ (λ d l. implies-i (near p q d) (refined cells d) (λ n.
-      let r = in-rows d l n in
-      let c = in-columns d l n in
-      let e = is d l n in
-      let a : ℕ = y d l n .row - (row - p .up) in
-      let f : (row - p .up) * W + a * W ≡ y d l n .row * W = gap (row - p .up) (y d l n .row) W (r .0) in
-      from-e (start a) broad (refined cells) (every-e high _ t a (omega arith)) d (omega arith) (omega arith)))
+      pub read-is : eqb (getD bytes ((r + p .up) * w + (c + p .across)) 0) 2 ≡ all-pass q
+      unfolding ancestorOf
+      read-is =
+          ap (λ w. eqb (getD bytes ((r + p .up) * w + (c + p .across)) 0) 2) v
+          ∙ (ap (λ z. eqb z 2) (t .made (r + p .up) (c + p .across) row-in column-in)
+          ∙ ((λ j. eqb (leastUnder p cells k (2 * p .across) (2 * p .up) (is-row j + p .up) (is-column j + p .across)) 2) ∙ place-read))
 
-  pub near-read : all-pass ≡ refinedIn cells (cellOffset p k) W R
-  unfolding refinedIn refinedRows neighbourhood around aroundSpan ancestorOf
-  near-read = same all-pass rows-pass to-rows from-rows
-
-  -- what is asked of the cell, by its byte
-  pub admissible-refined : {b : Bool} → getD cells q 0 ≡ 2 → b ≡ refinedIn cells (cellOffset p k) W R → b ≡ cellAdmissible p cells q
-  unfolding cellAdmissible refined
-  admissible-refined e f = rw (eq-eqb _ _ e) (f ∙ sym near-read)
+    -- what is asked of the cell, by its byte
+    pub admissible-refined : {b : Bool} → getD cells q 0 ≡ 2 → b ≡ all-pass q → b ≡ cellAdmissible p cells q
+    unfolding cellAdmissible refined
+    admissible-refined e f = rw (eq-eqb _ _ e) f
 
 -- a cell that is not refined asks nothing
 pub admissible-other : (p : Plan) (cells : List ℕ) (q : ℕ) → (getD cells q 0 ≡ 2 → ⊥) → true ≡ cellAdmissible p cells q
@@ -200,5 +153,4 @@ level-free p cells s k l f = every-rows (rowsAt p k) (columnsAt p k) _ ∙ T-tru
         let g : cellLevel p (cellNumber p (at k r c)) ≡ k = ap (λ (x : Place). x .level) (numbering.place-number (columnsAt p) (rowsAt p) (p .levels) (at k r c) (record { level< = l; row< = u; column< = v })) in
         let h : cellLevel p n ≡ k = rw e at g in
         implies-i (refined cells n) _ (λ _. every-i (cellTotal p) _ (λ d m. implies-i (near p n d) (refined cells d) (λ t.
-        let b = near-places p (s .range) n d t in
-        absurd (f (record { class≢ = b .graded; level≥ = omega (arith, b .levels) })))))
+        absurd (f (rw h at (near-neighbourhood p (s .range) n d t))))))

@@ -1,96 +1,39 @@
-// Refusal 5: the mesh is admissible. Each refined cell's neighbourhood is read, row by row.
+// Refusal 5: the mesh is admissible. The least byte around each cell is found for a level at once; a refined cell reads that of its ancestor.
 use grid::Place;
 use grid::Plan;
-use grid::Rectangle;
 ghost use mathlib.Core.Path.{_≡_};
 ghost use Prim.Native.Nat.{_+_, _-_, _*_, _≤_, _<_};
 ghost use lib.ListN.{length};
 ghost use Rattle.facts.specs.Ranges.{everyFrom};
-ghost use Rattle.grid.specs.Plan.{columnsAt, rowsAt, cellOffset, cellNumber, CellInside};
+ghost use Rattle.grid.specs.Plan.{columnsAt, rowsAt, cellOffset, cellNumber, cellTotal, CellInside};
 ghost use Rattle.grid.specs.Range.{HasNeighbourhood};
-ghost use Rattle.mesh.specs.Mesh.{refined, isAdmissible};
-ghost use Rattle.admissible.specs.Near.{refinedRows, refinedIn, cellAdmissible, ancestorLevel};
-ghost use Rattle.cells.specs.Table.{Sized, Within, Holds};
+ghost use Rattle.mesh.specs.Mesh.{isAdmissible};
+ghost use Rattle.admissible.specs.Near.{cellAdmissible, ancestorLevel, NearTable};
+ghost use Rattle.windows.specs.Level.{wide, NearRoom};
+ghost use Rattle.cells.specs.Table.{MeshTable};
 
-// The n cells from `at` on are refined.
-fn row_refined(cells: &[u8], at: usize, n: usize) -> bool
-    requires { ⌜ at + n ≤ length (now cells) ⌝ }
-    ensures { λ r. ⌜ r ≡ everyFrom at n (refined (now (cells .entry))) ⌝ }
-{
-    let mut c = 0;
-    while c < n {
-        if cells[at + c] == 2 {
-            c += 1;
-        } else {
-            return false;
-        }
-    }
-    true
-}
-
-// The cells of a rectangle are refined.
-fn rows_refined(
-    cells: &[u8],
-    at: usize,
-    left: usize,
-    width: usize,
-    rows: usize,
-    columns: usize,
-) -> bool
-    requires { ⌜ Within (length (now cells)) at left width rows columns ⌝ }
-    ensures { λ r. ⌜ r ≡ refinedRows (now (cells .entry)) at left width rows columns ⌝ }
-{
-    let mut first = at;
-    let mut row = 0;
-    while row < rows {
-        if row_refined(cells, first + left, columns) {
-            first += width;
-            row += 1;
-        } else {
-            return false;
-        }
-    }
-    true
-}
-
-fn rectangle_refined(cells: &[u8], offset: usize, width: usize, r: Rectangle) -> bool
-    requires { ⌜ Holds (length (now cells)) offset width r ⌝ }
-    ensures { λ b. ⌜ b ≡ refinedIn (now (cells .entry)) offset width r ⌝ }
-{
-    let rows = r.rows;
-    let columns = r.columns;
-    let bottom = rows.first as usize;
-    let top = rows.end as usize;
-    let left = columns.first as usize;
-    let right = columns.end as usize;
-    rows_refined(
-        cells,
-        offset + bottom * width,
-        left,
-        width,
-        top - bottom,
-        right - left,
-    )
-}
-
-// The cell at a place has its neighbourhood refined, if it is refined itself. The neighbourhood's level begins at `offset` and is `width` cells wide.
+// The cell at a place has its neighbourhood refined, if it is refined itself: the least byte there is 2, by the table of the level of the
+// neighbourhoods, which is `width` wide and has it `up` rows and `across` columns after the ancestor's first functions.
 fn cell_admissible(
     plan: Plan,
     cells: &[u8],
-    offset: usize,
+    near: &[u8],
     width: usize,
     place: Place,
     at: usize,
 ) -> bool
-    requires { ⌜ Sized plan (now cells) ⌝ }
+    requires { ⌜ MeshTable plan (now cells) ⌝ }
     requires { ⌜ HasNeighbourhood plan (place .level) ⌝ }
     requires { ⌜ CellInside plan place ⌝ }
-    requires { ⌜ (at ≡ cellNumber plan place) × (offset ≡ cellOffset plan (ancestorLevel plan (place .level))) × (width ≡ columnsAt plan (ancestorLevel plan (place .level))) ⌝ }
+    requires { ⌜ (at ≡ cellNumber plan place) × (NearTable plan (now cells) (now near) (ancestorLevel plan (place .level))) × (width ≡ wide plan (ancestorLevel plan (place .level)) (2 * plan .across)) ⌝ }
     ensures { λ r. ⌜ r ≡ cellAdmissible plan (now (cells .entry)) at ⌝ }
 {
     if cells[at] == 2 {
-        let near = plan.neighbourhood(place);
-        return rectangle_refined(cells, offset, width, near);
+        let above = plan.ancestor_of(place);
+        let level = above.level;
+        let row = plan.up_at(level).first_over(above.row) as usize + plan.up as usize;
+        let column = plan.across_at(level).first_over(above.column) as usize + plan.across as usize;
+        return near[row * width + column] == 2;
     }
     true
 }
@@ -99,23 +42,23 @@ fn cell_admissible(
 fn row_admissible(
     plan: Plan,
     cells: &[u8],
-    offset: usize,
+    near: &[u8],
     width: usize,
     level: u32,
     row: u32,
     at: usize,
 ) -> bool
-    requires { ⌜ Sized plan (now cells) ⌝ }
+    requires { ⌜ MeshTable plan (now cells) ⌝ }
     requires { ⌜ HasNeighbourhood plan level ⌝ }
     requires { ⌜ (level < plan .levels) × (row < rowsAt plan level) ⌝ }
-    requires { ⌜ (at ≡ cellOffset plan level + row * columnsAt plan level) × (offset ≡ cellOffset plan (ancestorLevel plan level)) × (width ≡ columnsAt plan (ancestorLevel plan level)) ⌝ }
+    requires { ⌜ (at ≡ cellOffset plan level + row * columnsAt plan level) × (NearTable plan (now cells) (now near) (ancestorLevel plan level)) × (width ≡ wide plan (ancestorLevel plan level) (2 * plan .across)) ⌝ }
     ensures { λ r. ⌜ r ≡ everyFrom at (columnsAt plan level) (cellAdmissible plan (now (cells .entry))) ⌝ }
 {
     let columns = plan.columns_at(level);
     let mut n = at;
     let mut column = 0;
     while column < columns {
-        if cell_admissible(plan, cells, offset, width, Place { level, row, column }, n) {
+        if cell_admissible(plan, cells, near, width, Place { level, row, column }, n) {
             n += 1;
             column += 1;
         } else {
@@ -126,21 +69,19 @@ fn row_admissible(
 }
 
 // The cells of a level that have neighbourhoods.
-fn rows_admissible(plan: Plan, cells: &[u8], level: u32) -> bool
-    requires { ⌜ Sized plan (now cells) ⌝ }
+fn rows_admissible(plan: Plan, cells: &[u8], near: &[u8], width: usize, level: u32) -> bool
+    requires { ⌜ MeshTable plan (now cells) ⌝ }
     requires { ⌜ HasNeighbourhood plan level ⌝ }
     requires { ⌜ level < plan .levels ⌝ }
+    requires { ⌜ (NearTable plan (now cells) (now near) (ancestorLevel plan level)) × (width ≡ wide plan (ancestorLevel plan level) (2 * plan .across)) ⌝ }
     ensures { λ r. ⌜ r ≡ everyFrom (cellOffset plan level) (rowsAt plan level * columnsAt plan level) (cellAdmissible plan (now (cells .entry))) ⌝ }
 {
-    let above = level - (plan.class - 1);
-    let offset = plan.cell_offset(above) as usize;
-    let width = plan.columns_at(above) as usize;
     let columns = plan.columns_at(level) as usize;
     let rows = plan.rows_at(level);
     let mut at = plan.cell_offset(level) as usize;
     let mut row = 0;
     while row < rows {
-        if row_admissible(plan, cells, offset, width, level, row, at) {
+        if row_admissible(plan, cells, near, width, level, row, at) {
             at += columns;
             row += 1;
         } else {
@@ -150,9 +91,38 @@ fn rows_admissible(plan: Plan, cells: &[u8], level: u32) -> bool
     true
 }
 
-fn level_admissible(plan: Plan, cells: &[u8], level: u32) -> bool
-    requires { ⌜ Sized plan (now cells) ⌝ }
+// The same, with room for the table of the level of the neighbourhoods.
+fn near_admissible(
+    plan: Plan,
+    cells: &[u8],
+    near: &mut [u8],
+    scratch: &mut [u8],
+    level: u32,
+) -> bool
+    requires { ⌜ MeshTable plan (now cells) ⌝ }
+    requires { ⌜ HasNeighbourhood plan level ⌝ }
     requires { ⌜ level < plan .levels ⌝ }
+    requires { ⌜ (NearRoom plan (length (now near))) × (NearRoom plan (length (now scratch))) ⌝ }
+    ensures { λ r. ⌜ r ≡ everyFrom (cellOffset plan level) (rowsAt plan level * columnsAt plan level) (cellAdmissible plan (now (cells .entry))) ⌝ }
+{
+    let above = level - (plan.class - 1);
+    let across = (2 * plan.across) as usize;
+    let up = (2 * plan.up) as usize;
+    windows::level(plan, cells, above, scratch, near, across, up);
+    let width = plan.across_at(above).firsts() as usize + across;
+    rows_admissible(plan, cells, near, width, level)
+}
+
+fn level_admissible(
+    plan: Plan,
+    cells: &[u8],
+    near: &mut [u8],
+    scratch: &mut [u8],
+    level: u32,
+) -> bool
+    requires { ⌜ MeshTable plan (now cells) ⌝ }
+    requires { ⌜ level < plan .levels ⌝ }
+    requires { ⌜ (NearRoom plan (length (now near))) × (NearRoom plan (length (now scratch))) ⌝ }
     ensures { λ r. ⌜ r ≡ everyFrom (cellOffset plan level) (rowsAt plan level * columnsAt plan level) (cellAdmissible plan (now (cells .entry))) ⌝ }
 {
     let class = plan.class;
@@ -162,22 +132,33 @@ fn level_admissible(plan: Plan, cells: &[u8], level: u32) -> bool
     if level + 1 < class {
         return true;
     }
-    rows_admissible(plan, cells, level)
+    near_admissible(plan, cells, near, scratch, level)
 }
 
-// Refusal 5 is its opposite.
-pub fn is_admissible(plan: Plan, cells: &[u8]) -> bool
-    requires { ⌜ Sized plan (now cells) ⌝ }
+fn levels_admissible(plan: Plan, cells: &[u8], near: &mut [u8], scratch: &mut [u8]) -> bool
+    requires { ⌜ MeshTable plan (now cells) ⌝ }
+    requires { ⌜ (NearRoom plan (length (now near))) × (NearRoom plan (length (now scratch))) ⌝ }
     ensures { λ r. ⌜ r ≡ isAdmissible plan (now (cells .entry)) ⌝ }
 {
     let levels = plan.levels;
     let mut level = 0;
     while level < levels {
-        if level_admissible(plan, cells, level) {
+        if level_admissible(plan, cells, near, scratch, level) {
             level += 1;
         } else {
             return false;
         }
     }
     true
+}
+
+// Refusal 5 is its opposite.
+pub fn is_admissible(plan: Plan, cells: &[u8]) -> bool
+    requires { ⌜ (MeshTable plan (now cells)) × (cellTotal plan ≤ 21845) ⌝ }
+    ensures { λ r. ⌜ r ≡ isAdmissible plan (now (cells .entry)) ⌝ }
+{
+    let room: usize = 26220;
+    let mut near = [0u8; 26220];
+    let mut scratch = [0u8; 26220];
+    levels_admissible(plan, cells, &mut near[..room], &mut scratch[..room])
 }

@@ -1,7 +1,7 @@
 -- The regions of a mesh: Ω_k is the union of its cells of level k, so the regions shrink and the last one is empty (document 000,
 -- definition 1); a function's support lies in a region where its cells do. Assumes nothing.
-use Prim.Native.Nat.{ℕ, zero, suc, min, _+_, _-_, _<_, _≤_}
-use native.Mathlib.Nat.{le-refl, le-min, eq-or-lt-of-le, le-of-suc-le-suc}
+use Prim.Native.Nat.{ℕ, zero, suc, _+_, _-_, _<_, _≤_}
+use native.Mathlib.Nat.{eq-or-lt-of-le, le-of-suc-le-suc}
 use native.Mathlib.Omega.{arith}
 use mathlib.Core.Bool.{Bool, not}
 use mathlib.Core.List.{List}
@@ -14,12 +14,13 @@ use Rattle.facts.proofs.Tests.{and-i, and-l, eqb-of, implies-i, implies-e, T-tr
 use Rattle.facts.proofs.Bounded.{every-i, every-e}
 use Rattle.grid.specs.declared.Plan.{Plan}
 use Rattle.grid.specs.declared.Place.{Place}
-use Rattle.grid.specs.Plan.{ratio, columnsAt, rowsAt, cellTotal, functionTotal, cellPlace, cellNumber, cellLevel, functionPlace, functionLevel, parent, covers, supportedAt, supported}
+use Rattle.grid.specs.Plan.{ratio, columnsAt, rowsAt, cellTotal, functionTotal, cellPlace, cellNumber, cellLevel, functionPlace, functionLevel, parent, supportedAt, supported}
 use Rattle.grid.specs.Range.{InRange}
 use Rattle.grid.proofs.Numbering as numbering
 use Rattle.grid.proofs.Numbering.{Inside}
 use Rattle.grid.proofs.Direction.{grown-pos}
 use Rattle.grid.proofs.Laws.{ratio-pos, cell-inside, function-inside, parent-lt, parent-level, is-child}
+use Rattle.grid.proofs.Spans.{support-some}
 use Rattle.mesh.specs.Mesh.{absent, refined, cellFits, isMesh}
 use Rattle.mesh.proofs.Bridge.{CellFits, fits-e}
 use Rattle.basis.specs.Basis.{finest, cellOver, inSupport, inRegion, insideRegion}
@@ -33,19 +34,9 @@ supported-level : (p : Plan) (f c : Place) → T (supportedAt p f c) → f .leve
 unfolding supportedAt
 supported-level p f c t = eqb→eq (f .level) (c .level) (and-l (eqb (f .level) (c .level)) _ t)
 
--- one direction: the first column of a support is in the grid
-first-covered : (n d i : ℕ) → 0 < n → i < n + d → T (covers n d i (i - d))
-unfolding covers
-first-covered n d i z h =
-    and-i (leb (i - d) (i - d)) _ (le→leb (i - d) (i - d) (le-refl (i - d)))
-    (le→leb (i - d) (min (n - 1) i) (le-min {k = i - d} {a = n - 1} {b = i} (omega arith) (omega arith)))
-
 module _ (p : Plan) (range : InRange p) where
   columns-pos : (k : ℕ) → 0 < columnsAt p k
   columns-pos k = grown-pos (ratio p) (ratio-pos p) (p .columns) k (range .columns≥)
-
-  rows-pos : (k : ℕ) → 0 < rowsAt p k
-  rows-pos k = grown-pos (ratio p) (ratio-pos p) (p .rows) k (range .rows≥)
 
   number-of : (c : ℕ) → c < cellTotal p → cellNumber p (cellPlace p c) ≡ c
   number-of c b = numbering.number-place _ _ columns-pos (p .levels) c b
@@ -134,35 +125,14 @@ module _ (p : Plan) (range : InRange p) (cells : List ℕ) (mesh : T (isMesh p c
     pub inside-within : (n k : ℕ) → n ≤ k → k < p .levels → T (insideRegion p cells f (suc k)) → T (insideRegion p cells f (suc n))
     inside-within n k l m t = inside-i (suc n) (λ y x pt s. region-within y x pt n k l m (inside-e (suc k) t y x pt s))
 
-    -- the first cell of the support
-    corner : Place
-    corner = record { level = own; row = functionPlace p f .row - p .up; column = functionPlace p f .column - p .across }
-
-    corner-in : Inside (columnsAt p) (rowsAt p) (p .levels) corner
-    unfolding corner
-    corner-in =
-        let i = function-inside p range f b in
-        record {
-          level< = own-lt;
-          row< = omega (arith, i .row<, rows-pos p range own);
-          column< = omega (arith, i .column<, columns-pos p range own);
-        }
-
-    corner-supported : T (supportedAt p (functionPlace p f) corner)
-    unfolding corner supportedAt
-    corner-supported =
-        let i = function-inside p range f b in
-        and-i (eqb own own) _ (eqb-of own own refl)
-        (and-i (covers (columnsAt p own) (p .across) (functionPlace p f .column) (functionPlace p f .column - p .across)) _
-        (first-covered (columnsAt p own) (p .across) (functionPlace p f .column) (columns-pos p range own) (i .column<))
-        (first-covered (rowsAt p own) (p .up) (functionPlace p f .row) (rows-pos p range own) (i .row<)))
-
     -- no support lies in an empty region
     pub never-inside : (k : ℕ) → ((y x : ℕ) → Point p y x → ¬ T (inRegion p cells k y x)) → ¬ T (insideRegion p cells f k)
-    unfolding corner inSupport
+    unfolding inSupport supported
     never-inside k e t =
-        let w = point-of p corner corner-in in
-        e (w .row) (w .column) (w .point) (inside-e k t (w .row) (w .column) (w .point) (rw (w .over) corner-supported))
+        let (c, l, s) = support-some p range f b in
+        let w = point-of p (cellPlace p c) (cell-inside p range c l) in
+        let o : cellOver p own (w .row) (w .column) ≡ cellPlace p c = rw (supported-level p (functionPlace p f) (cellPlace p c) s) (w .over) in
+        e (w .row) (w .column) (w .point) (inside-e k t (w .row) (w .column) (w .point) (rw o s))
 
     -- where the region is told by a test of the cells of f's level, f lies inside if the cells of its support pass, and only then
     module _ (k : ℕ) (test : ℕ → Bool)

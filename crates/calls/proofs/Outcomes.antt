@@ -1,39 +1,43 @@
 -- The outcome of a call by the number of its refusal, and what the code's tables of kinds and flags say of marks. Assumes nothing.
 use mathlib.Core.Path.{_≡_, refl, sym, ap, ap₂, _∙_, subst}
 use mathlib.Core.Logic.{_≢_}
-use mathlib.Core.Bool.{Bool, true, false, not, _&&_, _||_, cond}
-use mathlib.Core.List.{List, [], _∷_}
-use Prim.Native.Nat.{ℕ, zero, suc, pred, _+_, _-_, _≤_, _<_}
+use mathlib.Core.Bool.{Bool, true, false, not, _&&_, cond}
+use mathlib.Core.List.{List}
+use Prim.Native.Nat.{ℕ, zero, suc, _+_, _-_, _≤_, _<_}
 use native.Mathlib.Omega.{arith}
-use lib.Dec.{T, eqb, eqb→eq, ltb, leb, ltb→lt, lt→ltb, leb→le, le→leb, nltb→le}
+use lib.Dec.{T, eqb, eqb→eq, ltb, leb, ltb→lt, leb→le, le→leb, nltb→le}
 use lib.ListN.{length, getD}
+use Rattle.facts.specs.Bounded.{some}
 use Rattle.facts.specs.Numbers.{elem, first, tabulate}
-use Rattle.facts.proofs.Tests.{T-true, T-false, eqb-of, cases, same, not-e}
-use Rattle.facts.proofs.Numbers.{first-zero, length-tabulate, getD-tabulate, tabulate-same}
+use Rattle.facts.proofs.Tests.{T-true, T-false, eqb-of, cases, same, not-e, and-l, and-r}
+use Rattle.facts.proofs.Bounded.{some-e, some-same}
+use Rattle.facts.proofs.Numbers.{first-zero, length-tabulate, getD-tabulate}
 use Rattle.facts.proofs.Turns.{first-same}
 use Rattle.hierarchy.specs.Hierarchy.{Cells, closure}
 use Rattle.hierarchy.proofs.Closure.{closure-in, closure-admissible}
 use Rattle.grid.specs.declared.Plan.{Plan}
 use Rattle.grid.specs.Numbering.{offset, levelOf, placeOn, place}
-use Rattle.grid.specs.Plan.{cellTotal, functionTotal, cellOffset, functionOffset, cellLevel, functionLevel, lastLevel, hierarchy}
+use Rattle.grid.specs.Plan.{cellTotal, functionTotal, cellOffset, functionOffset, cellLevel, functionLevel, lastLevel, supported, hierarchy}
 use Rattle.grid.specs.Range.{InRange}
 use Rattle.grid.proofs.Laws.{lawful}
 use Rattle.grid.proofs.Totals.{functions-bound}
-use Rattle.mesh.specs.Mesh.{active, refined, reactivable, isMesh, labels, check}
-use Rattle.refine.specs.Calls.{Direction, refine, coarsen, By, cells, functions, total, isKind, isTooDeep, markRefusal, meant, base, smallest, refused, settle, newCells, refusal, Outcome, outcome}
-use Rattle.mesh.proofs.Bridge.{Good, check-good, good-table, is-mesh, length-labels}
+use Rattle.mesh.specs.Mesh.{active, refined, reactivable, isMesh, labelOf, labels, check}
+use Rattle.refine.specs.Calls.{Direction, refine, coarsen, By, cells, functions, total, isKind, isTooDeep, markRefusal, underMarked, underKept, meant, base, smallest, refused, settle, newCells, refusal, outcome}
+use Rattle.mesh.proofs.Bridge.{Good, check-good, good-table, is-mesh, length-labels, getD-labels, deactivated-e}
 use Rattle.refine.proofs.Sets.{put, result-mesh}
-use Rattle.refine.proofs.Marks.{Fits, fits-e, meant-may, smallest-is}
+use Rattle.refine.proofs.Marks.{fits-e, meant-may, smallest-is}
 use Rattle.walk.proofs.Marked.{ready-good, may-fact, good-ready, flags-mean}
 use Rattle.cells.specs.Table.{MeshTable}
 use Rattle.changes.specs.Changes.{Sizes, made}
 use Rattle.refine.specs.declared.Answer.{Answer}
-use Rattle.cover.specs.Cover.{reactivableByte, coarsenableByte, coverOf}
-use Rattle.cover.proofs.Meaning.{coarsenable, coarsenable-is, refineValues, coarsenValues, refine-means, coarsen-means}
-use Rattle.calls.specs.Parts.{Asked, Clear, Flags, turned, under}
+use Rattle.cover.specs.Cover.{reactivableByte, coarsenableByte}
+use Rattle.cover.specs.Cover as cover
+use Rattle.windows.specs.Level.{leastValue}
+use Rattle.cover.proofs.Meaning.{under-marked-alone}
+use Rattle.calls.specs.Parts.{Kinds, Bytes, Flags}
 use Rattle.walk.specs.Walk.{flagged}
 use Rattle.walk.specs.Ready.{Ready}
-use Rattle.marks.specs.Marks.{verdict, Markable, common, weighed}
+use Rattle.marks.specs.Marks.{verdict, Inside, weighed, commonAt}
 
 -- ---- the outcome, by the first refusal
 
@@ -131,132 +135,153 @@ module _ (p : Plan) (range : InRange p) where
 
 -- ---- refusals 7, 8, 9 by a table of kinds and the first number that is too deep
 
-module _ (d : Direction) (by : By) (p : Plan) (cs fs kinds : List ℕ) (deep : ℕ) (sized : length kinds ≡ total by p)
-    (kind : (x : ℕ) → x < total by p → eqb (getD kinds x 0) 1 ≡ isKind d by p cs fs x)
-    (depth : (x : ℕ) → x < total by p → leb deep x ≡ isTooDeep d by p x) where
-  pub verdict-is : (x : ℕ) → verdict kinds deep x ≡ markRefusal d by p cs fs x
+module _ {d : Direction} {by : By} {p : Plan} {cs fs kinds : List ℕ} {deep : ℕ} (K : Kinds d by p cs fs deep kinds) where
+  verdict-is : (x : ℕ) → verdict kinds deep x ≡ markRefusal d by p cs fs x
   unfolding verdict markRefusal
   verdict-is x = cases (ltb x (total by p))
-      (λ t. rw (sized, kind x (ltb→lt _ _ t), depth x (ltb→lt _ _ t)) refl)
-      (λ t. rw (sized, T-false (ltb x (total by p)) (not-e (ltb x (total by p)) t)) refl)
+      (λ t. rw (K .sized, K .kind x (ltb→lt _ _ t), K .depth x (ltb→lt _ _ t)) refl)
+      (λ t. rw (K .sized, T-false (ltb x (total by p)) (not-e (ltb x (total by p)) t)) refl)
 
   pub judged-is : (marks : List ℕ) → first (verdict kinds deep) marks ≡ first (markRefusal d by p cs fs) marks
   judged-is marks = first-same (verdict kinds deep) (markRefusal d by p cs fs) marks verdict-is
 
 -- refining: the table itself has byte 1 where a cell (a function) is active, and the last level begins at its offset
 module _ (p : Plan) (range : InRange p) (cs fs : List ℕ) where
-  pub refine-cells-judged : length cs ≡ cellTotal p → (marks : List ℕ)
-      → first (verdict cs (cellOffset p (p .levels - 1))) marks ≡ first (markRefusal refine cells p cs fs) marks
+  pub refine-cell-kinds : length cs ≡ cellTotal p → Kinds refine cells p cs fs (cellOffset p (p .levels - 1)) cs
   unfolding isKind isTooDeep active
-  refine-cells-judged l = judged-is refine cells p cs fs cs (cellOffset p (p .levels - 1)) l (λ x i. refl) (λ x i. sym (cell-last p range x i))
+  refine-cell-kinds l = record { sized = l; kind = λ x i. refl; depth = λ x i. sym (cell-last p range x i) }
 
-  pub refine-functions-judged : length fs ≡ functionTotal p → (marks : List ℕ)
-      → first (verdict fs (functionOffset p (p .levels - 1))) marks ≡ first (markRefusal refine functions p cs fs) marks
+  pub refine-function-kinds : length fs ≡ functionTotal p → Kinds refine functions p cs fs (functionOffset p (p .levels - 1)) fs
   unfolding isKind isTooDeep active
-  refine-functions-judged l = judged-is refine functions p cs fs fs (functionOffset p (p .levels - 1)) l (λ x i. refl) (λ x i. sym (function-last p range x i))
+  refine-function-kinds l = record { sized = l; kind = λ x i. refl; depth = λ x i. sym (function-last p range x i) }
 
 -- coarsening: a table of the numbers of the right kind, and none is too deep
-module _ (by : By) (p : Plan) (cs fs kinds : List ℕ) (sized : length kinds ≡ total by p)
-    (kind : (x : ℕ) → x < total by p → eqb (getD kinds x 0) 1 ≡ isKind coarsen by p cs fs x) where
-  pub coarsen-judged : (marks : List ℕ) → first (verdict kinds (total by p)) marks ≡ first (markRefusal coarsen by p cs fs) marks
-  unfolding isTooDeep
-  coarsen-judged = judged-is coarsen by p cs fs kinds (total by p) sized kind (λ x i. T-false (leb (total by p) x) (λ t. absurd (omega (arith, leb→le (total by p) x t))))
-
 bit : (b : Bool) → eqb (cond b 1 0) 1 ≡ b
 bit true = refl
 bit false = refl
 
-pub coarsen-cells-judged : (p : Plan) (cs fs marks : List ℕ)
-    → first (verdict (tabulate (cellTotal p) (reactivableByte p cs)) (cellTotal p)) marks ≡ first (markRefusal coarsen cells p cs fs) marks
+kind : (b : Bool) → eqb (cond b 1 2) 1 ≡ b
+kind true = refl
+kind false = refl
+
+none-deep : (by : By) (p : Plan) (x : ℕ) → x < total by p → leb (total by p) x ≡ isTooDeep coarsen by p x
+unfolding isTooDeep
+none-deep by p x i = T-false (leb (total by p) x) (λ t. absurd (omega (arith, leb→le (total by p) x t)))
+
+pub coarsen-cell-kinds : (p : Plan) (cs fs : List ℕ) → Kinds coarsen cells p cs fs (cellTotal p) (tabulate (cellTotal p) (reactivableByte p cs))
 unfolding isKind reactivableByte
-coarsen-cells-judged p cs fs marks =
-    coarsen-judged cells p cs fs (tabulate (cellTotal p) (reactivableByte p cs)) (length-tabulate (cellTotal p) (reactivableByte p cs))
-    (λ x i. ap (λ n. eqb n 1) (getD-tabulate (cellTotal p) (reactivableByte p cs) x 0 i) ∙ bit (reactivable p cs x)) marks
+coarsen-cell-kinds p cs fs = record {
+  sized = length-tabulate (cellTotal p) (reactivableByte p cs);
+  kind = λ x i. ap (λ n. eqb n 1) (getD-tabulate (cellTotal p) (reactivableByte p cs) x 0 i) ∙ kind (reactivable p cs x);
+  depth = none-deep cells p;
+}
 
-pub coarsen-functions-judged : (p : Plan) (cs fs marks : List ℕ)
-    → first (verdict (coarsenable p cs fs) (functionTotal p)) marks ≡ first (markRefusal coarsen functions p cs fs) marks
-coarsen-functions-judged p cs fs marks =
-    coarsen-judged functions p cs fs (coarsenable p cs fs) (length-tabulate (functionTotal p) _) (λ x i. sym (coarsenable-is p cs fs x i)) marks
+-- the bytes of both tables of cells
+pub refine-bytes : (p : Plan) (cs : List ℕ) → length cs ≡ cellTotal p → Bytes refine p cs
+refine-bytes p cs l = record { sized = l; above = λ c i. omega arith }
 
--- ---- flags that say what is meant
+pub coarsen-bytes : (p : Plan) (cs : List ℕ) → Bytes coarsen p (tabulate (cellTotal p) (reactivableByte p cs))
+unfolding reactivableByte
+coarsen-bytes p cs = record {
+  sized = length-tabulate (cellTotal p) (reactivableByte p cs);
+  above = λ c i. rw (getD-tabulate (cellTotal p) (λ x. cond (reactivable p cs x) 1 2) c 0 i) (some-byte (reactivable p cs c));
+}
+  where
+    some-byte : (b : Bool) → 1 ≤ cond b 1 2
+    some-byte true = omega arith
+    some-byte false = omega arith
 
-module _ (d : Direction) (by : By) (p : Plan) (cs fs marks flags : List ℕ) (k : Flags d by p cs fs marks flags) where
-  good : Good p cs
-  good = check-good p cs fs (k .asked .passes) .0
+pub bytes-are : {d e : Direction} {p : Plan} {kinds table : List ℕ} → e ≡ d → table ≡ kinds → Bytes d p kinds → Bytes e p table
+bytes-are a b B = rw (a, b) B
 
-  fit : (x : ℕ) → T (elem x marks) → Fits d by p cs fs x
-  fit x m = fits-e d by p cs fs x (first-zero (markRefusal d by p cs fs) marks (k .asked .fine) x m)
+pub bytes-kinds : {d : Direction} {p : Plan} {table : List ℕ} → d ≡ coarsen → Bytes d p table → cover.Kinds p table
+bytes-kinds {d} {p} {table} e B =
+    let C : Bytes coarsen p table = bytes-are (sym e) refl B in
+    record { size = C .sized; some = C .above }
 
-  -- the walk may go
-  pub ready : Ready d p cs flags
-  ready = good-ready d p cs flags good (k .sized) (λ c i t. meant-may p cs fs marks good d by fit c i (subst T (k .says c i) t))
-
-  -- and what the flags settle is the call's outcome
-  pub settled : (cl fl : List ℕ) → turned d p cs fs cl fl flags ≡ outcome d by p cs fs marks cl fl
-  settled cl fl =
-      ap (λ u. settle p cs fs cl fl u (labels p u)) (flags-mean d by p cs fs marks flags (good .range) (k .says))
-      ∙ sym (outcome-settle d by p cs fs marks cl fl (k .asked .passes) (k .asked .fine))
+pub coarsen-function-kinds : (p : Plan) (cs fs over : List ℕ) (n : ℕ) → Kinds coarsen cells p cs fs n over
+    → Kinds coarsen functions p cs fs (functionTotal p) (tabulate (functionTotal p) (coarsenableByte p fs over))
+unfolding isKind coarsenableByte
+coarsen-function-kinds p cs fs over n K = record {
+  sized = length-tabulate (functionTotal p) (coarsenableByte p fs over);
+  kind = λ x i.
+      ap (λ n. eqb n 1) (getD-tabulate (functionTotal p) (coarsenableByte p fs over) x 0 i)
+      ∙ bit (refined fs x && some (cellTotal p) (λ c. supported p x c && eqb (getD over c 0) 1))
+      ∙ ap (λ b. refined fs x && b) (some-same (cellTotal p) _ _ (λ c b. ap (λ u. supported p x c && u) (K .kind c b)));
+  depth = none-deep functions p;
+}
 
 -- ---- what is known of marks that pass
 
-module _ (d : Direction) (by : By) (p : Plan) (cs fs marks : List ℕ) (a : Asked d by p cs fs marks) where
-  pub marks-inside : (x : ℕ) → T (elem x marks) → x < total by p
-  marks-inside x m = fits-e d by p cs fs x (first-zero (markRefusal d by p cs fs) marks (a .fine) x m) .inside
+pub marks-inside : (d : Direction) (by : By) (p : Plan) (cs fs marks : List ℕ) → first (markRefusal d by p cs fs) marks ≡ 0 → Inside (total by p) marks
+marks-inside d by p cs fs marks z = record { inside = λ x m. fits-e d by p cs fs x (first-zero (markRefusal d by p cs fs) marks z x m) .inside }
 
-  pub markable : (flags : List ℕ) → Clear (total by p) flags → Markable flags marks
-  markable flags k = record { inside = λ x m. omega (arith, marks-inside x m, k .0); clear = λ x i. k .1 x (omega (arith, k .0)) }
+-- ---- flags that say what is meant
 
--- a table of a byte for each cell, as flags
-pub flags-of : (p : Plan) (X : Cells) (flags : List ℕ) → flags ≡ tabulate (cellTotal p) (λ c. cond (X c) 1 0) → (c : ℕ) → c < cellTotal p → flagged flags c ≡ X c
+-- by cells, the marks themselves
+one : (b : Bool) (n : ℕ) → eqb (cond b 1 (cond (eqb n 2) 0 2)) 1 ≡ b
+one true n = refl
+one false n = cases (eqb n 2) (λ t. rw (T-true (eqb n 2) t) refl) (λ t. rw (T-false (eqb n 2) (not-e (eqb n 2) t)) refl)
+
+pub cells-flags : (d : Direction) (p : Plan) (cs fs marks flags : List ℕ) → flags ≡ weighed (cellTotal p) cs marks
+    → (c : ℕ) → c < cellTotal p → flagged flags c ≡ meant d cells p cs fs marks c
+unfolding meant flagged
+cells-flags d p cs fs marks flags e c i =
+    ap (λ t. eqb (getD t c 0) 1) e ∙ ap (λ n. eqb n 1) (getD-tabulate (cellTotal p) (λ x. cond (elem x marks) 1 (cond (eqb (getD cs x 0) 2) 0 2)) c 0 i)
+    ∙ one (elem c marks) (getD cs c 0)
+
+-- by functions, the cells of the right kind under a marked one and under no other deactivated one; no active cell is under a deactivated function
+module _ (p : Plan) (cs fs marks : List ℕ) (k : check p cs fs ≡ 0) (c : ℕ) (i : c < cellTotal p) where
+  not-kept : T (active cs c) → underKept p fs marks c ≡ false
+  unfolding underKept active refined
+  not-kept a = T-false (underKept p fs marks c) (λ t.
+      let w = some-e (functionTotal p) (λ f. not (elem f marks) && (refined fs f && supported p f c)) t in
+      let f = w .0 in
+      let g = and-r (not (elem f marks)) _ (w .2) in
+      let e : getD fs f 0 ≡ labelOf p cs f = ap (λ t. getD t f 0) (check-good p cs fs k .1) ∙ getD-labels p cs f (w .1) in
+      let r = deactivated-e p cs f (subst (λ n. T (eqb n 2)) e (and-l (eqb (getD fs f 0) 2) _ g)) c i (and-r (eqb (getD fs f 0) 2) _ g) in
+      let z : _≡_ {A = ℕ} 1 2 = sym (eqb→eq (getD cs c 0) 1 a) ∙ eqb→eq (getD cs c 0) 2 r in absurd (omega arith))
+
+  and-tt : (b : Bool) → b && not false ≡ b
+  and-tt true = refl
+  and-tt false = refl
+
+  pub means : (d : Direction) → isKind d cells p cs fs c && (underMarked p marks c && not (underKept p fs marks c)) ≡ meant d functions p cs fs marks c
+  unfolding isKind meant
+  means refine = cases (active cs c)
+      (λ t. rw (not-kept t) (ap (λ b. active cs c && b) (and-tt (underMarked p marks c))))
+      (λ t. rw (T-false (active cs c) (not-e (active cs c) t)) refl)
+  means coarsen = refl
+
+pub functions-flags : (d : Direction) (p : Plan) (cs fs marks kinds values over flags : List ℕ) {n : ℕ} → check p cs fs ≡ 0 → Kinds d cells p cs fs n kinds
+    → values ≡ weighed (functionTotal p) fs marks → over ≡ tabulate (cellTotal p) (leastValue p values) → flags ≡ tabulate (cellTotal p) (commonAt kinds over)
+    → (c : ℕ) → c < cellTotal p → flagged flags c ≡ meant d functions p cs fs marks c
 unfolding flagged
-flags-of p X flags e c i = rw (e, getD-tabulate (cellTotal p) (λ c. cond (X c) 1 0) c 0 i) (bit (X c))
+functions-flags d p cs fs marks kinds values over flags k K ev eo ef c i =
+    ap (λ t. eqb (getD t c 0) 1) ef ∙ ap (λ n. eqb n 1) (getD-tabulate (cellTotal p) (commonAt kinds over) c 0 i)
+    ∙ bit (eqb (getD kinds c 0) 1 && eqb (getD over c 0) 1)
+    ∙ ap₂ _&&_ (K .kind c i)
+    (ap (λ t. eqb (getD t c 0) 1) eo ∙ ap (λ n. eqb n 1) (getD-tabulate (cellTotal p) (leastValue p values) c 0 i)
+    ∙ ap (λ v. eqb (leastValue p v c) 1) ev ∙ under-marked-alone p fs marks c)
+    ∙ means p cs fs marks k c i d
 
--- by cells, the marks themselves are meant
-pub cells-flags : (d : Direction) (p : Plan) (cs fs marks flags : List ℕ) → Asked d cells p cs fs marks
-    → flags ≡ tabulate (cellTotal p) (λ c. cond (elem c marks) 1 0) → Flags d cells p cs fs marks flags
-unfolding meant
-cells-flags d p cs fs marks flags a e = record {
-  asked = a;
-  sized = ap length e ∙ length-tabulate (cellTotal p) (λ c. cond (elem c marks) 1 0);
-  says = flags-of p (λ c. elem c marks) flags e;
-}
+module _ (d : Direction) (by : By) (p : Plan) (cs fs marks flags : List ℕ) (k : check p cs fs ≡ 0) {n : ℕ} (F : Flags d by p cs fs marks n flags) (z : n ≡ 0) where
+  good : Good p cs
+  good = check-good p cs fs k .0
 
--- ---- by functions: what the largest weight over a cell says
+  fine : first (markRefusal d by p cs fs) marks ≡ 0
+  fine = sym (F .number) ∙ z
 
-pub under-is : (p : Plan) (kinds weights over flags : List ℕ) → length flags ≡ cellTotal p → over ≡ tabulate (cellTotal p) (coverOf p weights)
-    → common (length flags) kinds over ≡ under p kinds weights
-under-is p kinds weights over flags l e =
-    rw (l, e) (tabulate-same (cellTotal p) _ _ (λ c i. ap (λ n. cond (eqb (getD kinds c 0) 1 && eqb n 1) 1 0) (getD-tabulate (cellTotal p) (coverOf p weights) c 0 i)))
+  -- the walk may go
+  pub ready : Ready d p cs flags
+  ready = good-ready d p cs flags good (F .sized) (λ c i t. meant-may p cs fs marks good d by
+      (λ x m. fits-e d by p cs fs x (first-zero (markRefusal d by p cs fs) marks fine x m)) c i (subst T (F .says z c i) t))
 
-pub weighed-is : (p : Plan) (fs marks marked : List ℕ) (n : ℕ) → n ≡ functionTotal p → marked ≡ refineValues p marks → weighed n fs marked ≡ coarsenValues p fs marks
-weighed-is p fs marks marked n l e =
-    rw (l, e) (tabulate-same (functionTotal p) _ _ (λ f i.
-    ap (λ b. cond b 1 (cond (eqb (getD fs f 0) 2) 2 0)) (ap (λ n. eqb n 1) (getD-tabulate (functionTotal p) (λ f. cond (elem f marks) 1 0) f 0 i) ∙ bit (elem f marks))))
-
--- flags written by `under` say what is meant, where kinds and weights are the direction's
-module _ (d : Direction) (p : Plan) (cs fs marks kinds weights flags : List ℕ) (a : Asked d functions p cs fs marks) (e : flags ≡ under p kinds weights)
-    (means : (c : ℕ) → c < cellTotal p → eqb (getD kinds c 0) 1 && eqb (coverOf p weights c) 1 ≡ meant d functions p cs fs marks c) where
-  under-flags : Flags d functions p cs fs marks flags
-  under-flags = record {
-    asked = a;
-    sized = ap length e ∙ length-tabulate (cellTotal p) _;
-    says = λ c i. flags-of p (λ c. eqb (getD kinds c 0) 1 && eqb (coverOf p weights c) 1) flags e c i ∙ means c i;
-  }
-
-pub refine-flags : (p : Plan) (cs fs marks weights flags : List ℕ) → Asked refine functions p cs fs marks → weights ≡ refineValues p marks
-    → flags ≡ under p cs weights → Flags refine functions p cs fs marks flags
-unfolding active
-refine-flags p cs fs marks weights flags a w e =
-    under-flags refine p cs fs marks cs weights flags a e (λ c i.
-    ap (λ v. eqb (getD cs c 0) 1 && eqb (coverOf p v c) 1) w ∙ sym (refine-means p marks c cs fs))
-
-pub coarsen-flags : (p : Plan) (cs fs marks kinds weights flags : List ℕ) → Asked coarsen functions p cs fs marks
-    → kinds ≡ tabulate (cellTotal p) (reactivableByte p cs) → weights ≡ coarsenValues p fs marks → flags ≡ under p kinds weights → Flags coarsen functions p cs fs marks flags
-unfolding reactivableByte
-coarsen-flags p cs fs marks kinds weights flags a k w e =
-    under-flags coarsen p cs fs marks kinds weights flags a e (λ c i.
-    ap₂ (λ v b. b && eqb (coverOf p v c) 1) w (ap (λ u. eqb (getD u c 0) 1) k ∙ ap (λ n. eqb n 1) (getD-tabulate (cellTotal p) (reactivableByte p cs) c 0 i) ∙ bit (reactivable p cs c))
-    ∙ sym (coarsen-means p fs marks c cs))
+  -- and what the flags settle is the call's outcome
+  pub settled : (cl fl new : List ℕ) → new ≡ smallest p (base d cs (flagged flags)) → settle p cs fs cl fl new (labels p new) ≡ outcome d by p cs fs marks cl fl
+  settled cl fl new e =
+      ap (λ u. settle p cs fs cl fl u (labels p u)) (e ∙ flags-mean d by p cs fs marks flags (good .range) (F .says z))
+      ∙ sym (outcome-settle d by p cs fs marks cl fl k fine)
 
 -- ---- what the flags turn the cells into is a mesh of the plan
 
@@ -281,15 +306,31 @@ module _ (d : Direction) (p : Plan) (cs flags : List ℕ) (r : Ready d p cs flag
       (result-mesh H L S M (G .admissible) (G .mesh) d (λ c i t. may-fact p cs flags G c i d (r .may c t)))
       (closure-admissible H L (put d S M)))
 
-  pub new-mesh : MeshTable p new
-  new-mesh = record { sized = record { range = r .range; size = new-good .sized }; mesh = T-true (isMesh p new) (is-mesh p new new-good) }
+  pub new-mesh : (table : List ℕ) → table ≡ new → MeshTable p table
+  new-mesh table e = rw e (record { sized = record { range = r .range; size = new-good .sized }; mesh = T-true (isMesh p new) (is-mesh p new new-good) })
 
-  pub new-sizes : (fs : List ℕ) → length fs ≡ functionTotal p → Sizes p cs fs new (labels p new)
-  new-sizes fs l = record {
+  pub new-sizes : (fs table labelled : List ℕ) → length fs ≡ functionTotal p → table ≡ new → labelled ≡ labels p table → Sizes p cs fs table labelled
+  new-sizes fs table labelled l e f = record {
     cells-are = r .size;
     functions-are = l;
-    newCells-are = new-good .sized;
-    newFunctions-are = length-labels p new;
+    newCells-are = ap length e ∙ new-good .sized;
+    newFunctions-are = ap length f ∙ length-labels p table;
     cells-small = r .small;
     functions-small = functions-bound p (r .range) (r .small);
   }
+
+-- ---- with equal parts
+
+pub kinds-are : {d e : Direction} {by : By} {p : Plan} {cs fs kinds table : List ℕ} {n m : ℕ} → e ≡ d → m ≡ n → table ≡ kinds
+    → Kinds d by p cs fs n kinds → Kinds e by p cs fs m table
+kinds-are a b c K = rw (a, b, c) K
+
+pub flags-are : {d : Direction} {by way : By} {p : Plan} {cs fs marks flags : List ℕ} {n : ℕ} → way ≡ by
+    → Flags d by p cs fs marks n flags → Flags d way p cs fs marks n flags
+flags-are a F = rw a F
+
+pub inside-are : {n m : ℕ} {marks : List ℕ} → m ≡ n → Inside n marks → Inside m marks
+inside-are a I = rw a I
+
+pub ready-are : {d : Direction} {p : Plan} {cs table flags : List ℕ} → table ≡ cs → Ready d p cs flags → Ready d p table flags
+ready-are a R = rw a R

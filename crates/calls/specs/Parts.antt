@@ -1,49 +1,51 @@
 -- What the parts of a call ask and give. The four calls themselves cite crate refine alone. Definitions only.
 use mathlib.Core.Path.{_≡_}
-use mathlib.Core.Bool.{Bool, cond, _&&_}
 use mathlib.Core.List.{List}
-use Prim.Native.Nat.{ℕ, _<_}
-use lib.Dec.{eqb}
+use Prim.Native.Nat.{ℕ, _≤_, _<_}
+use lib.Dec.{eqb, leb}
 use lib.ListN.{length, getD}
-use Rattle.facts.specs.Numbers.{first, tabulate}
+use Rattle.facts.specs.Numbers.{first}
 use Rattle.grid.specs.declared.Plan.{Plan}
 use Rattle.grid.specs.Plan.{cellTotal, functionTotal}
-use Rattle.mesh.specs.Mesh.{labels, check}
-use Rattle.refine.specs.Calls.{Direction, refine, coarsen, By, markRefusal, meant, base, smallest, settle, Outcome}
+use Rattle.refine.specs.Calls.{Direction, refine, coarsen, By, cells, functions, total, isKind, isTooDeep, markRefusal, meant}
 use Rattle.walk.specs.Walk.{flagged}
-use Rattle.cover.specs.Cover.{coverOf}
 use Rattle.calls.specs.declared.Direction as code
 use Rattle.calls.specs.declared.Direction.the-variants.{Refine, Coarsen}
+use Rattle.calls.specs.declared.By as code-by
+use Rattle.calls.specs.declared.By.the-variants.{Cells, Functions}
 
--- the direction that the code's enum stands for
+-- what the code's enums stand for
 abbrev pub directionOf : code.Direction → Direction
 directionOf Refine = refine
 directionOf Coarsen = coarsen
 
--- tables that pass check, and marks that pass 7, 8 and 9
-pub record Asked (d : Direction) (by : By) (p : Plan) (cs fs marks : List ℕ) : Type 0 where
-  pub passes : check p cs fs ≡ 0
-  pub fine : first (markRefusal d by p cs fs) marks ≡ 0
+abbrev pub byOf : code-by.By → By
+byOf Cells = cells
+byOf Functions = functions
 
--- a table with n bytes, and one of them all 0
-abbrev pub Clear : ℕ → List ℕ → Type 0
-Clear n table = (length table ≡ n) × ((x : ℕ) → x < n → getD table x 0 ≡ 0)
+-- byte 1 at the numbers that a mark may be, and the first that is too deep
+pub record Kinds (d : Direction) (by : By) (p : Plan) (cs fs : List ℕ) (deep : ℕ) (kinds : List ℕ) : Type 0 where
+  pub sized : length kinds ≡ total by p
+  pub kind : (x : ℕ) → x < total by p → eqb (getD kinds x 0) 1 ≡ isKind d by p cs fs x
+  pub depth : (x : ℕ) → x < total by p → leb deep x ≡ isTooDeep d by p x
 
--- flags for the cells that the marks mean
-pub record Flags (d : Direction) (by : By) (p : Plan) (cs fs marks flags : List ℕ) : Type 0 where
-  pub asked : Asked d by p cs fs marks
+-- a byte for each cell; when coarsening, none of them is 0
+abbrev pub lowest : Direction → ℕ
+lowest refine = 0
+lowest coarsen = 1
+
+pub record Bytes (d : Direction) (p : Plan) (table : List ℕ) : Type 0 where
+  pub sized : length table ≡ cellTotal p
+  pub above : (c : ℕ) → c < cellTotal p → lowest d ≤ getD table c 0
+
+-- a byte for each cell; another; a byte for each function
+pub record Scratch (p : Plan) (flags over values : List ℕ) : Type 0 where
+  pub flags-are : length flags ≡ cellTotal p
+  pub over-are : length over ≡ cellTotal p
+  pub values-are : length values ≡ functionTotal p
+
+-- the first refusal of a mark, n, and where there is none flags for the cells that the marks mean
+pub record Flags (d : Direction) (by : By) (p : Plan) (cs fs marks : List ℕ) (n : ℕ) (flags : List ℕ) : Type 0 where
+  pub number : n ≡ first (markRefusal d by p cs fs) marks
   pub sized : length flags ≡ cellTotal p
-  pub says : (c : ℕ) → c < cellTotal p → flagged flags c ≡ meant d by p cs fs marks c
-
--- where the new tables are made
-pub record Space (p : Plan) (newCells newFunctions : List ℕ) : Type 0 where
-  pub cells : length newCells ≡ cellTotal p
-  pub functions : length newFunctions ≡ functionTotal p
-
--- what the flagged cells make of the tables and lists
-abbrev pub turned : Direction → Plan → List ℕ → List ℕ → List ℕ → List ℕ → List ℕ → Outcome
-turned d p cs fs cl fl flags = settle p cs fs cl fl (smallest p (base d cs (flagged flags))) (labels p (smallest p (base d cs (flagged flags))))
-
--- 1 at the cells that have 1 in kinds and over which the largest weight of a function is 1
-abbrev pub under : Plan → List ℕ → List ℕ → List ℕ
-under p kinds weights = tabulate (cellTotal p) (λ c. cond (eqb (getD kinds c 0) 1 && eqb (coverOf p weights c) 1) 1 0)
+  pub says : n ≡ 0 → (c : ℕ) → c < cellTotal p → flagged flags c ≡ meant d by p cs fs marks c

@@ -4,19 +4,18 @@
 use grid::Plan;
 use refine::Answer;
 ghost use mathlib.Core.Path.{_≡_};
-ghost use Prim.Native.Nat.{_-_};
+ghost use mathlib.Core.List.{List};
+ghost use Prim.Native.Nat.{ℕ, _≤_};
 ghost use lib.ListN.{length};
 ghost use Rattle.grid.specs.Plan.{cellTotal, functionTotal};
+ghost use Rattle.grid.specs.Range.{InRange};
 ghost use Rattle.mesh.specs.Mesh.{check};
 ghost use Rattle.refine.specs.Calls as calls;
-ghost use Rattle.refine.specs.Calls.{outcome, smallest, base, refineCells, refineFunctions, coarsenCells, coarsenFunctions};
-ghost use Rattle.facts.specs.Numbers.{tabulate};
-ghost use Rattle.grid.specs.Range.{InRange};
-ghost use Rattle.changes.specs.Changes.{made};
-ghost use Rattle.cover.specs.Cover.{reactivableByte};
+ghost use Rattle.refine.specs.Calls.{outcome, smallest, base};
+ghost use Rattle.changes.specs.Changes.{Meets};
 ghost use Rattle.walk.specs.Walk.{flagged};
 ghost use Rattle.walk.specs.Ready.{Ready};
-ghost use Rattle.calls.specs.Parts.{directionOf, Asked, Clear, Space, turned, under};
+ghost use Rattle.calls.specs.Parts.{directionOf, byOf, Kinds, Bytes, Scratch, Flags};
 
 // Which way a call goes.
 pub enum Direction {
@@ -24,15 +23,93 @@ pub enum Direction {
     Coarsen,
 }
 
-// A refusal: its number, and no entries written.
-fn refusal(number: u32) -> Answer
-    ensures { λ r. ⌜ r ≡ record { number = number; cells = 0; functions = 0 } ⌝ }
+// What its marks are.
+pub enum By {
+    Cells,
+    Functions,
+}
+
+// Gives byte 1 to the cells that may be marked: the active ones, or the reactivable ones. Answers the first number that is too deep.
+fn cell_kinds(direction: Direction, plan: Plan, cells: &[u8], kinds: &mut [u8]) -> u32
+    requires { ⌜ InRange plan ⌝ }
+    requires { ⌜ (length (now cells) ≡ cellTotal plan) × (length (now kinds) ≡ cellTotal plan) ⌝ }
+    ensures { λ r. ⌜ ((fs : List ℕ) → Kinds (directionOf direction) calls.cells plan (now (cells .entry)) fs r (now (kinds .exit))) ⌝ }
+    ensures { λ _. ⌜ Bytes (directionOf direction) plan (now (kinds .exit)) ⌝ }
 {
-    Answer {
-        number,
-        cells: 0,
-        functions: 0,
+    match direction {
+        Direction::Refine => {
+            changes::copy_bytes(kinds, cells);
+            plan.cell_offset(plan.levels - 1)
+        }
+        Direction::Coarsen => {
+            cover::reactivable_cells(plan, cells, kinds);
+            plan.cell_total()
+        }
     }
+}
+
+// The same of functions: the active ones, or the deactivated ones with a reactivable cell, which has byte 1 in `over`.
+fn function_kinds(
+    direction: Direction,
+    plan: Plan,
+    functions: &[u8],
+    over: &[u8],
+    kinds: &mut [u8],
+) -> u32
+    requires { ⌜ (InRange plan) × (cellTotal plan ≤ 21845) ⌝ }
+    requires { ⌜ (length (now functions) ≡ functionTotal plan) × (Bytes (directionOf direction) plan (now over)) × (length (now kinds) ≡ functionTotal plan) ⌝ }
+    ensures { λ r. ⌜ ((cs : List ℕ) (n : ℕ) → Kinds (directionOf direction) calls.cells plan cs (now (functions .entry)) n (now (over .entry)) → Kinds (directionOf direction) calls.functions plan cs (now (functions .entry)) r (now (kinds .exit))) ⌝ }
+{
+    match direction {
+        Direction::Refine => {
+            changes::copy_bytes(kinds, functions);
+            plan.function_offset(plan.levels - 1)
+        }
+        Direction::Coarsen => {
+            cover::coarsenable_functions(plan, functions, over, kinds);
+            plan.function_total()
+        }
+    }
+}
+
+// Judges the marks and flags the cells that they mean. By functions: of the cells that may be marked, those over which the least
+// weight is 1, where a marked function weighs 1, a deactivated one that is not marked 0, and any other 2.
+fn flag_marks(
+    direction: Direction,
+    by: By,
+    plan: Plan,
+    cells: &[u8],
+    functions: &[u8],
+    marks: &[u32],
+    flags: &mut [u8],
+    over: &mut [u8],
+    values: &mut [u8],
+) -> u32
+    requires { ⌜ check plan (now cells) (now functions) ≡ 0 ⌝ }
+    requires { ⌜ Scratch plan (now flags) (now over) (now values) ⌝ }
+    ensures { λ r. ⌜ Flags (directionOf direction) (byOf by) plan (now (cells .entry)) (now (functions .entry)) (now (marks .entry)) r (now (flags .exit)) ⌝ }
+{
+    let deep = cell_kinds(direction, plan, cells, flags);
+    match by {
+        By::Cells => {
+            let number = marks::judge(flags, deep, marks);
+            if number != 0 {
+                return number;
+            }
+            marks::weigh(cells, marks, flags);
+        }
+        By::Functions => {
+            let last = function_kinds(direction, plan, functions, flags, values);
+            let number = marks::judge(values, last, marks);
+            if number != 0 {
+                return number;
+            }
+            marks::weigh(functions, marks, values);
+            cover::cover(plan, values, over);
+            marks::keep(over, flags);
+        }
+    }
+    0
 }
 
 // The smallest admissible mesh with the flagged cells refined, or without them.
@@ -46,23 +123,46 @@ fn turn(direction: Direction, plan: Plan, cells: &mut [u8], flags: &[u8])
     }
 }
 
-// The new tables are made from the flags; then 10 and 11, or they are taken over.
-fn apply(
+// A call. The rooms hold the most cells that a plan may have, and the most functions of such a plan; while the marks are judged, those of
+// the new tables hold what the functions weigh and the cells bear.
+pub fn change(
     direction: Direction,
+    by: By,
     plan: Plan,
     cells: &mut [u8],
     functions: &mut [u8],
+    marks: &[u32],
     cell_list: &mut [u32],
     function_list: &mut [u32],
-    flags: &[u8],
-    new_cells: &mut [u8],
-    new_functions: &mut [u8],
 ) -> Answer
-    requires { ⌜ Ready (directionOf direction) plan (now cells) (now flags) ⌝ }
-    requires { ⌜ length (now functions) ≡ functionTotal plan ⌝ }
-    requires { ⌜ Space plan (now «new_cells») (now «new_functions») ⌝ }
-    ensures { λ r. ⌜ made r (now (cells .exit)) (now (functions .exit)) (now («cell_list» .exit)) (now («function_list» .exit)) ≡ turned (directionOf direction) plan (now (cells .entry)) (now (functions .entry)) (now («cell_list» .entry)) (now («function_list» .entry)) (now (flags .entry)) ⌝ }
+    ensures { λ r. ⌜ Meets (outcome (directionOf direction) (byOf by) plan) r cells functions marks «cell_list» «function_list» ⌝ }
 {
+    let number = tables::check(plan, cells, functions);
+    if number != 0 {
+        return changes::refuse(number);
+    }
+    let total = plan.cell_total() as usize;
+    let count = plan.function_total() as usize;
+    let mut flag_room = [0u8; 21845];
+    let mut cell_room = [0u8; 21845];
+    let mut function_room = [0u8; 26220];
+    let flags = &mut flag_room[..total];
+    let new_cells = &mut cell_room[..total];
+    let new_functions = &mut function_room[..count];
+    let judged = flag_marks(
+        direction,
+        by,
+        plan,
+        cells,
+        functions,
+        marks,
+        flags,
+        new_cells,
+        new_functions,
+    );
+    if judged != 0 {
+        return changes::refuse(judged);
+    }
     changes::copy_bytes(new_cells, cells);
     turn(direction, plan, new_cells, flags);
     labels::write_labels(plan, new_cells, new_functions);
@@ -74,378 +174,5 @@ fn apply(
         function_list,
         new_cells,
         new_functions,
-    )
-}
-
-// The same, with room for the new tables: the most cells that a plan may have, and the most functions of such a plan.
-fn spaced(
-    direction: Direction,
-    plan: Plan,
-    cells: &mut [u8],
-    functions: &mut [u8],
-    cell_list: &mut [u32],
-    function_list: &mut [u32],
-    flags: &[u8],
-) -> Answer
-    requires { ⌜ Ready (directionOf direction) plan (now cells) (now flags) ⌝ }
-    requires { ⌜ length (now functions) ≡ functionTotal plan ⌝ }
-    ensures { λ r. ⌜ made r (now (cells .exit)) (now (functions .exit)) (now («cell_list» .exit)) (now («function_list» .exit)) ≡ turned (directionOf direction) plan (now (cells .entry)) (now (functions .entry)) (now («cell_list» .entry)) (now («function_list» .entry)) (now (flags .entry)) ⌝ }
-{
-    let total = plan.cell_total() as usize;
-    let count = plan.function_total() as usize;
-    let mut new_cells = [0u8; 21845];
-    let mut new_functions = [0u8; 26220];
-    apply(
-        direction,
-        plan,
-        cells,
-        functions,
-        cell_list,
-        function_list,
-        flags,
-        &mut new_cells[..total],
-        &mut new_functions[..count],
-    )
-}
-
-// By cells: the marks themselves are meant.
-fn by_cells(
-    direction: Direction,
-    plan: Plan,
-    cells: &mut [u8],
-    functions: &mut [u8],
-    marks: &[u32],
-    cell_list: &mut [u32],
-    function_list: &mut [u32],
-    flags: &mut [u8],
-) -> Answer
-    requires { ⌜ Asked (directionOf direction) calls.cells plan (now cells) (now functions) (now marks) ⌝ }
-    requires { ⌜ Clear (cellTotal plan) (now flags) ⌝ }
-    ensures { λ r. ⌜ made r (now (cells .exit)) (now (functions .exit)) (now («cell_list» .exit)) (now («function_list» .exit)) ≡ outcome (directionOf direction) calls.cells plan (now (cells .entry)) (now (functions .entry)) (now (marks .entry)) (now («cell_list» .entry)) (now («function_list» .entry)) ⌝ }
-{
-    marks::flag(flags, marks);
-    spaced(
-        direction,
-        plan,
-        cells,
-        functions,
-        cell_list,
-        function_list,
-        flags,
-    )
-}
-
-// Document 01: split by cells.
-pub fn refine_cells(
-    plan: Plan,
-    cells: &mut [u8],
-    functions: &mut [u8],
-    marks: &[u32],
-    cell_list: &mut [u32],
-    function_list: &mut [u32],
-) -> Answer
-    ensures { λ r. ⌜ made r (now (cells .exit)) (now (functions .exit)) (now («cell_list» .exit)) (now («function_list» .exit)) ≡ refineCells plan (now (cells .entry)) (now (functions .entry)) (now (marks .entry)) (now («cell_list» .entry)) (now («function_list» .entry)) ⌝ }
-{
-    let number = tables::check(plan, cells, functions);
-    if number != 0 {
-        return refusal(number);
-    }
-    let deep = plan.cell_offset(plan.levels - 1);
-    let judged = marks::judge(cells, deep, marks);
-    if judged != 0 {
-        return refusal(judged);
-    }
-    let total = plan.cell_total() as usize;
-    let mut flags = [0u8; 21845];
-    by_cells(
-        Direction::Refine,
-        plan,
-        cells,
-        functions,
-        marks,
-        cell_list,
-        function_list,
-        &mut flags[..total],
-    )
-}
-
-// The marks to coarsen are judged by the reactivable cells.
-fn coarsen_judged(
-    plan: Plan,
-    cells: &mut [u8],
-    functions: &mut [u8],
-    marks: &[u32],
-    cell_list: &mut [u32],
-    function_list: &mut [u32],
-    kinds: &mut [u8],
-    flags: &mut [u8],
-) -> Answer
-    requires { ⌜ check plan (now cells) (now functions) ≡ 0 ⌝ }
-    requires { ⌜ length (now kinds) ≡ cellTotal plan ⌝ }
-    requires { ⌜ Clear (cellTotal plan) (now flags) ⌝ }
-    ensures { λ r. ⌜ made r (now (cells .exit)) (now (functions .exit)) (now («cell_list» .exit)) (now («function_list» .exit)) ≡ coarsenCells plan (now (cells .entry)) (now (functions .entry)) (now (marks .entry)) (now («cell_list» .entry)) (now («function_list» .entry)) ⌝ }
-{
-    cover::reactivable_cells(plan, cells, kinds);
-    let judged = marks::judge(kinds, plan.cell_total(), marks);
-    if judged != 0 {
-        return refusal(judged);
-    }
-    by_cells(
-        Direction::Coarsen,
-        plan,
-        cells,
-        functions,
-        marks,
-        cell_list,
-        function_list,
-        flags,
-    )
-}
-
-// Document 01: join by cells.
-pub fn coarsen_cells(
-    plan: Plan,
-    cells: &mut [u8],
-    functions: &mut [u8],
-    marks: &[u32],
-    cell_list: &mut [u32],
-    function_list: &mut [u32],
-) -> Answer
-    ensures { λ r. ⌜ made r (now (cells .exit)) (now (functions .exit)) (now («cell_list» .exit)) (now («function_list» .exit)) ≡ coarsenCells plan (now (cells .entry)) (now (functions .entry)) (now (marks .entry)) (now («cell_list» .entry)) (now («function_list» .entry)) ⌝ }
-{
-    let number = tables::check(plan, cells, functions);
-    if number != 0 {
-        return refusal(number);
-    }
-    let total = plan.cell_total() as usize;
-    let mut kinds = [0u8; 21845];
-    let mut flags = [0u8; 21845];
-    coarsen_judged(
-        plan,
-        cells,
-        functions,
-        marks,
-        cell_list,
-        function_list,
-        &mut kinds[..total],
-        &mut flags[..total],
-    )
-}
-
-// Flags the cells that the marked functions mean: those that have 1 in `kinds` (the active cells, or the reactivable ones) and over
-// which the largest weight is 1.
-fn flag_under(plan: Plan, kinds: &[u8], weights: &[u8], over: &mut [u8], flags: &mut [u8])
-    requires { ⌜ InRange plan ⌝ }
-    requires { ⌜ (length (now kinds) ≡ cellTotal plan) × (length (now weights) ≡ functionTotal plan) ⌝ }
-    requires { ⌜ Clear (cellTotal plan) (now over) ⌝ }
-    requires { ⌜ length (now flags) ≡ cellTotal plan ⌝ }
-    ensures { λ _. ⌜ now (flags .exit) ≡ under plan (now (kinds .entry)) (now (weights .entry)) ⌝ }
-{
-    cover::cover(plan, weights, over);
-    marks::both(kinds, over, flags);
-}
-
-// Refining by functions that pass: a marked function weighs 1.
-fn refine_under(
-    plan: Plan,
-    cells: &mut [u8],
-    functions: &mut [u8],
-    marks: &[u32],
-    cell_list: &mut [u32],
-    function_list: &mut [u32],
-    weights: &mut [u8],
-    over: &mut [u8],
-    flags: &mut [u8],
-) -> Answer
-    requires { ⌜ Asked calls.refine calls.functions plan (now cells) (now functions) (now marks) ⌝ }
-    requires { ⌜ Clear (functionTotal plan) (now weights) ⌝ }
-    requires { ⌜ Clear (cellTotal plan) (now over) ⌝ }
-    requires { ⌜ length (now flags) ≡ cellTotal plan ⌝ }
-    ensures { λ r. ⌜ made r (now (cells .exit)) (now (functions .exit)) (now («cell_list» .exit)) (now («function_list» .exit)) ≡ refineFunctions plan (now (cells .entry)) (now (functions .entry)) (now (marks .entry)) (now («cell_list» .entry)) (now («function_list» .entry)) ⌝ }
-{
-    marks::flag(weights, marks);
-    flag_under(plan, cells, weights, over, flags);
-    spaced(
-        Direction::Refine,
-        plan,
-        cells,
-        functions,
-        cell_list,
-        function_list,
-        flags,
-    )
-}
-
-// Document 01: split by functions.
-pub fn refine_functions(
-    plan: Plan,
-    cells: &mut [u8],
-    functions: &mut [u8],
-    marks: &[u32],
-    cell_list: &mut [u32],
-    function_list: &mut [u32],
-) -> Answer
-    ensures { λ r. ⌜ made r (now (cells .exit)) (now (functions .exit)) (now («cell_list» .exit)) (now («function_list» .exit)) ≡ refineFunctions plan (now (cells .entry)) (now (functions .entry)) (now (marks .entry)) (now («cell_list» .entry)) (now («function_list» .entry)) ⌝ }
-{
-    let number = tables::check(plan, cells, functions);
-    if number != 0 {
-        return refusal(number);
-    }
-    let deep = plan.function_offset(plan.levels - 1);
-    let judged = marks::judge(functions, deep, marks);
-    if judged != 0 {
-        return refusal(judged);
-    }
-    let total = plan.cell_total() as usize;
-    let count = plan.function_total() as usize;
-    let mut weights = [0u8; 26220];
-    let mut over = [0u8; 21845];
-    let mut flags = [0u8; 21845];
-    refine_under(
-        plan,
-        cells,
-        functions,
-        marks,
-        cell_list,
-        function_list,
-        &mut weights[..count],
-        &mut over[..total],
-        &mut flags[..total],
-    )
-}
-
-// Coarsening by functions that pass, among the reactivable cells `kinds`: a marked function weighs 1, and a deactivated one that is
-// not marked 2, so that it keeps its cells.
-fn coarsen_under(
-    plan: Plan,
-    cells: &mut [u8],
-    functions: &mut [u8],
-    marks: &[u32],
-    cell_list: &mut [u32],
-    function_list: &mut [u32],
-    kinds: &[u8],
-    marked: &mut [u8],
-    weights: &mut [u8],
-    over: &mut [u8],
-    flags: &mut [u8],
-) -> Answer
-    requires { ⌜ Asked calls.coarsen calls.functions plan (now cells) (now functions) (now marks) ⌝ }
-    requires { ⌜ now kinds ≡ tabulate (cellTotal plan) (reactivableByte plan (now cells)) ⌝ }
-    requires { ⌜ Clear (functionTotal plan) (now marked) ⌝ }
-    requires { ⌜ length (now weights) ≡ functionTotal plan ⌝ }
-    requires { ⌜ Clear (cellTotal plan) (now over) ⌝ }
-    requires { ⌜ length (now flags) ≡ cellTotal plan ⌝ }
-    ensures { λ r. ⌜ made r (now (cells .exit)) (now (functions .exit)) (now («cell_list» .exit)) (now («function_list» .exit)) ≡ coarsenFunctions plan (now (cells .entry)) (now (functions .entry)) (now (marks .entry)) (now («cell_list» .entry)) (now («function_list» .entry)) ⌝ }
-{
-    marks::flag(marked, marks);
-    marks::weigh(functions, marked, weights);
-    flag_under(plan, kinds, weights, over, flags);
-    spaced(
-        Direction::Coarsen,
-        plan,
-        cells,
-        functions,
-        cell_list,
-        function_list,
-        flags,
-    )
-}
-
-// The marks are judged by the functions that may be coarsened; `kinds` is written first for the reactivable cells.
-fn coarsen_functions_judged(
-    plan: Plan,
-    cells: &mut [u8],
-    functions: &mut [u8],
-    marks: &[u32],
-    cell_list: &mut [u32],
-    function_list: &mut [u32],
-    kinds: &mut [u8],
-    coarsenable: &mut [u8],
-) -> Answer
-    requires { ⌜ check plan (now cells) (now functions) ≡ 0 ⌝ }
-    requires { ⌜ length (now kinds) ≡ cellTotal plan ⌝ }
-    requires { ⌜ length (now coarsenable) ≡ functionTotal plan ⌝ }
-    ensures { λ r. ⌜ made r (now (cells .exit)) (now (functions .exit)) (now («cell_list» .exit)) (now («function_list» .exit)) ≡ coarsenFunctions plan (now (cells .entry)) (now (functions .entry)) (now (marks .entry)) (now («cell_list» .entry)) (now («function_list» .entry)) ⌝ }
-{
-    cover::reactivable_cells(plan, cells, kinds);
-    cover::coarsenable_functions(plan, functions, kinds, coarsenable);
-    let judged = marks::judge(coarsenable, plan.function_total(), marks);
-    if judged != 0 {
-        return refusal(judged);
-    }
-    coarsen_weighed(
-        plan,
-        cells,
-        functions,
-        marks,
-        cell_list,
-        function_list,
-        kinds,
-    )
-}
-
-// The same with room for the weights and flags.
-fn coarsen_weighed(
-    plan: Plan,
-    cells: &mut [u8],
-    functions: &mut [u8],
-    marks: &[u32],
-    cell_list: &mut [u32],
-    function_list: &mut [u32],
-    kinds: &[u8],
-) -> Answer
-    requires { ⌜ Asked calls.coarsen calls.functions plan (now cells) (now functions) (now marks) ⌝ }
-    requires { ⌜ now kinds ≡ tabulate (cellTotal plan) (reactivableByte plan (now cells)) ⌝ }
-    ensures { λ r. ⌜ made r (now (cells .exit)) (now (functions .exit)) (now («cell_list» .exit)) (now («function_list» .exit)) ≡ coarsenFunctions plan (now (cells .entry)) (now (functions .entry)) (now (marks .entry)) (now («cell_list» .entry)) (now («function_list» .entry)) ⌝ }
-{
-    let total = plan.cell_total() as usize;
-    let count = plan.function_total() as usize;
-    let mut marked = [0u8; 26220];
-    let mut weights = [0u8; 26220];
-    let mut over = [0u8; 21845];
-    let mut flags = [0u8; 21845];
-    coarsen_under(
-        plan,
-        cells,
-        functions,
-        marks,
-        cell_list,
-        function_list,
-        kinds,
-        &mut marked[..count],
-        &mut weights[..count],
-        &mut over[..total],
-        &mut flags[..total],
-    )
-}
-
-// Document 01: join by functions.
-pub fn coarsen_functions(
-    plan: Plan,
-    cells: &mut [u8],
-    functions: &mut [u8],
-    marks: &[u32],
-    cell_list: &mut [u32],
-    function_list: &mut [u32],
-) -> Answer
-    ensures { λ r. ⌜ made r (now (cells .exit)) (now (functions .exit)) (now («cell_list» .exit)) (now («function_list» .exit)) ≡ coarsenFunctions plan (now (cells .entry)) (now (functions .entry)) (now (marks .entry)) (now («cell_list» .entry)) (now («function_list» .entry)) ⌝ }
-{
-    let number = tables::check(plan, cells, functions);
-    if number != 0 {
-        return refusal(number);
-    }
-    let total = plan.cell_total() as usize;
-    let count = plan.function_total() as usize;
-    let mut kinds = [0u8; 21845];
-    let mut coarsenable = [0u8; 26220];
-    coarsen_functions_judged(
-        plan,
-        cells,
-        functions,
-        marks,
-        cell_list,
-        function_list,
-        &mut kinds[..total],
-        &mut coarsenable[..count],
     )
 }

@@ -9,15 +9,17 @@ use native.Mathlib.Numerals.{add-one}
 use native.Mathlib.Omega.{arith}
 use lib.ListN.{length}
 use Rattle.grid.specs.declared.Plan.{Plan}
+use Rattle.grid.specs.declared.Rectangle.{Rectangle}
 use Rattle.grid.specs.Numbering.{offset}
 use Rattle.grid.specs.Plan.{ratio, grown, columnsAt, rowsAt, cellOffset}
 use Rattle.grid.proofs.Direction.{grown-pos}
 use Rattle.grid.proofs.Laws.{ratio-pos}
+use Rattle.grid.proofs.Rectangles.{RectangleIn}
 use Rattle.facts.specs.Bounded.{every}
 use Rattle.facts.specs.Ranges.{everyFrom}
 use Rattle.facts.proofs.Ranges.{every-from, from-none, from-more, from-stop}
 use Rattle.cells.proofs.Rows.{row-ends}
-use Rattle.cells.specs.Table.{Sized}
+use Rattle.cells.specs.Table.{Sized, Holds}
 
 module _ (w h : ℕ → ℕ) where
   pub offset-zero : offset w h 0 ≡ 0
@@ -110,3 +112,12 @@ module _ (p : Plan) (cells : List ℕ) (sized : Sized p cells) where
 -- rows up to an end in the level lie in the table
 pub tall : (p : Plan) (cells : List ℕ) → Sized p cells → (k e : ℕ) → k < p .levels → e ≤ rowsAt p k → cellOffset p k + e * columnsAt p k ≤ length cells
 tall p cells s k e l m = omega (arith, s .size, level-ends (columnsAt p) (rowsAt p) k (p .levels) l, mul-le-mul-right (columnsAt p k) m)
+
+-- a rectangle of the plan's cells lies in the table
+pub holds : (p : Plan) (cells : List ℕ) → Sized p cells → (r : Rectangle) → RectangleIn p r → Holds (length cells) (cellOffset p (r .level)) (columnsAt p (r .level)) r
+holds p cells s r i = record {
+  rows≤ = omega (arith, i .rows .some);
+  columns≤ = omega (arith, i .columns .some);
+  wide = i .columns .within;
+  tall = tall p cells s (r .level) (r .rows .end) (i .level<) (i .rows .within);
+}

@@ -5,7 +5,8 @@ ghost use mathlib.Core.Bool.{not, Bool·beq};
 ghost use lib.Dec.{eqb};
 ghost use lib.ListN.{length};
 ghost use Rattle.refine.specs.Calls.{changed, written, settle};
-ghost use Rattle.changes.specs.Changes.{Room, Sizes, made};
+ghost use Rattle.changes.specs.Changes.{Room, Sizes, Taken, left};
+ghost use Rattle.mesh.specs.Mesh.{labels};
 use grid::Plan;
 use refine::Answer;
 
@@ -64,7 +65,7 @@ fn list_changed(old: &[u8], new: &[u8], list: &mut [u32])
 }
 
 // A refusal answers its number, with zero lengths.
-fn refuse(number: u32) -> Answer
+pub fn refuse(number: u32) -> Answer
     ensures { λ r. ⌜ r ≡ record { number = number; cells = 0; functions = 0 } ⌝ }
 {
     Answer {
@@ -74,7 +75,25 @@ fn refuse(number: u32) -> Answer
     }
 }
 
-// The changes are counted before anything is written; then refusal 10, refusal 11, or the lists, the cells and the functions.
+// The list gets the numbers that changed, and the table the new bytes.
+fn take_over(table: &mut [u8], list: &mut [u32], new: &[u8])
+    requires { ⌜ Room (now table) (now new) (now list) ⌝ }
+    ensures { λ _. ⌜ Taken table list (now (new .entry)) ⌝ }
+{
+    list_changed(table, new, list);
+    copy_bytes(table, new);
+}
+
+// The last step, when the cells are settled: the functions and their list get what the cells and the old bytes say.
+fn relabel(plan: Plan, cells: &[u8], functions: &mut [u8], list: &mut [u32], new: &[u8])
+    requires { ⌜ now new ≡ labels plan (now cells) ⌝ }
+    requires { ⌜ Room (now functions) (now new) (now list) ⌝ }
+    ensures { λ _. ⌜ Taken functions list (labels plan (now (cells .entry))) ⌝ }
+{
+    take_over(functions, list, new);
+}
+
+// The changes are counted before anything is written; then refusal 10, refusal 11, or first the cells and then the functions.
 pub fn settle(
     plan: Plan,
     cells: &mut [u8],
@@ -84,8 +103,9 @@ pub fn settle(
     new_cells: &[u8],
     new_functions: &[u8],
 ) -> Answer
+    requires { ⌜ now «new_functions» ≡ labels plan (now «new_cells») ⌝ }
     requires { ⌜ Sizes plan (now cells) (now functions) (now «new_cells») (now «new_functions») ⌝ }
-    ensures { λ r. ⌜ made r (now (cells .exit)) (now (functions .exit)) (now («cell_list» .exit)) (now («function_list» .exit)) ≡ settle plan (now (cells .entry)) (now (functions .entry)) (now («cell_list» .entry)) (now («function_list» .entry)) (now («new_cells» .entry)) (now («new_functions» .entry)) ⌝ }
+    ensures { λ r. ⌜ left r cells functions «cell_list» «function_list» ≡ settle plan (now (cells .entry)) (now (functions .entry)) (now («cell_list» .entry)) (now («function_list» .entry)) (now («new_cells» .entry)) (now («new_functions» .entry)) ⌝ }
 {
     let cell_count = count_changed(cells, new_cells);
     let function_count = count_changed(functions, new_functions);
@@ -95,10 +115,8 @@ pub fn settle(
     if function_list.len() < function_count {
         return refuse(11);
     }
-    list_changed(cells, new_cells, cell_list);
-    list_changed(functions, new_functions, function_list);
-    copy_bytes(cells, new_cells);
-    copy_bytes(functions, new_functions);
+    take_over(cells, cell_list, new_cells);
+    relabel(plan, cells, functions, function_list, new_functions);
     Answer {
         number: 0,
         cells: cell_count as u32,

@@ -2,38 +2,35 @@
 use mathlib.Core.Path.{_≡_, refl, sym, ap, _∙_}
 use mathlib.Core.Bool.{Bool, true, false, not, _&&_, cond, and-true, and-comm}
 use mathlib.Core.List.{List}
-use Prim.Native.Nat.{ℕ, suc, max, _+_, _-_, _*_, _/_, _%_, _≤_, _<_}
-use native.Mathlib.Nat.{pow-suc, div-lt-iff-lt-mul, le-refl}
+use Prim.Native.Nat.{ℕ, suc, _+_, _-_, _*_, _/_, _%_, _≤_, _<_}
+use native.Mathlib.Nat.{pow-suc, div-lt-iff-lt-mul, div-add-mod', mod-lt}
 use native.Mathlib.Numerals.{add-one}
 use native.Mathlib.Omega.{arith}
-use lib.Dec.{T, eqb, eqb-refl}
-use lib.Arith.{le-zero, digits-lt}
+use lib.Arith.{digits-div, digits-mod}
+use lib.Dec.{T, eqb}
 use lib.ListN.{length, getD}
 use borrow.Author.Tests.{ne-eqb}
 use borrow.Rule.Slice.PartMut.{midOf}
-use Rattle.facts.specs.Bounded.{some, every}
-use Rattle.facts.proofs.Tests.{and-i, and-l, and-r, same, not-e, eqb-of, T-true, T-false}
-use Rattle.facts.proofs.Bounded.{some-i, some-e}
-use Rattle.facts.proofs.Greatest.{greatest-same, greatest-le, greatest-add}
+use Rattle.facts.specs.Bounded.{every}
+use Rattle.facts.specs.Mapped.{filled}
+use Rattle.facts.proofs.Tests.{and-l, and-r, not-e, eqb-of, T-false}
 use Rattle.facts.proofs.Mapped.{part-at}
-use Rattle.facts.proofs.Ranges.{mid-len}
 use Rattle.grid.specs.declared.Plan.{Plan}
 use Rattle.grid.specs.declared.Place.{Place}
+use Rattle.grid.specs.declared.Side.{Side}
 use Rattle.grid.specs.Numbering.{offset, number}
 use Rattle.grid.specs.Range.{InRange}
-use Rattle.grid.specs.Plan.{ratio, grown, columnsAt, rowsAt, functionColumnsAt, functionRowsAt, cellOffset, functionOffset, cellTotal, functionTotal, cellPlace, functionPlace, cellLevel, lastLevel, child, below, supported}
-use Rattle.grid.specs.Spans.{inSpan, inRectangle, supportOf}
+use Rattle.grid.specs.Side.{firstOver, firsts}
+use Rattle.grid.specs.Plan.{ratio, grown, columnsAt, rowsAt, functionColumnsAt, functionRowsAt, cellOffset, functionOffset, cellTotal, functionTotal, cellPlace, cellLevel, lastLevel, child, below, acrossAt, upAt}
 use Rattle.grid.proofs.Numbering as numbering
-use Rattle.grid.proofs.Direction.{grown-pos}
-use Rattle.grid.proofs.Laws.{ratio-pos, cell-inside, cell-number-place}
-use Rattle.grid.proofs.Small.{grown-small}
-use Rattle.grid.proofs.Spans.{span-fact, rectangle-fact, supported-is}
+use Rattle.grid.proofs.Sides.{across-in}
 use Rattle.mesh.specs.Mesh.{active, refined, children, reactivable}
-use Rattle.cover.specs.Level.{family, levelReactivable, inBox, hasOne, rowsOf, columnsOf, supports, coarsenableIn, levelCoarsenable, levelCover, LevelIn}
-use Rattle.cover.specs.Cover.{reactivableByte, coarsenableByte, coverBelow, coverOn}
+use Rattle.windows.specs.Level.{levelLeast, wide, high, leastValue, valueAt, ValueTable}
+use Rattle.windows.proofs.Levels.{level-entry}
+use Rattle.windows.proofs.Under.{support-one, part-size, part-ends, level-support}
+use Rattle.cover.specs.Level.{family, levelReactivable, picked, rowRead, levelRead}
+use Rattle.cover.specs.Cover.{reactivableByte, coarsenableByte, Kinds}
 use Rattle.cover.proofs.Families.{refined-part, family-part}
-use Rattle.cover.proofs.Boxes.{box-row}
-use Rattle.cover.proofs.Supports.{span-in}
 
 -- ---- offsets
 
@@ -63,12 +60,6 @@ module _ (p : Plan) (range : InRange p) (k : ℕ) (l : k < p .levels) where
   abbrev here : ℕ
   here = cellOffset p k
 
-  wide : 0 < W
-  wide = grown-pos (ratio p) (ratio-pos p) (p .columns) k (range .columns≥)
-
-  high : 0 < H
-  high = grown-pos (ratio p) (ratio-pos p) (p .rows) k (range .rows≥)
-
   pub cells-in : here + H * W ≤ cellTotal p
   cells-in = offset-in (columnsAt p) (rowsAt p) (p .levels) k l
 
@@ -82,13 +73,13 @@ module _ (p : Plan) (range : InRange p) (k : ℕ) (l : k < p .levels) where
   cell-level j m = ap (λ (x : Place). x .level) (cell-at j m)
 
   -- no cell of the last level is reactivable
-  pub last-none : (cells : List ℕ) (j : ℕ) → k + 1 ≡ p .levels → j < H * W → 0 ≡ reactivableByte p cells (here + j)
+  pub last-none : (cells : List ℕ) (j : ℕ) → k + 1 ≡ p .levels → j < H * W → 2 ≡ reactivableByte p cells (here + j)
   unfolding reactivableByte reactivable lastLevel
   last-none cells j e m =
       let c : ℕ = here + j in
       let last : Bool = eqb (cellLevel p c + 1) (p .levels) in
       let yes : T last = eqb-of _ _ (ap (λ x. x + 1) (cell-level j m) ∙ e) in
-      ap (λ b. cond b 1 0) (sym (T-false (reactivable p cells c) (λ t.
+      ap (λ b. cond b 1 2) (sym (T-false (reactivable p cells c) (λ t.
       not-e last (and-l (not last) (children p c (active cells)) (and-r (refined cells c) (not last && children p c (active cells)) t)) yes)))
 
   module _ (q : k + 1 < p .levels) where
@@ -126,7 +117,7 @@ module _ (p : Plan) (range : InRange p) (k : ℕ) (l : k < p .levels) where
     unfolding levelReactivable reactivableByte reactivable
     reactivable-at cells j m =
         rw (refined-part here cells j, family-part next cells W (first j))
-        (ap (λ b. cond (refined cells (here + j) && b) 1 0) (sym (rw (not-last j m) (children-at cells j m))))
+        (ap (λ b. cond (refined cells (here + j) && b) 1 2) (sym (rw (not-last j m) (children-at cells j m))))
 
     pub next-in : next + 4 * (H * W) ≤ cellTotal p
     unfolding ratio
@@ -134,120 +125,38 @@ module _ (p : Plan) (range : InRange p) (k : ℕ) (l : k < p .levels) where
         let e : rowsAt p (k + 1) * columnsAt p (k + 1) ≡ 2 * H * (2 * W) = rw (add-one k, twice (p .rows) k, twice (p .columns) k) in
         omega (arith, offset-in (columnsAt p) (rowsAt p) (p .levels) (k + 1) q, e)
 
-  -- ---- functions and supports
+  -- ---- functions
 
-  pub level-in : (table : List ℕ) → length table ≡ cellTotal p → LevelIn (length (midOf here (length table - here) table)) W H (p .across) (p .up)
-  level-in table e = record {
-    columns≥ = wide;
-    rows≥ = high;
-    columns-fit = omega (arith, grown-small p {k = k} (range .columns≤) (omega arith));
-    rows-fit = omega (arith, grown-small p {k = k} (range .rows≤) (omega arith));
-    tall = omega (arith, mid-len here table, cells-in);
-  }
+  -- what is picked by the least bytes of the supports
+  pub picked-at : (functions reactivables found start : List ℕ) → Kinds p reactivables → functionTotal p ≤ length start
+      → found ≡ filled 0 (high p k (p .up) * wide p k (p .across)) (levelLeast p reactivables k (p .across) (p .up)) start
+      → (j : ℕ) → j < functionRowsAt p k * functionColumnsAt p k
+      → picked (midOf (functionOffset p k) (length functions - functionOffset p k) functions) found j ≡ coarsenableByte p functions reactivables (functionOffset p k + j)
+  unfolding picked coarsenableByte refined
+  picked-at functions reactivables found start kinds room e j m =
+      let ends = part-ends p range reactivables k l in
+      let size = part-size p range reactivables k l in
+      let b : functionOffset p k + j < functionTotal p = omega arith in
+      rw (part-at (functionOffset p k) functions j)
+      (ap (λ z. cond (eqb (getD functions (functionOffset p k + j) 0) 2 && z) 1 0)
+      (ap (λ z. eqb z 1) (level-entry p reactivables found start k (p .across) (p .up) e (rw size (omega arith)) j (rw size m) ∙ level-support p range reactivables k l j m)
+      ∙ support-one p range reactivables (functionOffset p k + j) b (kinds .some)))
 
-  abbrev FW : ℕ
-  FW = functionColumnsAt p k
+  -- ---- cells under functions
 
-  abbrev FH : ℕ
-  FH = functionRowsAt p k
+  pub read-at : (values table : List ℕ) → ValueTable p values table k → (j : ℕ) → j < H * W → levelRead (acrossAt p k) (upAt p k) table j ≡ leastValue p values (here + j)
+  unfolding levelRead number
+  read-at values table t j m =
+      let w : 0 < W = across-in p range k l .cells≥ in
+      let q = div-add-mod' j W in
+      t .made (j / W) (j % W) (div-lt-iff-lt-mul w .1 m) (mod-lt j w) ∙ ap (leastValue p values) (omega arith)
 
-  abbrev from : ℕ
-  from = functionOffset p k
-
-  pub functions-in : from + FH * FW ≤ functionTotal p
-  functions-in = offset-in (functionColumnsAt p) (functionRowsAt p) (p .levels) k l
-
-  function-at : (j : ℕ) → j < FH * FW → functionPlace p (from + j) ≡ record { level = k; row = j / FW; column = j % FW }
-  function-at j m = sym (numbering.place-rest (functionColumnsAt p) (functionRowsAt p) (p .levels) (from + j) k j l (omega arith) m)
-
-  module _ (j : ℕ) (m : j < FH * FW) where
-    abbrev holds : ℕ → Bool
-    holds = supports W H (p .across) (p .up) j
-
-    -- on its own level
-    supported-in : (i : ℕ) → i < H * W → supported p (from + j) (here + i) ≡ holds i
-    unfolding supports inBox inRectangle supportOf
-    supported-in i u = supported-is p range (from + j) (here + i) ∙ rw (function-at j m, cell-at i u, T-true (eqb k k) (eqb-refl k))
-        (and-comm (inSpan (columnsOf W (p .across) j) (i % W)) (inSpan (rowsOf W H (p .across) (p .up) j) (i / W)))
-
-    -- and on no other
-    supported-level : (c : ℕ) → c < cellTotal p → T (supported p (from + j) c) → (i : ℕ) × (i < H * W) × (c ≡ here + i)
-    unfolding supportOf number
-    supported-level c b t =
-        let x : Place = cellPlace p c in
-        let f : T (inRectangle (supportOf p (functionPlace p (from + j))) x) = rw (supported-is p range (from + j) c) at t in
-        let e : x .level ≡ k = sym (rectangle-fact (supportOf p (functionPlace p (from + j))) x f .level) ∙ ap (λ (y : Place). y .level) (function-at j m) in
-        let i = cell-inside p range c b in
-        let r : x .row < H = rw e at (i .row<) in
-        let u : x .column < W = rw e at (i .column<) in
-        let n : here + x .row * W + x .column ≡ c = rw e at (cell-number-place p range c b) in
-        (x .row * W + x .column, digits-lt r u, omega arith)
-
-    holds-in : (i : ℕ) → T (holds i) → i < H * W
-    unfolding supports
-    holds-in i t =
-        let z : 0 < FW = omega (arith, wide) in
-        let r : j / FW < FH = div-lt-iff-lt-mul z .1 m in
-        let s = span-fact (rowsOf W H (p .across) (p .up) j) (i / W) (box-row (rowsOf W H (p .across) (p .up) j) (columnsOf W (p .across) j) W i t) in
-        div-lt-iff-lt-mul wide .0 (omega (arith, s .to, span-in H (p .up) (j / FW) high r))
-
-    supported-here : (i : ℕ) → here + i < cellTotal p → supported p (from + j) (here + i) ≡ holds i
-    supported-here i b = same _ _
-        (λ t. let u = supported-level (here + i) b t in let v : i < H * W = omega (arith, u .1, u .2) in rw (← supported-in i v) t)
-        (λ t. rw (supported-in i (holds-in i t)) t)
-
-    supported-before : (c : ℕ) → c < here → supported p (from + j) c ≡ false
-    supported-before c b = T-false (supported p (from + j) c) (λ t. let u = supported-level c (omega (arith, cells-in)) t in omega (arith, u .2))
-
-    -- ---- a cell of the support that is 1
-
-    abbrev one : List ℕ → ℕ → Bool
-    one table c = eqb (getD table c 0) 1
-
-    one-part : (table : List ℕ) (i : ℕ) → one (midOf here (length table - here) table) i ≡ one table (here + i)
-    one-part table i = rw (part-at here table i)
-
-    pub has-one-at : (table : List ℕ) → length table ≡ cellTotal p
-        → hasOne (midOf here (length table - here) table) (rowsOf W H (p .across) (p .up) j) (columnsOf W (p .across) j) W
-        ≡ some (cellTotal p) (λ c. supported p (from + j) c && one table c)
-    unfolding hasOne supports
-    has-one-at table e =
-        let part : List ℕ = midOf here (length table - here) table in
-        let size : length part ≡ cellTotal p - here = mid-len here table ∙ ap (λ n. n - here) e in
-        same (some (length part) (λ i. holds i && one part i)) (some (cellTotal p) (λ c. supported p (from + j) c && one table c))
-        (λ t.
-        let w = some-e (length part) _ t in
-        let i : ℕ = w .0 in
-        let b : here + i < cellTotal p = omega (arith, w .1) in
-        let s : T (supported p (from + j) (here + i)) = rw (supported-here i b) (and-l (holds i) (one part i) (w .2)) in
-        let o : T (one table (here + i)) = rw (one-part table i) at (and-r (holds i) (one part i) (w .2)) in
-        some-i (cellTotal p) _ (here + i) b (and-i (supported p (from + j) (here + i)) (one table (here + i)) s o))
-        (λ t.
-        let w = some-e (cellTotal p) _ t in
-        let c : ℕ = w .0 in
-        let u = supported-level c (w .1) (and-l (supported p (from + j) c) (one table c) (w .2)) in
-        let i : ℕ = u .0 in
-        let s : T (holds i) = rw (← supported-in i (u .1), ← u .2) (and-l (supported p (from + j) c) (one table c) (w .2)) in
-        let o : T (one part i) = rw (one-part table i, ← u .2) (and-r (supported p (from + j) c) (one table c) (w .2)) in
-        some-i (length part) _ i (omega (arith, u .1, cells-in)) (and-i (holds i) (one part i) s o))
-
-  pub coarsenable-at : (functions reactivables : List ℕ) → length reactivables ≡ cellTotal p → (j : ℕ) → j < FH * FW
-      → levelCoarsenable (midOf from (length functions - from) functions) (midOf here (length reactivables - here) reactivables) W H (p .across) (p .up) j
-      ≡ coarsenableByte p functions reactivables (from + j)
-  unfolding levelCoarsenable coarsenableIn coarsenableByte refined
-  coarsenable-at functions reactivables e j m = rw (part-at from functions j, has-one-at j m reactivables e)
-
-  -- ---- the largest value
-
-  pub cover-at : (values : List ℕ) (i : ℕ) → here + i < cellTotal p
-      → levelCover (midOf from (length values - from) values) W H (p .across) (p .up) (FH * FW) i ≡ coverOn p values k (here + i)
-  unfolding levelCover coverOn
-  cover-at values i b = greatest-same (FH * FW) _ _ (λ j m. rw (supported-here j m i b, part-at from values j))
-
-  pub cover-before : (values : List ℕ) (c : ℕ) → c < here → coverOn p values k c ≡ 0
-  unfolding coverOn
-  cover-before values c b = le-zero (greatest-le (FH * FW) _ 0 (λ j m. rw (supported-before j m c b) (le-refl 0)))
-
-  pub cover-next : (values : List ℕ) (c : ℕ) → max (coverBelow p values from c) (coverOn p values k c) ≡ coverBelow p values (functionOffset p (k + 1)) c
-  unfolding coverOn coverBelow
-  cover-next values c = rw (offset-next (functionColumnsAt p) (functionRowsAt p) k) (sym (greatest-add from (FH * FW) _))
+-- a row of the level
+pub read-row : (across up : Side) (table : List ℕ) (row at to : ℕ) → to ≡ row * across .cells
+    → at ≡ (firstOver up row + up .degree) * (firsts across + 2 * across .degree) + across .degree → (x : ℕ) → x < across .cells
+    → rowRead across (midOf at (length table - at) table) x ≡ levelRead across up table (to + x)
+unfolding rowRead levelRead
+read-row across up table row at to e f x l =
+    let d : (to + x) / across .cells ≡ row = ap (λ z. (z + x) / across .cells) e ∙ digits-div row l in
+    let m : (to + x) % across .cells ≡ x = ap (λ z. (z + x) % across .cells) e ∙ digits-mod row l in
+    rw (part-at at table (firstOver across x), d, m) (ap (λ z. getD table z 0) (omega arith))

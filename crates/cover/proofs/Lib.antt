@@ -1,6 +1,4 @@
-pub mod Boxes
 pub mod Families
 pub mod Levels
 pub mod Meaning
 pub mod Passes
-pub mod Supports

@@ -1,33 +1,25 @@
 -- What the three passes make of a plan's tables. Definitions only.
+use mathlib.Core.Path.{_≡_}
 use mathlib.Core.Bool.{_&&_, cond}
 use mathlib.Core.List.{List}
-use Prim.Native.Nat.{ℕ, _+_, _*_}
+use Prim.Native.Nat.{ℕ, _≤_, _<_}
 use lib.Dec.{eqb}
-use lib.ListN.{getD}
+use lib.ListN.{length, getD}
 use Rattle.facts.specs.Bounded.{some}
-use Rattle.facts.specs.Greatest.{greatest}
 use Rattle.grid.specs.declared.Plan.{Plan}
-use Rattle.grid.specs.Plan.{cellTotal, functionTotal, functionOffset, functionColumnsAt, functionRowsAt, supported}
+use Rattle.grid.specs.Plan.{cellTotal, supported}
 use Rattle.mesh.specs.Mesh.{refined, reactivable}
 
--- 1 for "a split cell whose four children are active"
+-- 1 for "a split cell whose four children are active", 2 for any other
 unfoldable pub reactivableByte : Plan → List ℕ → ℕ → ℕ
-reactivableByte p cells c = cond (reactivable p cells c) 1 0
+reactivableByte p cells c = cond (reactivable p cells c) 1 2
 
 -- 1 for a "deactivated function with a joinable cell of its own level in its support"
 unfoldable pub coarsenableByte : Plan → List ℕ → List ℕ → ℕ → ℕ
 coarsenableByte p functions reactivables f =
     cond (refined functions f && some (cellTotal p) (λ c. supported p f c && eqb (getD reactivables c 0) 1)) 1 0
 
--- the largest value of the functions that have the cell in their supports; 0 where there is none
-unfoldable pub coverOf : Plan → List ℕ → ℕ → ℕ
-coverOf p values c = greatest (functionTotal p) (λ f. cond (supported p f c) (getD values f 0) 0)
-
--- the same of the functions below n, and of those of level k
-unfoldable pub coverBelow : Plan → List ℕ → ℕ → ℕ → ℕ
-coverBelow p values n c = greatest n (λ f. cond (supported p f c) (getD values f 0) 0)
-
-unfoldable pub coverOn : Plan → List ℕ → ℕ → ℕ → ℕ
-coverOn p values k c =
-    greatest (functionRowsAt p k * functionColumnsAt p k)
-    (λ j. cond (supported p (functionOffset p k + j) c) (getD values (functionOffset p k + j) 0) 0)
+-- a byte for each cell, none of them 0
+pub record Kinds (p : Plan) (table : List ℕ) : Type 0 where
+  pub size : length table ≡ cellTotal p
+  pub some : (c : ℕ) → c < cellTotal p → 1 ≤ getD table c 0

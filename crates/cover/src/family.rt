@@ -7,6 +7,7 @@ ghost use lib.ListN.{length};
 ghost use Rattle.facts.specs.Mapped.{filled};
 ghost use Rattle.mesh.specs.Mesh.{active};
 ghost use Rattle.cover.specs.Level.{family, rowReactivable, levelReactivable};
+ghost use Rattle.windows.specs.Windows.{two};
 
 // Two neighbours in a row are active.
 fn pair_active(next: &[u8], at: usize) -> bool
@@ -16,20 +17,20 @@ fn pair_active(next: &[u8], at: usize) -> bool
     (next[at] == 1) & (next[at + 1] == 1)
 }
 
-// 1 where the cell i of a row is reactivable.
+// 1 where the cell i of a row is reactivable, 2 for any other.
 fn reactivable_at(here: &[u8], next: &[u8], columns: usize, i: usize) -> u8
     requires { ⌜ i < columns ⌝ }
     requires { ⌜ (columns ≤ length (now here)) × (4 * columns ≤ length (now next)) ⌝ }
     ensures { λ r. ⌜ r ≡ rowReactivable (now (here .entry)) (now (next .entry)) columns i ⌝ }
 {
     if here[i] != 2 {
-        return 0;
+        return 2;
     }
     let first = 2 * i;
     if pair_active(next, first) & pair_active(next, first + 2 * columns) {
         return 1;
     }
-    0
+    2
 }
 
 // A row of cells.
@@ -64,11 +65,11 @@ pub fn reactivable_level(here: &[u8], next: &[u8], out: &mut [u8], columns: usiz
 
 // No cell of the last level.
 pub fn clear(out: &mut [u8])
-    ensures { λ _. ⌜ now (out .exit) ≡ filled 0 (length (now (out .entry))) (λ _. 0) (now (out .entry)) ⌝ }
+    ensures { λ _. ⌜ now (out .exit) ≡ filled 0 (length (now (out .entry))) two (now (out .entry)) ⌝ }
 {
     let mut i = 0;
     while i < out.len() {
-        out[i] = 0;
+        out[i] = 2;
         i += 1;
     }
 }

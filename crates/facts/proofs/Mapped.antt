@@ -50,7 +50,7 @@ unfolding mapped
 mapped-is g xs ys e h = tabulate-is _ _ ys e h
 
 -- one change after another
-mapped-more : (f g h : ℕ → ℕ → ℕ) (xs : List ℕ) → ((i x : ℕ) → g i (f i x) ≡ h i x) → mapped g (mapped f xs) ≡ mapped h xs
+pub mapped-more : (f g h : ℕ → ℕ → ℕ) (xs : List ℕ) → ((i x : ℕ) → g i (f i x) ≡ h i x) → mapped g (mapped f xs) ≡ mapped h xs
 mapped-more f g h xs e = mapped-is h xs (mapped g (mapped f xs)) (mapped-length g (mapped f xs) ∙ mapped-length f xs) (λ i l.
     mapped-at g (mapped f xs) i (rw (mapped-length f xs) l) ∙ (ap (g i) (mapped-at f xs i l) ∙ e i (getD xs i 0)))
 
@@ -60,7 +60,7 @@ pub part-at : (o : ℕ) (xs : List ℕ) (i : ℕ) → getD (midOf o (length xs -
 part-at o xs i = rw (take-all _ (drop o xs) (le-of-eq (length-drop o xs))) (getD-drop o xs i 0)
 
 -- what was done to the part is done to the whole
-mapped-part : (o : ℕ) (g h : ℕ → ℕ → ℕ) (xs : List ℕ) → o ≤ length xs → ((i x : ℕ) → i < o → x ≡ h i x) → ((j x : ℕ) → o + j < length xs → g j x ≡ h (o + j) x)
+pub mapped-part : (o : ℕ) (g h : ℕ → ℕ → ℕ) (xs : List ℕ) → o ≤ length xs → ((i x : ℕ) → i < o → x ≡ h i x) → ((j x : ℕ) → o + j < length xs → g j x ≡ h (o + j) x)
     → putMid o (length xs - o) xs (mapped g (midOf o (length xs - o) xs)) ≡ mapped h xs
 mapped-part o g h xs l before inside =
     let part : List ℕ = midOf o (length xs - o) xs in

@@ -4,3 +4,6 @@ pub mod Laws
 pub mod Small
 pub mod Spans
 pub mod Totals
+pub mod Rectangles
+pub mod Sides
+pub mod First

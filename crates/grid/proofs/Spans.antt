@@ -267,9 +267,9 @@ module _ (p : Plan) (range : InRange p) (q c : ℕ) where
   near-neighbourhood t = near-has p (cellPlace p q) (cellPlace p c) (near-places p range q c t)
 
   -- the cells near q are those of its rectangle
-  pub near-is : c < cellTotal p → HasNeighbourhood p (cellLevel p q) → near p q c ≡ inRectangle (neighbourhood p (cellPlace p q)) (cellPlace p c)
+  pub near-is : q < cellTotal p → c < cellTotal p → HasNeighbourhood p (cellLevel p q) → near p q c ≡ inRectangle (neighbourhood p (cellPlace p q)) (cellPlace p c)
   unfolding near
-  near-is b has = rw (T-true (ltb c (cellTotal p)) (lt→ltb c (cellTotal p) b)) (near-rectangle p (cellPlace p q) (cellPlace p c) has (cell-inside p range c b))
+  near-is a b has = rw (T-true (ltb c (cellTotal p)) (lt→ltb c (cellTotal p) b)) (near-rectangle p (cellPlace p q) (cellPlace p c) has (cell-inside p range c b))
 
 pub near-own : (p : Plan) (range : InRange p) (q : ℕ) → q < cellTotal p → HasNeighbourhood p (cellLevel p q) → T (near p q (cellNumber p (ancestorOf p (cellPlace p q))))
 near-own p range q b has =

@@ -5,6 +5,7 @@ use lib.Dec.{leb, ltb, eqb}
 use Rattle.hierarchy.specs.Hierarchy.{Hierarchy}
 use Rattle.grid.specs.declared.Plan.{Plan}
 use Rattle.grid.specs.declared.Place.{Place}
+use Rattle.grid.specs.declared.Side.{Side}
 use Rattle.grid.specs.Numbering
 
 -- ---- the six numbers
@@ -46,6 +47,13 @@ functionColumnsAt p k = columnsAt p k + p .across
 
 abbrev pub functionRowsAt : Plan → ℕ → ℕ
 functionRowsAt p k = rowsAt p k + p .up
+
+-- a level's directions
+abbrev pub acrossAt : Plan → ℕ → Side
+acrossAt p k = record { cells = columnsAt p k; degree = p .across }
+
+abbrev pub upAt : Plan → ℕ → Side
+upAt p k = record { cells = rowsAt p k; degree = p .up }
 
 -- ---- numbers and places: "numbered from 0, level by level, row by row"; functions "like cells, with n + p to a row"
 

@@ -4,7 +4,8 @@ ghost use Prim.Native.Nat.{_+_, _-_, _*_, _≤_, _<_};
 ghost use Rattle.grid.specs.Numbering.{Inside, offset, number, place};
 ghost use Rattle.grid.specs.Range.{InRange, Beyond, HasNeighbourhood};
 ghost use Rattle.grid.specs.Spans.{supportSpan, aroundSpan, supportOf, around, ancestorOf, neighbourhood};
-ghost use Rattle.grid.specs.Plan.{between, inRange, ratio, grown, widened, columnsAt, rowsAt, functionColumnsAt, functionRowsAt, cellOffset, functionOffset, cellTotal, functionTotal, tooLarge, cellPlace, cellNumber, functionPlace, functionNumber, CellInside, FunctionInside, cellLevel, above, parent, ancestor};
+ghost use Rattle.grid.specs.Side.{SideIn, functions, firstOver, firsts, supportOver};
+ghost use Rattle.grid.specs.Plan.{between, inRange, ratio, grown, widened, columnsAt, rowsAt, acrossAt, upAt, functionColumnsAt, functionRowsAt, cellOffset, functionOffset, cellTotal, functionTotal, tooLarge, cellPlace, cellNumber, functionPlace, functionNumber, CellInside, FunctionInside, cellLevel, above, parent, ancestor};
 
 // Document 01, "The plan": six numbers handed over by value.
 #[repr(C)]
@@ -43,6 +44,12 @@ pub struct Rectangle {
     pub level: u32,
     pub rows: Span,
     pub columns: Span,
+}
+
+// One direction of one level: columns (or rows) of cells under functions of a degree.
+pub struct Side {
+    pub cells: u32,
+    pub degree: u32,
 }
 
 // x less d, or 0.
@@ -84,6 +91,42 @@ fn between(lo: u32, hi: u32, x: u32) -> bool
     ensures { λ r. ⌜ r ≡ between lo hi x ⌝ }
 {
     (lo <= x) & (x <= hi)
+}
+
+impl Side {
+    // How many functions there are.
+    pub fn functions(self) -> u32
+        requires { ⌜ SideIn self ⌝ }
+        ensures { λ r. ⌜ r ≡ functions self ⌝ }
+    {
+        self.cells + self.degree
+    }
+
+    // The first function over column x.
+    pub fn first_over(self, x: u32) -> u32
+        requires { ⌜ SideIn self ⌝ }
+        requires { ⌜ x < self .cells ⌝ }
+        ensures { λ r. ⌜ r ≡ firstOver self x ⌝ }
+    {
+        x
+    }
+
+    // How many functions there are up to the first over the last column.
+    pub fn firsts(self) -> u32
+        requires { ⌜ SideIn self ⌝ }
+        ensures { λ r. ⌜ r ≡ firsts self ⌝ }
+    {
+        let degree = self.degree;
+        self.functions() - degree
+    }
+
+    // The columns that function i covers.
+    pub fn support(self, i: u32) -> Span
+        requires { ⌜ SideIn self ⌝ }
+        ensures { λ r. ⌜ r ≡ supportOver self i ⌝ }
+    {
+        support(self.cells, self.degree, i)
+    }
 }
 
 impl Plan {
@@ -154,6 +197,27 @@ impl Plan {
         ensures { λ r. ⌜ r ≡ functionRowsAt self level ⌝ }
     {
         self.wide(self.rows, self.up, level)
+    }
+
+    // A level's directions.
+    pub fn across_at(self, level: u32) -> Side
+        requires { ⌜ InRange self ⌝ }
+        requires { ⌜ level < self .levels ⌝ }
+        ensures { λ r. ⌜ r ≡ acrossAt self level ⌝ }
+    {
+        let cells = self.columns_at(level);
+        let degree = self.across;
+        Side { cells, degree }
+    }
+
+    pub fn up_at(self, level: u32) -> Side
+        requires { ⌜ InRange self ⌝ }
+        requires { ⌜ level < self .levels ⌝ }
+        ensures { λ r. ⌜ r ≡ upAt self level ⌝ }
+    {
+        let cells = self.rows_at(level);
+        let degree = self.up;
+        Side { cells, degree }
     }
 
     // Cells and functions are numbered by the same functions: `across` and `up` are how many columns and rows a level has beyond those

@@ -1,1 +1,2 @@
 pub mod SupportLaws
+pub mod Room

@@ -1,72 +1,91 @@
--- What the loops of refusal 6 read is the label. Assumes nothing.
-use mathlib.Core.Path.{_≡_, sym, ap, _∙_, refl}
+-- The window at a function's place is its support, and the least byte there its label. Assumes nothing.
+use mathlib.Core.Path.{_≡_, refl, sym, ap, _∙_}
+use mathlib.Core.Bool.{Bool, true, _&&_, and-comm}
+use lib.Dec.{eqb}
+use native.Mathlib.Numerals.{add-one}
 use mathlib.Core.List.{List}
-use Prim.Native.Nat.{ℕ, min, _+_, _-_, _*_, _≤_, _<_}
-use native.Mathlib.Nat.{min-le-left, le-min}
+use Prim.Native.Nat.{ℕ, _+_, _-_, _*_, _≤_, _<_}
 use native.Mathlib.Omega.{arith}
 use lib.ListN.{length, getD}
+use borrow.Rule.Slice.PartMut.{putMid, midOf}
+use Rattle.facts.specs.Bounded.{every}
+use Rattle.facts.specs.Mapped.{filled}
+use Rattle.facts.specs.Ranges.{Written}
 use Rattle.facts.proofs.Tests.{true-T}
-use Rattle.facts.proofs.Bounded.{every-e}
-use Rattle.facts.proofs.Least.{least-same}
+use Rattle.facts.proofs.Bounded.{every-e, every-same}
+use Rattle.facts.proofs.Mapped.{run-in, mapped-at, filled-length}
+use Rattle.facts.proofs.Numbers.{getD-tabulate}
+use Rattle.facts.proofs.Ranges.{mid-len, written-same, written-part}
 use Rattle.grid.specs.declared.Plan.{Plan}
-use Rattle.grid.specs.declared.Place.{Place}
-use Rattle.grid.specs.Numbering.{number}
-use Rattle.grid.specs.Plan.{columnsAt, rowsAt, cellOffset, cellTotal, functionNumber, FunctionInside}
-use Rattle.grid.specs.Spans.{supportSpan, supportOf}
-use Rattle.grid.proofs.Numbering as numbering
-use Rattle.mesh.specs.Mesh.{isMesh, cellFits, labelOf}
+use Rattle.grid.specs.Plan.{columnsAt, rowsAt, functionColumnsAt, functionRowsAt, functionOffset, cellTotal, functionTotal}
+use Rattle.mesh.specs.Mesh.{isMesh, cellFits, labelOf, labels, isLabelled}
 use Rattle.mesh.proofs.Bridge.{fits-e}
 use Rattle.mesh.proofs.Label.{label}
-use Rattle.facts.specs.Least.{least}
-use Rattle.facts.proofs.Ranges.{least-more}
-use Rattle.cells.proofs.Levels.{rows-pos, columns-pos, tall}
-use Rattle.cells.specs.Table.{MeshTable, Holds}
-use Rattle.labels.specs.Least.{leastRow, leastRows, leastIn}
+use Rattle.cells.specs.Table.{MeshTable}
+use Rattle.cells.proofs.Levels.{offset-next}
+use Rattle.windows.specs.Level.{levelLeast, wide, high, LevelRoom}
+use Rattle.windows.proofs.Levels.{under-top}
+use Rattle.windows.proofs.Under.{support-le, support-ge, part-size, part-ends, level-support}
+use Rattle.labels.specs.Least.{agree}
 
--- ---- one cell, one row more
+filled-written : {n : ℕ} {f : ℕ → ℕ} {xs ys : List ℕ} → ys ≡ filled 0 n f xs → n ≤ length xs → Written xs ys 0 n f
+unfolding filled
+filled-written {n} {f} {xs} {ys} e l = record {
+  size = ap length e ∙ filled-length 0 n f xs;
+  kept = λ i m. absurd (omega arith);
+  made = λ i m u. ap (λ z. getD z i 0) e ∙ (mapped-at _ xs i (omega arith) ∙ rw (run-in 0 n i (omega arith) (omega arith)));
+}
 
-module _ (cells : List ℕ) (at left width columns : ℕ) where
-  pub least-none : leastRows cells at left width 0 columns ≡ 2
-  unfolding leastRows least
-  least-none = refl
-
-  pub least-next : (r : ℕ) → leastRows cells at left width (r + 1) columns ≡ min (leastRows cells at left width r columns) (leastRow cells (at + r * width + left) columns)
-  unfolding leastRows
-  least-next r = least-more 2 r _
-
-pub row-least-none : (cells : List ℕ) (at : ℕ) → leastRow cells at 0 ≡ 2
-unfolding leastRow least
-row-least-none cells at = refl
-
-pub row-least-next : (cells : List ℕ) (at n : ℕ) → leastRow cells at (n + 1) ≡ min (leastRow cells at n) (getD cells (at + n) 0)
-unfolding leastRow
-row-least-next cells at n = least-more 2 n _
-
--- ---- supports
-
-support-low : (n d i : ℕ) → 0 < n → i < n + d → i - d ≤ min (n - 1) i + 1
-support-low n d i z l = omega (arith, le-min {k = i - d} {a = n - 1} {b = i} (omega arith) (omega arith))
-
-support-high : (n d i : ℕ) → 0 < n → min (n - 1) i + 1 ≤ n
-support-high n d i z = omega (arith, min-le-left (n - 1) i)
-
-module _ (p : Plan) (cells : List ℕ) (table : MeshTable p cells) (x : Place) (i : FunctionInside p x) where
-  pub support-holds : Holds (length cells) (cellOffset p (x .level)) (columnsAt p (x .level)) (supportOf p x)
-  unfolding supportOf supportSpan
-  support-holds =
-      let s = table .sized in
-      record {
-        rows≤ = support-low (rowsAt p (x .level)) (p .up) (x .row) (rows-pos p cells s (x .level)) (i .row<);
-        columns≤ = support-low (columnsAt p (x .level)) (p .across) (x .column) (columns-pos p cells s (x .level)) (i .column<);
-        wide = support-high (columnsAt p (x .level)) (p .across) (x .column) (columns-pos p cells s (x .level));
-        tall = tall p cells s (x .level) _ (i .level<) (support-high (rowsAt p (x .level)) (p .up) (x .row) (rows-pos p cells s (x .level)));
-      }
-
+module _ (p : Plan) (cells : List ℕ) (table : MeshTable p cells) (level : ℕ) (l : level < p .levels) where
   small : (n : ℕ) → n < cellTotal p → getD cells n 0 ≤ 2
   unfolding isMesh
   small n b = fits-e p cells n (every-e (cellTotal p) (cellFits p cells) (true-T _ (table .mesh)) n b) .byte
 
-  pub label-read : leastIn cells (cellOffset p (x .level)) (columnsAt p (x .level)) (supportOf p x) ≡ labelOf p cells (functionNumber p x)
-  unfolding leastIn leastRows leastRow supportOf supportSpan number
-  label-read = least-same 2 _ _ _ (λ a u. least-same 2 _ _ _ (λ b v. ap (λ m. getD cells m 0) (omega arith)))
-      ∙ sym (label p (table .sized .range) (x .level) (x .row) (x .column) (i .level<) (i .row<) (i .column<) cells small)
+  level-label : (j : ℕ) → j < functionRowsAt p level * functionColumnsAt p level → levelLeast p cells level (p .across) (p .up) j ≡ labelOf p cells (functionOffset p level + j)
+  level-label j m =
+      let range = table .sized .range in
+      let b : functionOffset p level + j < functionTotal p = omega (arith, part-ends p range cells level l) in
+      level-support p range cells level l j m
+      ∙ sym (label p (functionOffset p level + j) cells small _ (under-top p cells _ _ _ _ _) (support-le p range cells (functionOffset p level + j) b) (support-ge p range cells (functionOffset p level + j) b))
+
+  -- what the windows of the level write through its part of the table
+  pub level-written : {o : ℕ} (out ys : List ℕ) → o ≡ functionOffset p level → length out ≡ functionTotal p
+      → ys ≡ filled 0 (high p level (p .up) * wide p level (p .across)) (levelLeast p cells level (p .across) (p .up)) (midOf o (length out - o) out)
+      → Written out (putMid o (length out - o) out ys) (functionOffset p level) (functionOffset p (level + 1)) (labelOf p cells)
+  level-written {o} out ys q s h =
+      let k = part-ends p (table .sized .range) cells level l in
+      rw (q, offset-next (functionColumnsAt p) (functionRowsAt p) level)
+      (written-part out ys (functionOffset p level) (functionRowsAt p level * functionColumnsAt p level) (labelOf p cells) (omega arith)
+      (written-same _ _ (λ i m n. level-label i n)
+      (filled-written (rw (q, part-size p (table .sized .range) cells level l) at h) (omega (arith, mid-len (functionOffset p level) out)))))
+
+  -- the tables hold the level
+  pub level-room : {o : ℕ} (out scratch : List ℕ) → o ≡ functionOffset p level → length out ≡ functionTotal p → functionTotal p ≤ length scratch
+      → LevelRoom p level (length cells) (length scratch) (length out - o) (p .across) (p .up) × (o ≤ length out)
+  level-room out scratch q s t =
+      let k = part-ends p (table .sized .range) cells level l in
+      let z = table .sized .size in
+      rw q (
+        record {
+          range = table .sized .range;
+          level< = l;
+          cells≤ = omega arith;
+          scratch≤ = rw (part-size p (table .sized .range) cells level l) (omega arith);
+          out≤ = rw (part-size p (table .sized .range) cells level l) (omega arith);
+        },
+        omega arith,
+      )
+
+-- ---- two tables byte by byte
+
+pub agree-none : (a b : List ℕ) → true ≡ agree 0 a b
+unfolding agree every
+agree-none a b = refl
+
+pub agree-next : (a b : List ℕ) (i : ℕ) (ok : Bool) → ok ≡ agree i a b → ok && eqb (getD a i 0) (getD b i 0) ≡ agree (i + 1) a b
+unfolding agree every
+agree-next a b i ok e = rw (add-one i, e) (and-comm (every i (λ i. eqb (getD a i 0) (getD b i 0))) (eqb (getD a i 0) (getD b i 0)))
+
+pub agree-labels : (p : Plan) (cells functions made : List ℕ) → made ≡ labels p cells → length functions ≡ functionTotal p → agree (length functions) functions made ≡ isLabelled p cells functions
+unfolding agree isLabelled labels
+agree-labels p cells functions made e s = rw (s, e) (every-same (functionTotal p) _ _ (λ i l. ap (eqb (getD functions i 0)) (getD-tabulate _ _ i 0 l)))

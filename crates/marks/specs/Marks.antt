@@ -1,5 +1,4 @@
 -- Refusals 7, 8 and 9 of one mark (document 01, "The refusal table"), and tables made number by number. Definitions only.
-use mathlib.Core.Path.{_≡_}
 use mathlib.Core.Bool.{not, _&&_, cond}
 use mathlib.Core.List.{List}
 use Prim.Native.Nat.{ℕ, _<_}
@@ -15,22 +14,28 @@ verdict kinds deep x =
     (cond (not (eqb (getD kinds x 0) 1)) 8
     (cond (leb deep x) 9 0))
 
--- a table of zeros that has a byte for each mark
-pub record Markable (flags marks : List ℕ) : Type 0 where
-  pub inside : (x : ℕ) → T (elem x marks) → x < length flags
-  pub clear : (x : ℕ) → x < length flags → getD flags x 0 ≡ 0
+-- every mark is a number below n
+pub record Inside (n : ℕ) (marks : List ℕ) : Type 0 where
+  pub inside : (x : ℕ) → T (elem x marks) → x < n
 
--- 1 at the marks
-abbrev pub flagged : ℕ → List ℕ → List ℕ
-flagged n marks = tabulate n (λ x. cond (elem x marks) 1 0)
+-- 1 at the marks, and the bytes of a table elsewhere
+abbrev pub flagged : ℕ → List ℕ → List ℕ → List ℕ
+flagged n marks table = tabulate n (λ x. cond (elem x marks) 1 (getD table x 0))
 
--- 1 where both tables have 1
-abbrev pub common : ℕ → List ℕ → List ℕ → List ℕ
-common n kinds over = tabulate n (λ c. cond (eqb (getD kinds c 0) 1 && eqb (getD over c 0) 1) 1 0)
+-- what weighs a number that is not marked: 0 where its byte is 2 (refined, deactivated), 2 any other
+abbrev pub unmarked : ℕ → ℕ
+unmarked byte = cond (eqb byte 2) 0 2
 
--- 1: marked; 2: deactivated and not marked; 0: any other
-abbrev pub weight : ℕ → ℕ → ℕ
-weight label flag = cond (eqb flag 1) 1 (cond (eqb label 2) 2 0)
+abbrev pub unmarkedAt : List ℕ → ℕ → ℕ
+unmarkedAt table x = unmarked (getD table x 0)
 
+-- 1 where it is marked
 abbrev pub weighed : ℕ → List ℕ → List ℕ → List ℕ
-weighed n functions flags = tabulate n (λ f. weight (getD functions f 0) (getD flags f 0))
+weighed n table marks = tabulate n (λ x. cond (elem x marks) 1 (cond (eqb (getD table x 0) 2) 0 2))
+
+-- 1 where both are 1
+abbrev pub common : ℕ → ℕ → ℕ
+common kind over = cond (eqb kind 1 && eqb over 1) 1 0
+
+abbrev pub commonAt : List ℕ → List ℕ → ℕ → ℕ
+commonAt kinds over x = common (getD kinds x 0) (getD over x 0)

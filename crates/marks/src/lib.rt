@@ -1,12 +1,9 @@
 // Marks of a call: refusals 7, 8 and 9, and tables made of marks and of bytes, number by number.
 // Document 01, "The calls" and "The refusal table".
 ghost use mathlib.Core.Path.{_≡_};
-ghost use mathlib.Core.Bool.{_&&_, cond};
-ghost use Prim.Native.Nat.{ℕ, _<_};
-ghost use lib.Dec.{T, eqb};
-ghost use lib.ListN.{length, getD};
-ghost use Rattle.facts.specs.Numbers.{elem, first};
-ghost use Rattle.marks.specs.Marks.{verdict, Markable, flagged, common, weight, weighed};
+ghost use lib.ListN.{length};
+ghost use Rattle.facts.specs.Numbers.{first, tabulate};
+ghost use Rattle.marks.specs.Marks.{verdict, Inside, flagged, unmarked as weight·unmarked, unmarkedAt, weighed, common, commonAt};
 
 // Why a mark is refused, or 0.
 fn verdict_of(kinds: &[u8], deep: u32, mark: u32) -> u32
@@ -40,21 +37,49 @@ pub fn judge(kinds: &[u8], deep: u32, marks: &[u32]) -> u32
     0
 }
 
-// The marked numbers get byte 1; repeats mean one mark.
-pub fn flag(flags: &mut [u8], marks: &[u32])
-    requires { ⌜ Markable (now flags) (now marks) ⌝ }
-    ensures { λ _. ⌜ now (flags .exit) ≡ flagged (length (now (flags .entry))) (now (marks .entry)) ⌝ }
+// The marked numbers get byte 1, repeats mean one mark; the others keep theirs.
+fn flag(marks: &[u32], out: &mut [u8])
+    requires { ⌜ Inside (length (now out)) (now marks) ⌝ }
+    ensures { λ _. ⌜ now (out .exit) ≡ flagged (length (now (out .entry))) (now (marks .entry)) (now (out .entry)) ⌝ }
 {
     let mut k = 0;
     while k < marks.len() {
         let at = marks[k] as usize;
-        flags[at] = 1;
+        out[at] = 1;
         k += 1;
     }
 }
 
+fn unmarked_of(byte: u8) -> u8
+    ensures { λ r. ⌜ r ≡ weight·unmarked byte ⌝ }
+{
+    if byte == 2 { 0 } else { 2 }
+}
+
+// 0 for the byte 2 of a table, and 2 for any other.
+fn unmarked(table: &[u8], out: &mut [u8])
+    requires { ⌜ length (now table) ≡ length (now out) ⌝ }
+    ensures { λ _. ⌜ now (out .exit) ≡ tabulate (length (now (out .entry))) (unmarkedAt (now (table .entry))) ⌝ }
+{
+    let mut i = 0;
+    while i < out.len() {
+        out[i] = unmarked_of(table[i]);
+        i += 1;
+    }
+}
+
+// For each number of a table: 1 marked, 0 refined (deactivated) and not marked, 2 any other.
+pub fn weigh(table: &[u8], marks: &[u32], out: &mut [u8])
+    requires { ⌜ length (now table) ≡ length (now out) ⌝ }
+    requires { ⌜ Inside (length (now out)) (now marks) ⌝ }
+    ensures { λ _. ⌜ now (out .exit) ≡ weighed (length (now (out .entry))) (now (table .entry)) (now (marks .entry)) ⌝ }
+{
+    unmarked(table, out);
+    flag(marks, out);
+}
+
 fn common_of(kind: u8, over: u8) -> u8
-    ensures { λ r. ⌜ r ≡ cond (eqb kind 1 && eqb over 1) 1 0 ⌝ }
+    ensures { λ r. ⌜ r ≡ common kind over ⌝ }
 {
     if kind == 1 {
         if over == 1 {
@@ -64,40 +89,14 @@ fn common_of(kind: u8, over: u8) -> u8
     0
 }
 
-// The numbers that have byte 1 in both tables.
-pub fn both(kinds: &[u8], over: &[u8], out: &mut [u8])
-    requires { ⌜ length (now kinds) ≡ length (now out) ⌝ }
-    requires { ⌜ length (now over) ≡ length (now out) ⌝ }
-    ensures { λ _. ⌜ now (out .exit) ≡ common (length (now (out .entry))) (now (kinds .entry)) (now (over .entry)) ⌝ }
+// Of the numbers that have byte 1, those keep it that have byte 1 in the other table too.
+pub fn keep(over: &[u8], kinds: &mut [u8])
+    requires { ⌜ length (now over) ≡ length (now kinds) ⌝ }
+    ensures { λ _. ⌜ now (kinds .exit) ≡ tabulate (length (now (kinds .entry))) (commonAt (now (kinds .entry)) (now (over .entry))) ⌝ }
 {
     let mut i = 0;
-    while i < out.len() {
-        out[i] = common_of(kinds[i], over[i]);
-        i += 1;
-    }
-}
-
-fn weight_of(label: u8, flag: u8) -> u8
-    ensures { λ r. ⌜ r ≡ weight label flag ⌝ }
-{
-    if flag == 1 {
-        return 1;
-    }
-    if label == 2 {
-        return 2;
-    }
-    0
-}
-
-// For each function: 1 marked, 2 deactivated and not marked, 0 any other.
-pub fn weigh(functions: &[u8], flags: &[u8], out: &mut [u8])
-    requires { ⌜ length (now functions) ≡ length (now out) ⌝ }
-    requires { ⌜ length (now flags) ≡ length (now out) ⌝ }
-    ensures { λ _. ⌜ now (out .exit) ≡ weighed (length (now (out .entry))) (now (functions .entry)) (now (flags .entry)) ⌝ }
-{
-    let mut i = 0;
-    while i < out.len() {
-        out[i] = weight_of(functions[i], flags[i]);
+    while i < kinds.len() {
+        kinds[i] = common_of(kinds[i], over[i]);
         i += 1;
     }
 }

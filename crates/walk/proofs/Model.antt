@@ -10,8 +10,8 @@ use Rattle.grid.specs.declared.Place.{Place}
 use Rattle.grid.specs.declared.Rectangle.{Rectangle}
 use Rattle.grid.specs.Plan.{cellPlace, cellNumber, CellInside}
 use Rattle.grid.specs.Range.{InRange, HasNeighbourhood}
-use Rattle.grid.specs.Spans.{aroundSpan, around, ancestorOf, neighbourhood}
-use Rattle.grid.proofs.Spans.{ancestor-in}
+use Rattle.grid.specs.Spans.{neighbourhood}
+use Rattle.grid.proofs.Rectangles.{neighbourhood-in, neighbourhood-level}
 use Rattle.walk.specs.declared.Pass.{Pass}
 use Rattle.walk.specs.declared.Pass.the-variants.{Refine, Activate, Close}
 use Rattle.walk.specs.Walk.{sweep, at, over, writeCell, walkNear, refineCell, flagged, visit}
@@ -57,17 +57,15 @@ pub record Lower (p : Plan) (x : Place) (r : Rectangle) : Type 0 where
   pub inside : (y c : ℕ) → y < r .rows .end → c < r .columns .end → CellInside p (at (r .level) y c)
 
 lower-near : (p : Plan) (x : Place) → InRange p → CellInside p x → HasNeighbourhood p (x .level) → Lower p x (neighbourhood p x)
-unfolding neighbourhood around aroundSpan
 lower-near p x range i has =
-    let j = ancestor-in p x has i in
-    let l : ancestorOf p x .level < x .level = unfold ancestorOf in omega (arith, range .class≢, has .class≢, has .level≥) in
-    let ry = j .row< in
-    let cy = j .column< in
+    let r = neighbourhood-in p range x has i in
+    let rows = r .rows in
+    let columns = r .columns in
     record {
-      level< = l;
-      rows≤ = omega arith;
-      columns≤ = omega arith;
-      inside = λ y c a b. record { level< = j .level<; row< = omega arith; column< = omega arith };
+      level< = omega (arith, neighbourhood-level p range x has, range .class≢, has .class≢, has .level≥);
+      rows≤ = omega (arith, rows .some);
+      columns≤ = omega (arith, columns .some);
+      inside = λ y c a b. record { level< = r .level<; row< = omega (arith, rows .within); column< = omega (arith, columns .within) };
     }
 
 pub lower : {p : Plan} {x : Place} {r : Rectangle} → r ≡ neighbourhood p x → InRange p → CellInside p x → HasNeighbourhood p (x .level) → Lower p x r

@@ -12,10 +12,11 @@ use Rattle.grid.specs.declared.Plan.{Plan}
 use Rattle.grid.specs.declared.Place.{Place}
 use Rattle.grid.specs.declared.Rectangle.{Rectangle}
 use Rattle.grid.specs.Plan.{cellTotal, cellLevel, cellPlace, cellNumber, CellInside, parent, near, hierarchy}
-use Rattle.grid.specs.Spans.{aroundSpan, around, neighbourhood}
+use Rattle.grid.specs.Spans.{inRectangle, neighbourhood}
 use Rattle.grid.specs.Range.{InRange, HasNeighbourhood}
-use Rattle.grid.proofs.Laws.{parent-lt, near-in, near-level, cell-inside, cell-number-lt, cell-number-place, cell-place-number}
-use Rattle.grid.proofs.Spans.{InSpan, InRectangle, rectangle-fact, rectangle-test, ancestor-in, near-neighbourhood, near-is}
+use Rattle.grid.proofs.Laws.{parent-lt, near-in, near-level, cell-inside, cell-number-place}
+use Rattle.grid.proofs.Spans.{InSpan, InRectangle, near-neighbourhood, near-is}
+use Rattle.grid.proofs.Rectangles.{RectangleIn, rectangle-lt, rectangle-place, rectangle-has, cell-in-rectangle, rectangle-number, neighbourhood-in}
 use Rattle.mesh.specs.Mesh.{tableOf}
 use Rattle.walk.specs.Walk.{at, writeCell, over, walkNear, refineCell}
 use Rattle.walk.proofs.Writing.{refined-is, rewritten}
@@ -27,34 +28,30 @@ module _ (p : Plan) (range : InRange p) (q : ℕ) (i : q < cellTotal p) (has : H
   abbrev r : Rectangle
   r = neighbourhood p (cellPlace p q)
 
+  inside : RectangleIn p r
+  inside = neighbourhood-in p range (cellPlace p q) has (cell-inside p range q i)
+
   -- each cell of the rectangle is a neighbour
   module _ (y x : ℕ) (rows : InSpan (r .rows) y) (columns : InSpan (r .columns) x) where
-    in-grid : CellInside p (at (r .level) y x)
-    unfolding neighbourhood around aroundSpan
-    in-grid =
-        let j = ancestor-in p (cellPlace p q) has (cell-inside p range q i) in
-        let n = rows .to in
-        let e = columns .to in
-        record { level< = j .level<; row< = omega arith; column< = omega arith }
+    number-lt : cellNumber p (at (r .level) y x) < cellTotal p
+    number-lt = rectangle-lt p range r inside y x rows columns
 
-    rectangle-lt : cellNumber p (at (r .level) y x) < cellTotal p
-    rectangle-lt = cell-number-lt p range _ in-grid
+    number-place : cellPlace p (cellNumber p (at (r .level) y x)) ≡ at (r .level) y x
+    number-place = rectangle-place p range r inside y x rows columns
 
-    rectangle-place : cellPlace p (cellNumber p (at (r .level) y x)) ≡ at (r .level) y x
-    rectangle-place = cell-place-number p range _ in-grid
-
-    rectangle-near : T (near p q (cellNumber p (at (r .level) y x)))
-    rectangle-near = rw (near-is p range q _ rectangle-lt has, rectangle-place)
-        (rectangle-test r (at (r .level) y x) (record { level = refl; columns = columns; rows = rows }))
+    number-near : T (near p q (cellNumber p (at (r .level) y x)))
+    number-near = rw (near-is p range q _ i number-lt has) (rectangle-has p range r inside y x rows columns)
 
   -- each neighbour is a cell of the rectangle
-  near-in-r : (d : ℕ) → T (near p q d) → InRectangle r (cellPlace p d)
-  near-in-r d t = rectangle-fact r (cellPlace p d) (subst T (near-is p range q d (near-in p range q d t) has) t)
+  module _ (d : ℕ) (t : T (near p q d)) where
+    near-has : T (inRectangle r (cellPlace p d))
+    near-has = subst T (near-is p range q d i (near-in p range q d t) has) t
 
-  near-place : (d : ℕ) → T (near p q d) → d ≡ cellNumber p (at (r .level) (cellPlace p d .row) (cellPlace p d .column))
-  near-place d t =
-      let e : cellPlace p d .level ≡ r .level = sym (near-in-r d t .level) in
-      sym (cell-number-place p range d (near-in p range q d t)) ∙ (λ j. cellNumber p (at (e j) (cellPlace p d .row) (cellPlace p d .column)))
+    near-in-r : InRectangle r (cellPlace p d)
+    near-in-r = cell-in-rectangle p range r inside d (near-in p range q d t) near-has
+
+    near-place : d ≡ cellNumber p (at (r .level) (cellPlace p d .row) (cellPlace p d .column))
+    near-place = rectangle-number p range r inside d (near-in p range q d t) near-has
 
 -- ---- walking a neighbourhood
 
@@ -73,8 +70,8 @@ module _ (p : Plan) (range : InRange p) (A K : Cells) (l : ℕ) (f : Place → L
       (walks-sweep p A K l _ (λ y. Swept p A K (D y) _ _) _ _ (λ y ys yn. walks-sweep p A K l _ (D y) _ _ (λ x xw xe.
       let rows : InSpan (r .rows) y = omega arith in
       let columns : InSpan (r .columns) x = omega arith in
-      subst (λ (z : Place). Walks p A K l (f z) (D y x)) (rectangle-place p range q i has y x rows columns)
-      (each _ (rectangle-lt p range q i has y x rows columns) (rectangle-near p range q i has y x rows columns)))))
+      subst (λ (z : Place). Walks p A K l (f z) (D y x)) (number-place p range q i has y x rows columns)
+      (each _ (number-lt p range q i has y x rows columns) (number-near p range q i has y x rows columns)))))
 
   pub near-walks : Walks p A K l (walkNear f p (cellPlace p q)) (λ d. T (near p q d))
   unfolding walkNear

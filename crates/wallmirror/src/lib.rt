@@ -1,11 +1,13 @@
 // The library's interface: the calls, exported with C's calling convention. include/wallmirror.h declares them.
+use calls::By;
+use calls::Direction;
 use grid::Plan;
 use mesh::Count;
 use refine::Answer;
 ghost use mathlib.Core.Path.{_≡_};
 ghost use Rattle.mesh.specs.Mesh.{openMesh, check, count};
 ghost use Rattle.refine.specs.Calls.{refineCells, refineFunctions, coarsenCells, coarsenFunctions};
-ghost use Rattle.changes.specs.Changes.{made};
+ghost use Rattle.changes.specs.Changes.{Meets};
 
 #[no_mangle]
 pub extern "C" fn wallmirror_open(plan: Plan, cells: &mut [u8], functions: &mut [u8]) -> u32
@@ -39,9 +41,18 @@ pub extern "C" fn wallmirror_refine_cells(
     cell_list: &mut [u32],
     function_list: &mut [u32],
 ) -> Answer
-    ensures { λ r. ⌜ made r (now (cells .exit)) (now (functions .exit)) (now («cell_list» .exit)) (now («function_list» .exit)) ≡ refineCells plan (now (cells .entry)) (now (functions .entry)) (now (marks .entry)) (now («cell_list» .entry)) (now («function_list» .entry)) ⌝ }
+    ensures { λ r. ⌜ Meets (refineCells plan) r cells functions marks «cell_list» «function_list» ⌝ }
 {
-    calls::refine_cells(plan, cells, functions, marks, cell_list, function_list)
+    calls::change(
+        Direction::Refine,
+        By::Cells,
+        plan,
+        cells,
+        functions,
+        marks,
+        cell_list,
+        function_list,
+    )
 }
 
 #[no_mangle]
@@ -53,9 +64,18 @@ pub extern "C" fn wallmirror_refine_functions(
     cell_list: &mut [u32],
     function_list: &mut [u32],
 ) -> Answer
-    ensures { λ r. ⌜ made r (now (cells .exit)) (now (functions .exit)) (now («cell_list» .exit)) (now («function_list» .exit)) ≡ refineFunctions plan (now (cells .entry)) (now (functions .entry)) (now (marks .entry)) (now («cell_list» .entry)) (now («function_list» .entry)) ⌝ }
+    ensures { λ r. ⌜ Meets (refineFunctions plan) r cells functions marks «cell_list» «function_list» ⌝ }
 {
-    calls::refine_functions(plan, cells, functions, marks, cell_list, function_list)
+    calls::change(
+        Direction::Refine,
+        By::Functions,
+        plan,
+        cells,
+        functions,
+        marks,
+        cell_list,
+        function_list,
+    )
 }
 
 #[no_mangle]
@@ -67,9 +87,18 @@ pub extern "C" fn wallmirror_coarsen_cells(
     cell_list: &mut [u32],
     function_list: &mut [u32],
 ) -> Answer
-    ensures { λ r. ⌜ made r (now (cells .exit)) (now (functions .exit)) (now («cell_list» .exit)) (now («function_list» .exit)) ≡ coarsenCells plan (now (cells .entry)) (now (functions .entry)) (now (marks .entry)) (now («cell_list» .entry)) (now («function_list» .entry)) ⌝ }
+    ensures { λ r. ⌜ Meets (coarsenCells plan) r cells functions marks «cell_list» «function_list» ⌝ }
 {
-    calls::coarsen_cells(plan, cells, functions, marks, cell_list, function_list)
+    calls::change(
+        Direction::Coarsen,
+        By::Cells,
+        plan,
+        cells,
+        functions,
+        marks,
+        cell_list,
+        function_list,
+    )
 }
 
 #[no_mangle]
@@ -81,7 +110,16 @@ pub extern "C" fn wallmirror_coarsen_functions(
     cell_list: &mut [u32],
     function_list: &mut [u32],
 ) -> Answer
-    ensures { λ r. ⌜ made r (now (cells .exit)) (now (functions .exit)) (now («cell_list» .exit)) (now («function_list» .exit)) ≡ coarsenFunctions plan (now (cells .entry)) (now (functions .entry)) (now (marks .entry)) (now («cell_list» .entry)) (now («function_list» .entry)) ⌝ }
+    ensures { λ r. ⌜ Meets (coarsenFunctions plan) r cells functions marks «cell_list» «function_list» ⌝ }
 {
-    calls::coarsen_functions(plan, cells, functions, marks, cell_list, function_list)
+    calls::change(
+        Direction::Coarsen,
+        By::Functions,
+        plan,
+        cells,
+        functions,
+        marks,
+        cell_list,
+        function_list,
+    )
 }

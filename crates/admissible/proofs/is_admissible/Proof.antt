@@ -1,56 +1,42 @@
--- `admissible::is_admissible` meets its contract. The invariant: the levels so far pass. Assumes nothing.
-use mathlib.Core.Bool.{true}
-use mathlib.Core.Path.{_≡_, refl, sym, _∙_}
-use Prim.Native.Nat.{_-_, _≤_}
-use native.Mathlib.Omega.{arith}
 use borrow.Author.Needs.{needs}
-use Rattle.facts.specs.Ranges.{everyFrom}
-use Rattle.grid.specs.Plan.{columnsAt, rowsAt, cellOffset}
-use Rattle.mesh.specs.Mesh.{isAdmissible}
-use Rattle.admissible.specs.Near.{cellAdmissible}
-use Rattle.cells.proofs.Levels.{levels-none, levels-more, levels-stop, levels-all}
+use Rattle.windows.proofs.Rooms.{near-room, zeros-room}
 use Rattle.admissible.proofs.is_admissible.Statement.{statement}
 use Rattle.admissible.proofs.is_admissible.Tie as tie
+use Rattle.admissible.proofs.is_admissible.Reads as reads
+use Rattle.admissible.proofs.is_admissible.Lts as lts
+use Rattle.admissible.proofs.levels_admissible.Reads as levels-admissible-reads
 
-abbrev Inv-loop : tie.InvT-loop
-Inv-loop plan cells levels level₀ level = (levels ≡ plan .levels) × (level ≤ levels) × (everyFrom 0 (cellOffset plan level) (cellAdmissible plan cells) ≡ true)
+-- src/lib.rt:151:36
+array-borrow-prefix-near : tie.Need-array-borrow-prefix-near
+array-borrow-prefix-near c = search needs
 
-abbrev μ-loop : tie.MeasureT-loop
-μ-loop plan cells levels level₀ level = levels - level
+-- src/lib.rt:151:36
+slice-aggregate-levels-admissible : tie.Need-slice-aggregate-levels-admissible
+slice-aggregate-levels-admissible c = search needs
 
-loop-holds : tie.Need-loop-holds Inv-loop μ-loop
-loop-holds c = let a = c .before in (refl, omega arith, levels-none (columnsAt (a .args .plan)) (rowsAt (a .args .plan)) (cellAdmissible (a .args .plan) (a .args .cells .now)))
+-- src/lib.rt:151:55
+array-borrow-prefix-scratch : tie.Need-array-borrow-prefix-scratch
+array-borrow-prefix-scratch c = search needs
 
-level-admissible-requires : tie.Need-level-admissible-requires Inv-loop μ-loop
-level-admissible-requires c κs = search needs
+-- src/lib.rt:151:55
+slice-aggregate-levels-admissible-2 : tie.Need-slice-aggregate-levels-admissible-2
+slice-aggregate-levels-admissible-2 c = search needs
 
-add-level : tie.Need-add-level Inv-loop μ-loop
-add-level c = search needs
+-- src/lib.rt:151:5
+levels-admissible-requires : tie.Need-levels-admissible-requires
+levels-admissible-requires c κs = let s = c .before .before .before in let r = zeros-room (s .args .plan) (near-room (s .args .plan) (s .pre .0 .sized .range) (s .pre .1)) in (s .pre .0, (r, r))
 
-loop-less : tie.Need-loop-less Inv-loop μ-loop
-loop-less c = search needs
-
-loop-again : tie.Need-loop-again Inv-loop μ-loop
-loop-again c = let a = c .before .before .before .before .before in (refl, omega arith, levels-more (columnsAt (a .args .plan)) (rowsAt (a .args .plan)) (cellAdmissible (a .args .plan) (a .args .cells .now)) _ (c .before .before .before .loop .inv .2) (sym (c .before .level-admissible .ensures) ∙ c .if1 .taken))
-
-returns : tie.Need-returns Inv-loop μ-loop
-unfolding isAdmissible cellAdmissible
-returns c = let a = c .before .before .before .before .before in sym (levels-stop (columnsAt (a .args .plan)) (rowsAt (a .args .plan)) (cellAdmissible (a .args .plan) (a .args .cells .now)) (c .before .before .before .loop .level) (a .args .plan .levels) (omega arith) (sym (c .before .level-admissible .ensures) ∙ c .if1 .left))
-
-returns-2 : tie.Need-returns-2 Inv-loop μ-loop
-unfolding isAdmissible cellAdmissible
-returns-2 c = let a = c .before .before .before in sym (levels-all (columnsAt (a .args .plan)) (rowsAt (a .args .plan)) (cellAdmissible (a .args .plan) (a .args .cells .now)) (c .before .loop .level) (a .args .plan .levels) (omega arith) (c .before .loop .inv .2))
+-- src/lib.rt:144:1
+returns : tie.Need-returns
+returns c = search needs
 
 pub is-admissible-spec : {M : Type 1} → statement M
 is-admissible-spec =
     tie.close
     (tie.spec
-    Inv-loop
-    μ-loop
-    loop-holds
-    level-admissible-requires
-    add-level
-    loop-less
-    loop-again
-    returns
-    returns-2)
+    array-borrow-prefix-near
+    slice-aggregate-levels-admissible
+    array-borrow-prefix-scratch
+    slice-aggregate-levels-admissible-2
+    levels-admissible-requires
+    returns)

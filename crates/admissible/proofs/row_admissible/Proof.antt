@@ -15,10 +15,10 @@ use Rattle.admissible.proofs.row_admissible.Statement.{statement}
 use Rattle.admissible.proofs.row_admissible.Tie as tie
 
 abbrev Inv-loop : tie.InvT-loop
-Inv-loop plan cells offset width level row at columns n₀ column₀ n column = (column ≤ columns) × (n ≡ at + column) × (everyFrom at column (cellAdmissible plan cells) ≡ true)
+Inv-loop plan cells near width level row at columns n₀ column₀ n column = (column ≤ columns) × (n ≡ at + column) × (everyFrom at column (cellAdmissible plan cells) ≡ true)
 
 abbrev μ-loop : tie.MeasureT-loop
-μ-loop plan cells offset width level row at columns n₀ column₀ n column = columns - column
+μ-loop plan cells near width level row at columns n₀ column₀ n column = columns - column
 
 columns-at-requires : tie.Need-columns-at-requires Inv-loop μ-loop
 columns-at-requires c κs = search needs
@@ -29,15 +29,15 @@ loop-holds c = (search needs, omega arith, from-none _ _)
 cell-admissible-requires : tie.Need-cell-admissible-requires Inv-loop μ-loop
 unfolding number
 cell-admissible-requires c κs =
-    let a = c .before .before .before .before in
+    let a = c .before .before .before .before .before in
     let e = c .before .before .columns-at .ensures in
     let q = a .pre .1 .1 .1 in
     (a .pre .0, (a .pre .1 .0, (record { level< = a .pre .1 .1 .0 .0; row< = a .pre .1 .1 .0 .1; column< = omega arith }, (omega (arith, q .0), q .1, q .2))))
 
 add-n : tie.Need-add-n Inv-loop μ-loop
 add-n c =
-    let a = c .before .before .before .before .before .before in let p = a .args .plan in
-    omega (arith, a .pre .0 .size, a .pre .1 .1 .1 .0, c .before .before .before .before .columns-at .ensures, row-within (columnsAt p) (rowsAt p) (a .args .level) (p .levels) (a .args .row) (a .pre .1 .1 .0 .0) (a .pre .1 .1 .0 .1))
+    let a = c .before .before .before .before .before .before .before in let p = a .args .plan in
+    omega (arith, a .pre .0 .sized .size, a .pre .1 .1 .1 .0, c .before .before .before .before .columns-at .ensures, row-within (columnsAt p) (rowsAt p) (a .args .level) (p .levels) (a .args .row) (a .pre .1 .1 .0 .0) (a .pre .1 .1 .0 .1))
 
 add-column : tie.Need-add-column Inv-loop μ-loop
 add-column c = search needs
@@ -58,7 +58,7 @@ returns c =
 returns-2 : tie.Need-returns-2 Inv-loop μ-loop
 returns-2 c =
     let e = c .before .before .columns-at .ensures in
-    let f : c .before .loop .column ≡ columnsAt (c .before .before .before .before .args .plan) (c .before .before .before .before .args .level) = omega arith in
+    let f : c .before .loop .column ≡ columnsAt (c .before .before .before .before .before .args .plan) (c .before .before .before .before .before .args .level) = omega arith in
     sym (rw f at (c .before .loop .inv .2))
 
 pub row-admissible-spec : {M : Type 1} → statement M

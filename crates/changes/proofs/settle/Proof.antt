@@ -1,5 +1,11 @@
 -- `settle` meets its contract: the counts decide which outcome it is, and each callee's promise is a part of it. Assumes nothing.
+use mathlib.Core.Path.{sym, ap, _∙_}
 use native.Mathlib.Omega.{arith}
+use mathlib.Core.List.{List}
+use Prim.Native.Nat.{ℕ}
+use lib.ListN.{length}
+use Rattle.mesh.specs.Mesh.{labels}
+use Rattle.refine.specs.Calls.{changed, written}
 use Rattle.changes.proofs.Changes.{Counted, counts-small, refuses-10, refuses-11, accepts}
 use borrow.Author.Needs.{needs}
 use Rattle.changes.proofs.settle.Statement.{statement}
@@ -15,7 +21,7 @@ count-changed-requires-2 c κs = search needs
 counted : (c : tie.After-count-changed2) → let a = c .before .before .before .before .before .before .before .before .before .before .args in
     Counted (a .plan) (a .cells .now) (a .functions .now) (a .cell-list .now) (a .function-list .now) (a .new-cells .now) (a .new-functions .now) (c .before .before .count-changed .result) (c .count-changed2 .result)
 counted c = record {
-  sizes = c .before .before .before .before .before .before .before .before .before .before .pre;
+  sizes = c .before .before .before .before .before .before .before .before .before .before .pre .1;
   cells-counted = c .before .before .count-changed .ensures;
   functions-counted = c .count-changed2 .ensures;
 }
@@ -44,23 +50,18 @@ same-length-4 c = search needs
 returns-2 : tie.Need-returns-2
 returns-2 c = refuses-11 (counted (c .before .before .before)) (c .refuse2 .ensures) (c .before .before .if1 .left) (c .before .if2 .taken)
 
-list-changed-requires : tie.Need-list-changed-requires
-list-changed-requires c κs = search needs
+take-over-requires : tie.Need-take-over-requires
+take-over-requires c κs = search needs
 
-list-changed-requires-2 : tie.Need-list-changed-requires-2
-list-changed-requires-2 c κs = search needs
+-- the new bytes are the labels of the cells as they are settled
+relabel-requires : tie.Need-relabel-requires
+relabel-requires c κs = (c .before .before .before .before .before .before .before .before .before .before .before .before .before .before .before .before .before .before .before .before .before .before .pre .0 ∙ ap (labels (c .before .before .before .before .before .before .before .before .before .before .before .before .before .before .before .before .before .before .before .before .before .before .args .plan)) (sym (c .before .before .before .before .before .before .before .take-over .ensures .bytes)), search needs)
 
-copy-bytes-requires : tie.Need-copy-bytes-requires
-copy-bytes-requires c κs = search needs
+cast-t27 : tie.Need-cast-t27
+cast-t27 c = omega (arith, counts-small (counted (c .before .before .before .before .before .before .before .before .before .before .before .before .before .before .before .before .before)))
 
-copy-bytes-requires-2 : tie.Need-copy-bytes-requires-2
-copy-bytes-requires-2 c κs = search needs
-
-cast-t29 : tie.Need-cast-t29
-cast-t29 c = omega (arith, counts-small (counted (c .before .before .before .before .before .before .before .before .before .before .before .before .before .before .before .before .before .before .before .before)))
-
-cast-t30 : tie.Need-cast-t30
-cast-t30 c = omega (arith, counts-small (counted (c .before .before .before .before .before .before .before .before .before .before .before .before .before .before .before .before .before .before .before .before)))
+cast-t28 : tie.Need-cast-t28
+cast-t28 c = omega (arith, counts-small (counted (c .before .before .before .before .before .before .before .before .before .before .before .before .before .before .before .before .before)))
 
 same-length-5 : tie.Need-same-length-5
 same-length-5 c = search needs
@@ -76,11 +77,14 @@ same-length-8 c = search needs
 
 returns-3 : tie.Need-returns-3
 returns-3 c =
-    accepts (counted (c .before .before .before .before .before .before .before .before .before .before .before .before .before .before .before .before .before .before .before .before)) (c .before .before .before .before .before .before .before .before .before .before .before .before .before .before .before .before .before .before .before .if1 .left) (c .before .before .before .before .before .before .before .before .before .before .before .before .before .before .before .before .before .before .if2 .left)
-    (c .before .before .before .before .before .before .before .before .before .before .before .before .before .before .before .list-changed .ensures)
-    (c .before .before .before .before .before .before .before .before .before .before .list-changed2 .ensures)
-    (c .before .before .before .before .before .before .copy-bytes .ensures)
-    (c .before .before .copy-bytes2 .ensures)
+    let s = c .before .before .before .before .before .before .before .before .before .before .before .before .before .before .before .before .before .before .before .before .before .before .before .before .before .before .before in
+    let fs = s .args .functions .now in
+    let k = counted (c .before .before .before .before .before .before .before .before .before .before .before .before .before .before .before .before .before) in
+    let t = c .before .before .before .before .before .before .before .before .before .before .before .before .take-over .ensures in
+    let u = c .before .before .before .before .relabel .ensures in
+    -- the labels of the settled cells are the new bytes
+    let e = ap (labels (s .args .plan)) (t .bytes) ∙ sym (s .pre .0) in
+    accepts k (c .before .before .before .before .before .before .before .before .before .before .before .before .before .before .before .before .if1 .left) (c .before .before .before .before .before .before .before .before .before .before .before .before .before .before .before .if2 .left) (t .listed) (u .listed ∙ ap (λ (n : List ℕ). written (changed (length fs) fs n) (s .args .function-list .now)) e) (t .bytes) (u .bytes ∙ e)
 
 pub settle-spec : {M : Type 1} → statement M
 settle-spec =
@@ -96,12 +100,10 @@ settle-spec =
     same-length-3
     same-length-4
     returns-2
-    list-changed-requires
-    list-changed-requires-2
-    copy-bytes-requires
-    copy-bytes-requires-2
-    cast-t29
-    cast-t30
+    take-over-requires
+    relabel-requires
+    cast-t27
+    cast-t28
     same-length-5
     same-length-6
     same-length-7

@@ -1,16 +1,27 @@
+-- `cover::coarsenable_on` meets its contract: the windows of the level are the supports. Assumes nothing.
+use mathlib.Core.Path.{_≡_, refl}
+use Prim.Native.Nat.{_+_, _*_, _≤_}
 use native.Mathlib.Omega.{arith}
 use borrow.Author.Needs.{needs}
 use lib.ListN.{length}
+use Rattle.facts.proofs.Mapped.{fill-length}
 use Rattle.facts.proofs.Ranges.{mid-len}
-use Rattle.cover.proofs.Passes.{Cells, Functions, cells-fit, functions-fit, level-fits, coarsenable-pass}
+use Rattle.grid.specs.Plan.{functionTotal}
+use Rattle.cover.proofs.Passes.{level-room, functions-fit, coarsenable-pass}
 use Rattle.cover.proofs.coarsenable_on.Statement.{statement}
 use Rattle.cover.proofs.coarsenable_on.Tie as tie
 
-columns-at-requires : tie.Need-columns-at-requires
-columns-at-requires c κs = search needs
+function-columns-at-requires : tie.Need-function-columns-at-requires
+function-columns-at-requires c κs = search needs
 
-rows-at-requires : tie.Need-rows-at-requires
-rows-at-requires c κs = search needs
+cast-columns : tie.Need-cast-columns
+cast-columns c = search needs
+
+function-rows-at-requires : tie.Need-function-rows-at-requires
+function-rows-at-requires c κs = search needs
+
+cast-rows : tie.Need-cast-rows
+cast-rows c = search needs
 
 function-offset-requires : tie.Need-function-offset-requires
 function-offset-requires c κs = search needs
@@ -18,94 +29,87 @@ function-offset-requires c κs = search needs
 cast-at : tie.Need-cast-at
 cast-at c = search needs
 
-cell-offset-requires : tie.Need-cell-offset-requires
-cell-offset-requires c κs = search needs
+cast-across : tie.Need-cast-across
+cast-across c = search needs
 
-cast-here : tie.Need-cast-here
-cast-here c = search needs
+cast-up : tie.Need-cast-up
+cast-up c = search needs
 
--- the level's functions and cells lie in the tables
-functions : (c : tie.After-cell-offset) → let s = c .before .before .before .before .before .before .before in
-    Functions (c .before .before .before .columns-at .result) (c .before .before .rows-at .result) (s .args .plan .across) (s .args .plan .up) (c .before .function-offset .result) (length (s .args .functions .now))
-functions c =
-    let s = c .before .before .before .before .before .before .before in
-    functions-fit (s .args .plan) (s .pre .0) (s .args .level) (s .pre .1 .1) (c .before .before .before .columns-at .ensures) (c .before .before .rows-at .ensures) (c .cell-offset .ensures) _ (c .before .function-offset .ensures) (s .pre .1 .0 .0)
+level-requires : tie.Need-level-requires
+level-requires c κs = let s = c .before .before .before .before .before .before .before .before .before .before .before .before in level-room (s .args .plan) (s .pre .0) (s .args .level) (s .pre .1 .1 .1) (s .args .reactivables .now) (s .pre .1 .0 .1) (s .pre .1 .1 .0 .0) (s .pre .1 .1 .0 .1)
 
-out : (c : tie.After-cell-offset) → let s = c .before .before .before .before .before .before .before in
-    Functions (c .before .before .before .columns-at .result) (c .before .before .rows-at .result) (s .args .plan .across) (s .args .plan .up) (c .before .function-offset .result) (length (s .args .out .now))
-out c =
-    let s = c .before .before .before .before .before .before .before in
-    functions-fit (s .args .plan) (s .pre .0) (s .args .level) (s .pre .1 .1) (c .before .before .before .columns-at .ensures) (c .before .before .rows-at .ensures) (c .cell-offset .ensures) _ (c .before .function-offset .ensures) (s .pre .1 .0 .2)
+-- where the level's functions end
+fits : (c : tie.After-function-offset) → c .function-offset .result + c .before .function-rows-at .result * c .before .before .function-columns-at .result ≤ functionTotal (c .before .before .before .before .before .before .before .before .args .plan)
+fits c = let s = c .before .before .before .before .before .before .before .before in functions-fit (s .args .plan) (s .pre .0) (s .args .level) (s .pre .1 .1 .1) (c .before .before .function-columns-at .ensures) (c .before .function-rows-at .ensures) (c .function-offset .ensures)
 
-cells : (c : tie.After-cell-offset) → Cells (c .before .before .before .columns-at .result) (c .before .before .rows-at .result) (c .cell-offset .result) (length (c .before .before .before .before .before .before .before .args .reactivables .now))
-cells c =
-    let s = c .before .before .before .before .before .before .before in
-    cells-fit (s .args .plan) (s .pre .0) (s .args .level) (s .pre .1 .1) (c .before .before .before .columns-at .ensures) (c .before .before .rows-at .ensures) (c .cell-offset .ensures) _ (s .pre .1 .0 .1)
+sub-pick : tie.Need-sub-pick
+sub-pick c = omega (arith, fits (c .before .before .before .before .before .before .before .before .before), c .before .before .before .before .before .before .before .before .before .before .before .before .before .before .before .before .before .pre .1 .0 .0)
 
-sub-coarsenable-level : tie.Need-sub-coarsenable-level
-sub-coarsenable-level c = omega (arith, functions c)
+part-pick-start : tie.Need-part-pick-start
+part-pick-start c = omega (arith, fits (c .before .before .before .before .before .before .before .before .before), c .before .before .before .before .before .before .before .before .before .before .before .before .before .before .before .before .before .pre .1 .0 .0)
 
-part-coarsenable-level-start : tie.Need-part-coarsenable-level-start
-part-coarsenable-level-start c = omega (arith, functions c)
+part-pick-end : tie.Need-part-pick-end
+part-pick-end c = search needs
 
-part-coarsenable-level-end : tie.Need-part-coarsenable-level-end
-part-coarsenable-level-end c = search needs
+sub-pick-2 : tie.Need-sub-pick-2
+sub-pick-2 c = omega (arith, fits (c .before .before .before .before .before .before .before .before .before .before .before), c .before .before .before .before .before .before .before .before .before .before .before .before .before .before .before .before .before .before .before .pre .1 .0 .2)
 
-sub-coarsenable-level-2 : tie.Need-sub-coarsenable-level-2
-sub-coarsenable-level-2 c = omega (arith, cells (c .before))
+part-pick-start-2 : tie.Need-part-pick-start-2
+part-pick-start-2 c = omega (arith, fits (c .before .before .before .before .before .before .before .before .before .before .before), c .before .before .before .before .before .before .before .before .before .before .before .before .before .before .before .before .before .before .before .pre .1 .0 .2)
 
-part-coarsenable-level-start-2 : tie.Need-part-coarsenable-level-start-2
-part-coarsenable-level-start-2 c = omega (arith, cells (c .before))
+part-pick-end-2 : tie.Need-part-pick-end-2
+part-pick-end-2 c = search needs
 
-part-coarsenable-level-end-2 : tie.Need-part-coarsenable-level-end-2
-part-coarsenable-level-end-2 c = search needs
+mul-pick : tie.Need-mul-pick
+mul-pick c = omega (arith, fits (c .before .before .before .before .before .before .before .before .before .before .before .before), c .before .before .before .before .before .before .before .before .before .before .before .before .before .before .before .before .before .before .before .before .pre .1 .0 .0)
 
-sub-coarsenable-level-3 : tie.Need-sub-coarsenable-level-3
-sub-coarsenable-level-3 c = omega (arith, out (c .before .before))
-
-part-coarsenable-level-start-3 : tie.Need-part-coarsenable-level-start-3
-part-coarsenable-level-start-3 c = omega (arith, out (c .before .before))
-
-part-coarsenable-level-end-3 : tie.Need-part-coarsenable-level-end-3
-part-coarsenable-level-end-3 c = search needs
-
-coarsenable-level-requires : tie.Need-coarsenable-level-requires
-coarsenable-level-requires c κs =
-    let s = c .before .before .before .before .before .before .before .before .before .before in
-    let at = c .before .before .before .before .function-offset .result in (
-      level-fits (s .args .plan) (s .pre .0) (s .args .level) (s .pre .1 .1) (c .before .before .before .before .before .before .columns-at .ensures) (c .before .before .before .before .before .rows-at .ensures) (c .before .before .before .cell-offset .ensures) (s .args .reactivables .now) (s .pre .1 .0 .1),
-      omega (arith, functions (c .before .before .before), out (c .before .before .before), mid-len at (s .args .functions .now), mid-len at (s .args .out .now)),
-    )
+pick-requires : tie.Need-pick-requires
+pick-requires c κs =
+    let o = c .before .before .before .before .before .before .before .before .before .before .before .before in
+    let s = o .before .before .before .before .before .before .before .before in
+    let at = o .function-offset .result in
+    let b = fits o in
+    let n = fill-length _ _ _ _ (c .before .before .before .before .before .before .before .level .ensures) in
+    (omega (arith, mid-len at (s .args .functions .now), s .pre .1 .0 .0), omega (arith, n, s .pre .1 .1 .0 .1), omega (arith, mid-len at (s .args .out .now), s .pre .1 .0 .2))
 
 same-length : tie.Need-same-length
 same-length c = search needs
 
+same-length-2 : tie.Need-same-length-2
+same-length-2 c = search needs
+
+same-length-3 : tie.Need-same-length-3
+same-length-3 c = search needs
+
 returns : tie.Need-returns
 returns c =
-    let s = c .before .before .before .before .before .before .before .before .before .before .before .before .before in
-    coarsenable-pass (s .args .plan) (s .pre .0) (s .args .level) (s .pre .1 .1) (c .before .before .before .before .before .before .before .before .before .columns-at .ensures) (c .before .before .before .before .before .before .before .before .rows-at .ensures) (c .before .before .before .before .before .before .cell-offset .ensures)
-    (s .args .functions .now) (s .args .reactivables .now) (s .args .out .now) _ (c .before .before .before .before .before .before .before .function-offset .ensures) (s .pre .1 .0 .1) (s .pre .1 .0 .2)
-    (c .before .before .coarsenable-level .ensures)
+    let o = c .before .before .before .before .before .before .before .before .before .before .before .before .before .before .before in
+    let s = o .before .before .before .before .before .before .before .before in
+    coarsenable-pass (s .args .plan) (s .pre .0) (s .args .level) (s .pre .1 .1 .1) (s .args .functions .now) (s .args .reactivables .now) _ (s .args .least .now) (s .args .out .now) _ (o .function-offset .ensures)
+    (λ i. o .before .function-rows-at .ensures i * o .before .before .function-columns-at .ensures i) (s .pre .1 .0 .1) (s .pre .1 .1 .0 .1) (s .pre .1 .0 .2) (c .before .before .before .before .before .before .before .before .before .before .level .ensures) (c .before .before .pick .ensures)
 
 pub coarsenable-on-spec : {M : Type 1} → statement M
 coarsenable-on-spec =
     tie.close
     (tie.spec
-    columns-at-requires
-    rows-at-requires
+    function-columns-at-requires
+    cast-columns
+    function-rows-at-requires
+    cast-rows
     function-offset-requires
     cast-at
-    cell-offset-requires
-    cast-here
-    sub-coarsenable-level
-    part-coarsenable-level-start
-    part-coarsenable-level-end
-    sub-coarsenable-level-2
-    part-coarsenable-level-start-2
-    part-coarsenable-level-end-2
-    sub-coarsenable-level-3
-    part-coarsenable-level-start-3
-    part-coarsenable-level-end-3
-    coarsenable-level-requires
+    cast-across
+    cast-up
+    level-requires
+    sub-pick
+    part-pick-start
+    part-pick-end
+    sub-pick-2
+    part-pick-start-2
+    part-pick-end-2
+    mul-pick
+    pick-requires
     same-length
+    same-length-2
+    same-length-3
     returns)

@@ -1,59 +1,52 @@
--- `labels::write_labels` meets its contract. The invariant: the levels so far are written. Assumes nothing.
-use mathlib.Core.Path.{_≡_, refl, _∙_}
-use Prim.Native.Nat.{_-_, _≤_}
-use native.Mathlib.Omega.{arith}
 use borrow.Author.Needs.{needs}
-use Rattle.facts.proofs.Numbers.{tabulate-is}
-use Rattle.facts.proofs.Ranges.{written-none, written-more}
-use Rattle.facts.specs.Ranges.{Written}
-use Rattle.grid.specs.Plan.{functionColumnsAt, functionRowsAt, functionOffset, functionTotal}
-use Rattle.mesh.specs.Mesh.{labelOf, labels}
-use Rattle.cells.proofs.Levels.{offset-zero}
+use native.Mathlib.Nat.{le-of-eq}
+use mathlib.Core.Path.{sym}
+use native.Mathlib.Omega.{arith}
+use Rattle.grid.proofs.Totals.{functions-bound}
+use Rattle.labels.proofs.Room.{zeros, part-length}
 use Rattle.labels.proofs.write_labels.Statement.{statement}
 use Rattle.labels.proofs.write_labels.Tie as tie
+use Rattle.labels.proofs.write_labels.Reads as reads
+use Rattle.labels.proofs.write_labels.Lts as lts
+use Rattle.grid.proofs.Plan.function_total.Reads as function-total-reads
+use Rattle.labels.proofs.write_levels.Reads as write-levels-reads
 
-abbrev Inv-loop : tie.InvT-loop
-Inv-loop plan cells out₀ levels level₀ out level = (levels ≡ plan .levels) × (level ≤ levels) × Written out₀ out 0 (functionOffset plan level) (labelOf plan cells)
+-- src/lib.rt:56:17
+function-total-requires : tie.Need-function-total-requires
+function-total-requires c κs = search needs
 
-abbrev μ-loop : tie.MeasureT-loop
-μ-loop plan cells out₀ levels level₀ out level = levels - level
+-- src/lib.rt:56:17
+cast-count : tie.Need-cast-count
+cast-count c = search needs
 
-loop-holds : tie.Need-loop-holds Inv-loop μ-loop
-loop-holds c = (refl, omega arith, rw (offset-zero (functionColumnsAt (c .before .before .args .plan)) (functionRowsAt (c .before .before .args .plan))) (written-none _ _ _))
+-- src/lib.rt:58:36
+array-borrow-prefix-scratch : tie.Need-array-borrow-prefix-scratch
+array-borrow-prefix-scratch c = let s = c .before .before .before .before in omega (arith, functions-bound _ (s .pre .0 .sized .range) (s .pre .1 .1))
 
-write-level-at-requires : tie.Need-write-level-at-requires Inv-loop μ-loop
-write-level-at-requires c κs = let a = c .before .before .before .before .before in let v = c .before .before .loop .inv in (a .pre .0, (v .2 .size ∙ a .pre .1, omega (arith, v .0)))
+-- src/lib.rt:58:36
+slice-aggregate-write-levels : tie.Need-slice-aggregate-write-levels
+slice-aggregate-write-levels c = let s = c .before .before .before .before .before in zeros 26220 (c .before .before .function-total .result) (omega (arith, functions-bound _ (s .pre .0 .sized .range) (s .pre .1 .1)))
 
-add-level : tie.Need-add-level Inv-loop μ-loop
-add-level c = search needs
+-- src/lib.rt:58:5
+write-levels-requires : tie.Need-write-levels-requires
+write-levels-requires c κs = let s = c .before .before .before .before .before in (s .pre .0, (s .pre .1 .0, le-of-eq (sym (part-length 26220 _ (c .before .before .function-total .ensures) (functions-bound _ (s .pre .0 .sized .range) (s .pre .1 .1))))))
 
-loop-less : tie.Need-loop-less Inv-loop μ-loop
-loop-less c = search needs
+-- src/lib.rt:51:1
+same-length : tie.Need-same-length
+same-length c = search needs
 
-loop-again : tie.Need-loop-again Inv-loop μ-loop
-loop-again c = let v = c .before .before .before .before .before .loop .inv in (refl, omega arith, written-more (omega arith) (v .2) (c .before .before .write-level-at .ensures))
-
-same-length : tie.Need-same-length Inv-loop μ-loop
-same-length c = c .before .loop .inv .2 .size
-
-returns : tie.Need-returns Inv-loop μ-loop
-unfolding labels
-returns c =
-    let a = c .before .before .before .before in let v = c .before .loop .inv in
-    let e : c .before .loop .level ≡ a .args .plan .levels = omega (arith, v .0) in
-    let w : Written (a .args .out .now) (c .before .loop .out) 0 (functionTotal (a .args .plan)) (labelOf (a .args .plan) (a .args .cells .now)) = rw e at (v .2) in
-    tabulate-is _ _ _ (w .size ∙ a .pre .1) (λ i l. w .made i (omega arith) l)
+-- src/lib.rt:51:1
+returns : tie.Need-returns
+returns c = search needs
 
 pub write-labels-spec : {M : Type 1} → statement M
 write-labels-spec =
     tie.close
     (tie.spec
-    Inv-loop
-    μ-loop
-    loop-holds
-    write-level-at-requires
-    add-level
-    loop-less
-    loop-again
+    function-total-requires
+    cast-count
+    array-borrow-prefix-scratch
+    slice-aggregate-write-levels
+    write-levels-requires
     same-length
     returns)

@@ -11,13 +11,13 @@ use Rattle.marks.proofs.flag.Statement.{statement}
 use Rattle.marks.proofs.flag.Tie as tie
 
 abbrev Inv-loop : tie.InvT-loop
-Inv-loop flags₀ marks k₀ flags k = (k ≤ length marks) × (length flags ≡ length flags₀) × (flags ≡ flagged (length flags₀) (take k marks))
+Inv-loop marks out₀ k₀ out k = (out ≡ flagged (length out₀) (take k marks) out₀) × (length out ≡ length out₀) × (k ≤ length marks)
 
 abbrev μ-loop : tie.MeasureT-loop
-μ-loop flags₀ marks k₀ flags k = length marks - k
+μ-loop marks out₀ k₀ out k = length marks - k
 
 loop-holds : tie.Need-loop-holds Inv-loop μ-loop
-loop-holds c = (search needs, refl, flagged-none (c .args .flags .now) (c .args .marks .now) (c .pre))
+loop-holds c = (flagged-none (c .args .marks .now) (c .args .out .now), refl, search needs)
 
 mul-at : tie.Need-mul-at Inv-loop μ-loop
 mul-at c = search needs
@@ -28,8 +28,8 @@ shared-slice-read-at c = search needs
 cast-at : tie.Need-cast-at Inv-loop μ-loop
 cast-at c = omega (arith, c .shared-slice-known .given (c .before .before .loop .k))
 
-slice-write-flags : tie.Need-slice-write-flags Inv-loop μ-loop
-slice-write-flags c = omega (arith, mark-inside (c .before .before .before .pre) (c .before .before .loop .k) (omega arith))
+slice-write-out : tie.Need-slice-write-out Inv-loop μ-loop
+slice-write-out c = omega (arith, mark-inside (c .before .before .before .pre) (c .before .before .loop .k) (omega arith))
 
 add-k : tie.Need-add-k Inv-loop μ-loop
 add-k c = search needs
@@ -41,9 +41,9 @@ loop-again : tie.Need-loop-again Inv-loop μ-loop
 loop-again c =
     let a = c .before .before .before .args in
     let at = c .before .before .loop in (
-      omega arith,
+      ap (λ (x : List ℕ). set x (getD (a .marks .now) (at .k) 0) 1) (at .inv .0) ∙ flagged-more (a .marks .now) (a .out .now) (length (a .out .now)) (at .k) (omega arith),
       rw length-set (at .inv .1),
-      ap (λ (x : List ℕ). set x (getD (a .marks .now) (at .k) 0) 1) (at .inv .2) ∙ flagged-more (length (a .flags .now)) (a .marks .now) (at .k) (omega arith),
+      omega arith,
     )
 
 same-length : tie.Need-same-length Inv-loop μ-loop
@@ -53,7 +53,7 @@ returns : tie.Need-returns Inv-loop μ-loop
 returns c =
     let a = c .before .before .args in
     let at = c .before .loop in
-    at .inv .2 ∙ flagged-all (length (a .flags .now)) (a .marks .now) (at .k) (omega arith)
+    at .inv .0 ∙ flagged-all (a .marks .now) (a .out .now) (length (a .out .now)) (at .k) (omega arith)
 
 pub flag-spec : {M : Type 1} → statement M
 flag-spec =
@@ -65,7 +65,7 @@ flag-spec =
     mul-at
     shared-slice-read-at
     cast-at
-    slice-write-flags
+    slice-write-out
     add-k
     loop-less
     loop-again

@@ -1,58 +1,99 @@
--- `run` is safe and ends: a line ends at the place where it starts or behind it. Lengths and sizes are kept. Assumes nothing.
-use Prim.Native.Nat.{_≤_, _-_}
-use mathlib.Core.Path.{_≡_}
-use lib.ListN.{length}
+-- `run` meets its contract: what is left to be printed is what the lines from the place on print, with the state in hand. Assumes nothing.
+use mathlib.Core.Path.{_≡_, refl, _∙_}
+use Prim.Native.Nat.{_-_, _≤_, _<_}
 use native.Mathlib.Omega.{arith}
+use lib.ListN.{length}
+use Rattle.script.specs.Steps.{held, Sized}
+use Rattle.session.specs.Program.{Left}
+use Rattle.session.proofs.Turns.{starts, due, turn, ends}
 use borrow.Author.Needs.{needs}
 use Rattle.session.proofs.run.Statement.{statement}
 use Rattle.session.proofs.run.Tie as tie
 
 abbrev Inv-loop : tie.InvT-loop
-Inv-loop input numbers₀ cells₀ functions₀ cell-list₀ function-list₀ out₀ wall₀ at₀ numbers cells functions cell-list function-list out wall at =
-    (wall .cells ≤ 4096) × (wall .functions ≤ 5784) × (length numbers ≡ length numbers₀) × (length cells ≡ length cells₀)
+Inv-loop input numbers₀ cells₀ functions₀ cell-list₀ function-list₀ out₀ hand₀ at₀ n₀ numbers cells functions cell-list function-list out hand at n =
+    Sized hand × Left input n at (held hand cells functions) × (n ≤ at) × (length numbers ≡ length numbers₀) × (length cells ≡ length cells₀)
     × (length functions ≡ length functions₀) × (length cell-list ≡ length cell-list₀) × (length function-list ≡ length function-list₀) × (length out ≡ length out₀)
 
 abbrev μ-loop : tie.MeasureT-loop
-μ-loop input numbers₀ cells₀ functions₀ cell-list₀ function-list₀ out₀ wall₀ at₀ numbers cells functions cell-list function-list out wall at = length input - at
+μ-loop input numbers₀ cells₀ functions₀ cell-list₀ function-list₀ out₀ hand₀ at₀ n₀ numbers cells functions cell-list function-list out hand at n = length input - at
 
 no-wall-requires : tie.Need-no-wall-requires Inv-loop μ-loop
 no-wall-requires c κs = search needs
 
 loop-holds : tie.Need-loop-holds Inv-loop μ-loop
-loop-holds c = search needs
+loop-holds c = (c .no-wall .ensures .0, starts _ _ _ _ (c .before .before .before .before .before .before .before .before .pre .0) (c .no-wall .ensures .1), omega arith, refl, refl, refl, refl, refl, refl)
 
 line-end-requires : tie.Need-line-end-requires Inv-loop μ-loop
 line-end-requires c κs = search needs
 
-sub-read-line : tie.Need-sub-read-line Inv-loop μ-loop
-sub-read-line c = search needs
+sub-step : tie.Need-sub-step Inv-loop μ-loop
+sub-step c = let s = c .before .before .before .before .before .before .before .before .before .before .before in
+    let l = c .before .before .loop in
+    let e = c .line-end .ensures in
+    let i : l .at < length (s .args .input .now) = c .before .loop-test .taken in
+    omega (arith, i, e .place, e .inside (omega (arith, i)))
 
-part-read-line-start : tie.Need-part-read-line-start Inv-loop μ-loop
-part-read-line-start c = search needs
+part-step-start : tie.Need-part-step-start Inv-loop μ-loop
+part-step-start c = let s = c .before .before .before .before .before .before .before .before .before .before .before in
+    let l = c .before .before .loop in
+    let e = c .line-end .ensures in
+    let i : l .at < length (s .args .input .now) = c .before .loop-test .taken in
+    omega (arith, i, e .place, e .inside (omega (arith, i)))
 
-part-read-line-end : tie.Need-part-read-line-end Inv-loop μ-loop
-part-read-line-end c = search needs
-
-read-line-requires : tie.Need-read-line-requires Inv-loop μ-loop
-read-line-requires c κs = search needs
+part-step-end : tie.Need-part-step-end Inv-loop μ-loop
+part-step-end c = let s = c .before .before .before .before .before .before .before .before .before .before .before in
+    let l = c .before .before .loop in
+    let e = c .line-end .ensures in
+    let i : l .at < length (s .args .input .now) = c .before .loop-test .taken in
+    omega (arith, i, e .place, e .inside (omega (arith, i)))
 
 step-requires : tie.Need-step-requires Inv-loop μ-loop
-step-requires c κs =
-    let at = c .before .before .before .before .before .before .before .before .before .before .before .before .before .loop in
-    let r = c .before .before .before .before .before .before .before .before .read-line in
-    omega (arith, at .inv, r .ensures .inside, r .kept .1 .0, c .before .before .before .before .before .before .before .before .before .before .before .before .before .before .before .before .before .before .before .before .before .before .pre)
+step-requires c κs = let s = c .before .before .before .before .before .before .before .before .before .before .before .before .before .before .before .before .before .before in
+    let i = c .before .before .before .before .before .before .before .before .before .loop .inv in
+    (i .0, (omega (arith, i .3, s .pre .1 .0), ((omega (arith, i .4, s .pre .1 .1 .0), omega (arith, i .5, s .pre .1 .1 .0)), ((omega (arith, i .6, s .pre .1 .1 .1 .0), omega (arith, i .7, s .pre .1 .1 .1 .0)), omega (arith, i .8, s .pre .1 .1 .1 .1)))))
+
+slice-reshare-prefix-say : tie.Need-slice-reshare-prefix-say Inv-loop μ-loop
+slice-reshare-prefix-say c = c .before .before .before .before .before .before .before .before .before .before .before .before .before .step .ensures .said .inside .0
+
+slice-aggregate-say : tie.Need-slice-aggregate-say Inv-loop μ-loop
+slice-aggregate-say c = c .before .before .before .before .before .before .before .before .before .before .before .before .before .before .step .ensures .said .inside .1
+
+say-requires : tie.Need-say-requires Inv-loop μ-loop
+say-requires c κs = let s = c .before .before .before .before .before .before .before .before .before .before .before .before .before .before .before .before .before .before .before .before .before .before .before .before .before .before .before .before .before .before .before .before .before in
+    let l = c .before .before .before .before .before .before .before .before .before .before .before .before .before .before .before .before .before .before .before .before .before .before .before .before .loop in
+    let e = c .before .before .before .before .before .before .before .before .before .before .before .before .before .before .before .before .before .before .before .before .before .before .line-end .ensures in
+    let i : l .at < length (s .args .input .now) = c .before .before .before .before .before .before .before .before .before .before .before .before .before .before .before .before .before .before .before .before .before .before .before .loop-test .taken in
+    due (s .args .input .now) (l .n) (l .at) (c .before .before .before .before .before .before .before .before .before .before .before .before .before .before .before .before .before .before .before .before .before .before .line-end .result) _ (l .inv .1) i e _ _ _ _ (c .before .before .before .before .before .before .before .before .before .before .before .before .before .before .step .ensures)
+
+add-n : tie.Need-add-n Inv-loop μ-loop
+add-n c = let s = c .before .before .before .before .before .before .before .before .before .before .before .before .before .before .before .before .before .before .before .before .before .before .before .before .before .before .before .before .before .before .before .before .before .before in
+    let l = c .before .before .before .before .before .before .before .before .before .before .before .before .before .before .before .before .before .before .before .before .before .before .before .before .before .loop in
+    let e = c .before .before .before .before .before .before .before .before .before .before .before .before .before .before .before .before .before .before .before .before .before .before .before .line-end .ensures in
+    let i : l .at < length (s .args .input .now) = c .before .before .before .before .before .before .before .before .before .before .before .before .before .before .before .before .before .before .before .before .before .before .before .before .loop-test .taken in
+    omega (arith, i, l .inv .2, s .pre .0)
 
 add-at : tie.Need-add-at Inv-loop μ-loop
-add-at c = omega (arith, c .before .before .before .before .before .before .before .before .before .before .before .before .before .before .before .before .before .before .before .before .before .before .line-end .ensures, c .before .before .before .before .before .before .before .before .before .before .before .before .before .before .before .before .before .before .before .before .before .before .before .before .before .before .before .before .before .before .before .before .before .good .0)
+add-at c = let s = c .before .before .before .before .before .before .before .before .before .before .before .before .before .before .before .before .before .before .before .before .before .before .before .before .before .before .before .before .before .before .before .before .before .before in
+    let l = c .before .before .before .before .before .before .before .before .before .before .before .before .before .before .before .before .before .before .before .before .before .before .before .before .before .loop in
+    let e = c .before .before .before .before .before .before .before .before .before .before .before .before .before .before .before .before .before .before .before .before .before .before .before .line-end .ensures in
+    let i : l .at < length (s .args .input .now) = c .before .before .before .before .before .before .before .before .before .before .before .before .before .before .before .before .before .before .before .before .before .before .before .before .loop-test .taken in
+    omega (arith, e .inside (omega (arith, i)), s .pre .0)
 
 loop-less : tie.Need-loop-less Inv-loop μ-loop
-loop-less c = search needs
+loop-less c = let s = c .before .before .before .before .before .before .before .before .before .before .before .before .before .before .before .before .before .before .before .before .before .before .before .before .before .before .before .before .before .before .before .before .before .before in
+    let l = c .before .before .before .before .before .before .before .before .before .before .before .before .before .before .before .before .before .before .before .before .before .before .before .before .before .loop in
+    let e = c .before .before .before .before .before .before .before .before .before .before .before .before .before .before .before .before .before .before .before .before .before .before .before .line-end .ensures in
+    let i : l .at < length (s .args .input .now) = c .before .before .before .before .before .before .before .before .before .before .before .before .before .before .before .before .before .before .before .before .before .before .before .before .loop-test .taken in
+    omega (arith, i, e .place, e .inside (omega (arith, i)))
 
 loop-again : tie.Need-loop-again Inv-loop μ-loop
-loop-again c =
-    let at = c .before .before .before .before .before .before .before .before .before .before .before .before .before .before .before .before .before .before .before .before .before .before .before .before .loop in
-    let s = c .before .before .before .before .before .before .before .before .before .before .step in
-    omega (arith, s .ensures, s .kept .1 .1 .1 .0, s .kept .1 .1 .1 .1 .0, s .kept .1 .1 .1 .1 .1 .0, s .kept .1 .1 .1 .1 .1 .1 .0, s .kept .1 .1 .1 .1 .1 .1 .1 .0, c .before .before .before .before .before .before .before .before .before .before .before .before .before .before .before .before .before .before .before .read-line .kept .1 .0, at .inv)
+loop-again c = let s = c .before .before .before .before .before .before .before .before .before .before .before .before .before .before .before .before .before .before .before .before .before .before .before .before .before .before .before .before .before .before .before .before .before .before in
+    let l = c .before .before .before .before .before .before .before .before .before .before .before .before .before .before .before .before .before .before .before .before .before .before .before .before .before .loop in
+    let e = c .before .before .before .before .before .before .before .before .before .before .before .before .before .before .before .before .before .before .before .before .before .before .before .line-end .ensures in
+    let i : l .at < length (s .args .input .now) = c .before .before .before .before .before .before .before .before .before .before .before .before .before .before .before .before .before .before .before .before .before .before .before .before .loop-test .taken in
+    let k = c .before .before .before .before .before .before .before .before .before .before .before .before .before .before .before .step .kept in
+    (c .before .before .before .before .before .before .before .before .before .before .before .before .before .before .before .step .ensures .sized, turn (s .args .input .now) (l .n) (l .at) (c .before .before .before .before .before .before .before .before .before .before .before .before .before .before .before .before .before .before .before .before .before .before .before .line-end .result) _ (l .inv .1) i e _ _ _ _ (c .before .before .before .before .before .before .before .before .before .before .before .before .before .before .before .step .ensures), omega (arith, e .place, l .inv .2), k .1 .1 .0 ∙ l .inv .3, k .1 .1 .1 .0 ∙ l .inv .4, k .1 .1 .1 .1 .0 ∙ l .inv .5, k .1 .1 .1 .1 .1 .0 ∙ l .inv .6, k .1 .1 .1 .1 .1 .1 .0 ∙ l .inv .7, k .1 .1 .1 .1 .1 .1 .1 .0 ∙ l .inv .8)
 
 same-length : tie.Need-same-length Inv-loop μ-loop
 same-length c = search needs
@@ -73,7 +114,7 @@ same-length-6 : tie.Need-same-length-6 Inv-loop μ-loop
 same-length-6 c = search needs
 
 returns : tie.Need-returns Inv-loop μ-loop
-returns c = search needs
+returns c = ends (c .before .before .before .before .before .before .before .before .before .before .args .input .now) (c .before .loop .n) (c .before .loop .at) _ (c .before .loop .inv .1) (omega arith)
 
 pub run-spec : {M : Type 1} → statement M
 run-spec =
@@ -84,11 +125,14 @@ run-spec =
     no-wall-requires
     loop-holds
     line-end-requires
-    sub-read-line
-    part-read-line-start
-    part-read-line-end
-    read-line-requires
+    sub-step
+    part-step-start
+    part-step-end
     step-requires
+    slice-reshare-prefix-say
+    slice-aggregate-say
+    say-requires
+    add-n
     add-at
     loop-less
     loop-again

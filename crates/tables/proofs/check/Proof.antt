@@ -9,7 +9,7 @@ refusal-requires : tie.Need-refusal-requires
 refusal-requires c κs = search needs
 
 later-refusal-requires : tie.Need-later-refusal-requires
-later-refusal-requires c κs = let k = passed (c .before .before .before .before .args .plan) (c .before .before .before .before .args .cells .now) (c .before .before .before .before .args .functions .now) (sym (c .before .refusal .ensures) ∙ c .if1 .taken) in (record { range = k .range; size = k .cells }, k .functions)
+later-refusal-requires c κs = let k = passed (c .before .before .before .before .args .plan) (c .before .before .before .before .args .cells .now) (c .before .before .before .before .args .functions .now) (sym (c .before .refusal .ensures) ∙ c .if1 .taken) in (record { range = k .range; size = k .cells }, k .functions, k .small)
 
 returns : tie.Need-returns
 returns c = c .later-refusal .ensures ∙ check-later (c .before .before .before .before .before .args .plan) (c .before .before .before .before .before .args .cells .now) (c .before .before .before .before .before .args .functions .now) (sym (c .before .before .refusal .ensures) ∙ c .before .if1 .taken)

@@ -9,10 +9,10 @@ is-mesh-requires : tie.Need-is-mesh-requires
 is-mesh-requires c κs = search needs
 
 is-admissible-requires : tie.Need-is-admissible-requires
-is-admissible-requires c κs = search needs
+is-admissible-requires c κs = let a = c .before .before .before .before in (record { sized = a .pre .0; mesh = (sym (c .before .is-mesh .ensures) ∙ c .if1 .taken) }, a .pre .2)
 
 is-labelled-requires : tie.Need-is-labelled-requires
-is-labelled-requires c κs = let a = c .before .before .before .before .before .before in (record { sized = a .pre .0; mesh = (sym (c .before .before .before .is-mesh .ensures) ∙ c .before .before .if1 .taken) }, a .pre .1)
+is-labelled-requires c κs = let a = c .before .before .before .before .before .before in (record { sized = a .pre .0; mesh = (sym (c .before .before .before .is-mesh .ensures) ∙ c .before .before .if1 .taken) }, (a .pre .1, a .pre .2))
 
 returns : tie.Need-returns
 returns c = refuse-none (c .before .before .before .before .before .before .before .before .args .plan) (c .before .before .before .before .before .before .before .before .args .cells .now) (c .before .before .before .before .before .before .before .before .args .functions .now) (sym (c .before .before .before .before .before .is-mesh .ensures) ∙ c .before .before .before .before .if1 .taken) (sym (c .before .before .before .is-admissible .ensures) ∙ c .before .before .if2 .taken) (sym (c .before .is-labelled .ensures) ∙ c .if3 .taken)

@@ -1,15 +1,20 @@
 use mathlib.Core.Path.{_≡_, refl}
-use Prim.Native.Nat.{_-_, _≤_}
+use Prim.Native.Nat.{ℕ, _-_, _≤_}
 use native.Mathlib.Omega.{arith}
 use borrow.Author.Needs.{needs}
 use lib.ListN.{length}
 use Rattle.facts.specs.Mapped.{filled}
 use Rattle.facts.proofs.Mapped.{filled-none, fill-length, fill-next}
+use Rattle.windows.specs.Windows.{two}
 use Rattle.cover.proofs.family.clear.Statement.{statement}
 use Rattle.cover.proofs.family.clear.Tie as tie
 
+two-is : (i : ℕ) → 2 ≡ two i
+unfolding two
+two-is i = refl
+
 abbrev Inv-loop : tie.InvT-loop
-Inv-loop out₀ i₀ out i = (i ≤ length out₀) × (length out ≡ length out₀) × (out ≡ filled 0 i (λ _. 0) out₀)
+Inv-loop out₀ i₀ out i = (i ≤ length out₀) × (length out ≡ length out₀) × (out ≡ filled 0 i two out₀)
 
 abbrev μ-loop : tie.MeasureT-loop
 μ-loop out₀ i₀ out i = length out₀ - i
@@ -28,7 +33,7 @@ loop-less c = omega arith
 
 loop-again : tie.Need-loop-again Inv-loop μ-loop
 loop-again c =
-    let e = fill-next _ _ _ _ (c .before .loop .inv .2) 0 (omega arith) refl in (omega arith, fill-length _ _ _ _ e, e)
+    let e = fill-next _ _ _ _ (c .before .loop .inv .2) 2 (omega arith) (two-is _) in (omega arith, fill-length _ _ _ _ e, e)
 
 same-length : tie.Need-same-length Inv-loop μ-loop
 same-length c = c .before .loop .inv .1

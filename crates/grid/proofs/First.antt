@@ -1,0 +1,68 @@
+-- Supports and neighbourhoods by the first functions over columns and rows: function i covers column x where it is one of the
+-- degree + 1 functions from the first over x on, and columns whose first functions are at most the degree apart are near. Tables that
+-- have a cell at its first functions' place are read by these laws alone. Assumes nothing.
+use Prim.Native.Nat.{ℕ, _+_, _-_, _<_, _≤_}
+use native.Mathlib.Omega.{arith}
+use mathlib.Core.Path.{_≡_}
+use lib.Dec.{T}
+use Rattle.grid.specs.declared.Plan.{Plan}
+use Rattle.grid.specs.declared.Place.{Place}
+use Rattle.grid.specs.declared.Side.{Side}
+use Rattle.grid.specs.Plan.{cellTotal, cellPlace, cellLevel, functionPlace, acrossAt, upAt, supported, near}
+use Rattle.grid.specs.Range.{InRange, HasNeighbourhood}
+use Rattle.grid.specs.Spans.{ancestorOf}
+use Rattle.grid.specs.Side.{firstOver}
+use Rattle.grid.proofs.Direction.{Apart}
+use Rattle.grid.proofs.Laws.{near-places, near-of}
+use Rattle.grid.proofs.Spans.{supported-places, supported-of}
+
+-- function i is over column x
+pub record Over (s : Side) (i x : ℕ) : Type 0 where
+  pub from : firstOver s x ≤ i
+  pub to : i ≤ firstOver s x + s .degree
+
+-- a function at f is over the cell at c
+pub record Under (p : Plan) (f c : Place) : Type 0 where
+  pub level : f .level ≡ c .level
+  pub columns : Over (acrossAt p (c .level)) (f .column) (c .column)
+  pub rows : Over (upAt p (c .level)) (f .row) (c .row)
+
+-- the cell at c is around that at a, of the same level
+pub record Around (p : Plan) (a c : Place) : Type 0 where
+  pub level : a .level ≡ c .level
+  pub columns : Apart (p .across) (firstOver (acrossAt p (c .level)) (c .column)) (firstOver (acrossAt p (c .level)) (a .column))
+  pub rows : Apart (p .up) (firstOver (upAt p (c .level)) (c .row)) (firstOver (upAt p (c .level)) (a .row))
+
+module _ (p : Plan) (range : InRange p) where
+  module _ (f c : ℕ) (b : c < cellTotal p) where
+    pub supported-under : T (supported p f c) → Under p (functionPlace p f) (cellPlace p c)
+    unfolding firstOver
+    supported-under t =
+        let s = supported-places p range f c b t in
+        record {
+          level = s .level;
+          columns = record { from = s .columns .to; to = s .columns .from };
+          rows = record { from = s .rows .to; to = s .rows .from };
+        }
+
+    pub under-supported : Under p (functionPlace p f) (cellPlace p c) → T (supported p f c)
+    unfolding firstOver
+    under-supported u = supported-of p range f c b (record {
+      level = u .level;
+      columns = record { from = u .columns .to; to = u .columns .from };
+      rows = record { from = u .rows .to; to = u .rows .from };
+    })
+
+  module _ (q c : ℕ) where
+    pub near-around : T (near p q c) → Around p (ancestorOf p (cellPlace p q)) (cellPlace p c)
+    unfolding firstOver ancestorOf
+    near-around t =
+        let n = near-places p range q c t in
+        let g = n .graded in
+        record { level = omega (arith, n .levels); columns = n .columns; rows = n .rows }
+
+    pub around-near : c < cellTotal p → HasNeighbourhood p (cellLevel p q) → Around p (ancestorOf p (cellPlace p q)) (cellPlace p c) → T (near p q c)
+    unfolding firstOver ancestorOf
+    around-near b h a =
+        let e = a .level in
+        near-of p range q c b (record { graded = h .class≢; levels = omega (arith, h .level≥, h .class≢); columns = a .columns; rows = a .rows })

@@ -1,0 +1,20 @@
+-- `Side::functions` meets its contract. Assumes nothing.
+use mathlib.Core.Path.{refl}
+use Rattle.grid.specs.Side.{functions}
+use borrow.Author.Needs.{needs}
+use Rattle.grid.proofs.Side.functions.Statement.{statement}
+use Rattle.grid.proofs.Side.functions.Tie as tie
+use Rattle.grid.proofs.Side.functions.Reads as reads
+use Rattle.grid.proofs.Side.functions.Lts as lts
+
+-- src/lib.rt:102:9
+add-result : tie.Need-add-result
+add-result c = search needs
+
+-- src/lib.rt:98:5
+returns : tie.Need-returns
+unfolding functions
+returns c = refl
+
+pub functions-spec : {M : Type 1} → statement M
+functions-spec = tie.close (tie.spec add-result returns)

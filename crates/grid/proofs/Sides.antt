@@ -1,0 +1,77 @@
+-- One direction of one level: its supports are spans of its columns. Assumes nothing.
+use Prim.Native.Nat.{ℕ, _+_, _≤_, _<_}
+use native.Mathlib.Omega.{arith}
+use mathlib.Core.Path.{_≡_, refl, _∙_}
+use Rattle.grid.specs.declared.Plan.{Plan}
+use Rattle.grid.specs.declared.Side.{Side}
+use Rattle.grid.specs.Plan.{ratio, functionColumnsAt, functionRowsAt, columnsAt, rowsAt, acrossAt, upAt}
+use Rattle.grid.specs.Range.{InRange}
+use Rattle.grid.specs.Spans.{supportSpan}
+use Rattle.grid.specs.Side.{functions, supportOver, firstOver, firsts, SideIn}
+use Rattle.grid.proofs.Direction.{grown-pos}
+use Rattle.grid.proofs.Laws.{ratio-pos}
+use Rattle.grid.proofs.Small.{grown-small}
+use Rattle.grid.proofs.Rectangles.{SpanIn, support-span-in}
+
+pub side-same : {s t : Side} → s .cells ≡ t .cells → s .degree ≡ t .degree → s ≡ t
+side-same a b = λ i. record { cells = a i; degree = b i }
+
+-- a support is a span of the columns, and not empty
+pub over-in : (s : Side) → SideIn s → (i : ℕ) → i < functions s → SpanIn (s .cells) (supportOver s i)
+unfolding functions supportOver
+over-in s r i l = support-span-in (s .cells) (s .degree) i (r .cells≥) l
+
+pub functions-pos : (s : Side) → SideIn s → 0 < functions s
+unfolding functions
+functions-pos s r = omega (arith, r .cells≥)
+
+pub functions-small : (s : Side) → SideIn s → functions s ≤ 2052
+unfolding functions
+functions-small s r = omega (arith, r .cells≤, r .degree≤)
+
+-- the last `degree` functions are the first over no column
+pub firsts-functions : (s : Side) → firsts s + s .degree ≡ functions s
+unfolding firsts functions
+firsts-functions s = omega arith
+
+pub first-lt : (s : Side) (x : ℕ) → x < s .cells → firstOver s x < firsts s
+unfolding firsts functions firstOver
+first-lt s x l = omega arith
+
+module _ (p : Plan) (range : InRange p) (k : ℕ) (l : k < p .levels) where
+  pub across-in : SideIn (acrossAt p k)
+  across-in = record {
+    cells≥ = grown-pos (ratio p) (ratio-pos p) (p .columns) k (range .columns≥);
+    cells≤ = grown-small p (range .columns≤) (omega (arith, range .levels≤));
+    degree≤ = range .across≤;
+  }
+
+  pub up-in : SideIn (upAt p k)
+  up-in = record {
+    cells≥ = grown-pos (ratio p) (ratio-pos p) (p .rows) k (range .rows≥);
+    cells≤ = grown-small p (range .rows≤) (omega (arith, range .levels≤));
+    degree≤ = range .up≤;
+  }
+
+pub across-functions : (p : Plan) (k : ℕ) → functions (acrossAt p k) ≡ functionColumnsAt p k
+unfolding functions
+across-functions p k = refl
+
+pub up-functions : (p : Plan) (k : ℕ) → functions (upAt p k) ≡ functionRowsAt p k
+unfolding functions
+up-functions p k = refl
+
+pub across-firsts : (p : Plan) (k : ℕ) → firsts (acrossAt p k) + p .across ≡ functionColumnsAt p k
+across-firsts p k = firsts-functions (acrossAt p k) ∙ across-functions p k
+
+pub up-firsts : (p : Plan) (k : ℕ) → firsts (upAt p k) + p .up ≡ functionRowsAt p k
+up-firsts p k = firsts-functions (upAt p k) ∙ up-functions p k
+
+-- the rectangle of a support has the two directions' spans
+pub across-support : (p : Plan) (k i : ℕ) → supportSpan (columnsAt p k) (p .across) i ≡ supportOver (acrossAt p k) i
+unfolding supportOver
+across-support p k i = refl
+
+pub up-support : (p : Plan) (k i : ℕ) → supportSpan (rowsAt p k) (p .up) i ≡ supportOver (upAt p k) i
+unfolding supportOver
+up-support p k i = refl

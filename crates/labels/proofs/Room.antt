@@ -1,0 +1,12 @@
+-- Parts of arrays of zeros, which are lent as tables. Assumes nothing.
+use mathlib.Core.Path.{_≡_, sym, _∙_}
+use Prim.Native.Nat.{ℕ, _≤_}
+use lib.ListN.{length, take, replicate, length-replicate}
+use lib.Seq.{length-take-le}
+
+-- the first n of m zeros
+pub zeros : (m n : ℕ) → n ≤ m → n ≡ length {A = ℕ} (take n (replicate m 0))
+zeros m n h = sym (length-take-le {A = ℕ} n (replicate m 0) (rw length-replicate h))
+
+pub part-length : (m n : ℕ) {t : ℕ} → n ≡ t → t ≤ m → length {A = ℕ} (take n (replicate m 0)) ≡ t
+part-length m n e h = sym (zeros m n (rw e h)) ∙ e

@@ -1,0 +1,76 @@
+-- `keep` meets its contract. The invariant: the bytes passed are written, and those ahead are as they were. Assumes nothing.
+use mathlib.Core.Path.{_≡_, refl, ap, _∙_}
+use Prim.Native.Nat.{ℕ, _-_, _≤_}
+use native.Mathlib.Omega.{arith}
+use lib.ListN.{length, getD, take, length-set}
+use lib.Seq.{getD-set-other}
+use borrow.Author.Needs.{needs}
+use Rattle.facts.specs.Numbers.{tabulate}
+use Rattle.facts.proofs.Turns.{tabulate-none, tabulate-more, tabulate-all}
+use Rattle.marks.specs.Marks.{common, commonAt}
+use Rattle.marks.proofs.keep.Statement.{statement}
+use Rattle.marks.proofs.keep.Tie as tie
+
+abbrev Inv-loop : tie.InvT-loop
+Inv-loop over kinds₀ i₀ kinds i = (i ≤ length kinds₀) × (length kinds ≡ length kinds₀) × (take i kinds ≡ tabulate i (commonAt kinds₀ over)) × ((x : ℕ) → i ≤ x → getD kinds x 0 ≡ getD kinds₀ x 0)
+
+abbrev μ-loop : tie.MeasureT-loop
+μ-loop over kinds₀ i₀ kinds i = length kinds₀ - i
+
+loop-holds : tie.Need-loop-holds Inv-loop μ-loop
+loop-holds c = (search needs, refl, tabulate-none (c .before .before .args .kinds .now) _, λ x h. refl)
+
+slice-read-common-of : tie.Need-slice-read-common-of Inv-loop μ-loop
+slice-read-common-of c = search needs
+
+shared-slice-read-common-of : tie.Need-shared-slice-read-common-of Inv-loop μ-loop
+shared-slice-read-common-of c = search needs
+
+common-of-requires : tie.Need-common-of-requires Inv-loop μ-loop
+common-of-requires c κs = search needs
+
+slice-write-kinds : tie.Need-slice-write-kinds Inv-loop μ-loop
+slice-write-kinds c = search needs
+
+add-i : tie.Need-add-i Inv-loop μ-loop
+add-i c = search needs
+
+loop-less : tie.Need-loop-less Inv-loop μ-loop
+loop-less c = search needs
+
+loop-again : tie.Need-loop-again Inv-loop μ-loop
+loop-again c =
+    let a = c .before .before .before .before .before .before .before .args in
+    let at = c .before .before .before .before .loop in (
+      omega (arith, at .inv .0),
+      rw length-set (at .inv .1),
+      tabulate-more (at .kinds) (commonAt (a .kinds .now) (a .over .now)) (at .i) _ (omega (arith, at .inv .0, at .inv .1))
+          (c .common-of .ensures ∙ ap (λ (n : ℕ). common n (getD (a .over .now) (at .i) 0)) (at .inv .3 (at .i) (omega arith))) (at .inv .2),
+      λ x h. getD-set-other (at .kinds) (at .i) x _ 0 (omega arith) ∙ at .inv .3 x (omega arith),
+    )
+
+same-length : tie.Need-same-length Inv-loop μ-loop
+same-length c = c .before .loop .inv .1
+
+returns : tie.Need-returns Inv-loop μ-loop
+returns c =
+    let a = c .before .before .before .before .args in
+    let at = c .before .loop in
+    tabulate-all _ (commonAt (a .kinds .now) (a .over .now)) (length (a .kinds .now)) (at .i) (at .inv .1) (at .inv .0) (omega arith) (at .inv .2)
+
+pub keep-spec : {M : Type 1} → statement M
+keep-spec =
+    tie.close
+    (tie.spec
+    Inv-loop
+    μ-loop
+    loop-holds
+    slice-read-common-of
+    shared-slice-read-common-of
+    common-of-requires
+    slice-write-kinds
+    add-i
+    loop-less
+    loop-again
+    same-length
+    returns)

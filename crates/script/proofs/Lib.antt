@@ -1,0 +1,4 @@
+pub mod Room
+pub mod Replies
+pub mod Sample
+pub mod Limit

@@ -1,0 +1,46 @@
+-- Whole sessions, computed: document 01's sample, and what its words leave to try. Assumes nothing.
+use Prim.Native.String.{String}
+use mathlib.Core.Bool.{Bool, true, _&&_}
+use mathlib.Core.List.{List, [], _∷_}
+use lib.Dec.{T}
+use Rattle.facts.specs.Bounded.{some, every, sum}
+use Rattle.facts.specs.Numbers.{elem, all, listed, tabulate, stored, first}
+use Rattle.hierarchy.specs.Hierarchy.{reach, needs, closure}
+use Rattle.grid.specs.Numbering.{offset, number, levelOf, placeOn, place}
+use Rattle.grid.specs.Plan.{between, inRange, ratio, grown, tooLarge, lastLevel, above, below, parent, child, covers, supportedAt, supported, apart, ancestor, nearAt, near}
+use Rattle.mesh.specs.Mesh.{absent, active, refined, children, cellFits, isMesh, isAdmissible, reactivable, tableOf, labelOf, labels, isLabelled, refusal3, refusal6, check, freshCells, freshFunctions, openMesh}
+use Rattle.refine.specs.Calls.{isKind, isTooDeep, markRefusal, underMarked, underKept, meant, base, smallest, changed, written, refused, settle, newCells, refusal, outcome}
+use Rattle.lines.specs.Text.{bytes}
+use Rattle.lines.specs.Reading.{parts, isDigit, allDigits, valueAfter, isNumber, allNumbers, same, kindOf, meaningOf}
+use Rattle.lines.specs.Writing.{lastDigits, digits, spaced, items, answer}
+use Rattle.script.specs.Session.{opening, calling, stepOf, repliesFrom, replies, joined, session}
+
+-- an input, and all that is printed
+pub data Row : Type 0 where
+  prints : String → String → Row
+
+abbrev pub holds : Row → Bool
+holds (prints input output) = same (session (bytes input)) (bytes output)
+
+abbrev pub allHold : List Row → Bool
+allHold [] = true
+allHold (r ∷ rs) = let rest = allHold rs in holds r && rest
+
+pub table : List Row
+table =
+    -- document 01's sample
+    prints "wall 3 1 3 1 1 2\nsplit 0\nsplit 3\njoin 1\n" "0;;\n0;0;0 4\n0;1 3;1 5 8\n0;;\n"
+    -- no input, and a line that cannot be read; a mark line before any wall
+    ∷ prints "" ""
+    ∷ prints "\nsplit 0" "?\n?\n"
+    -- a wall that is refused, and one that is large, keep the earlier one
+    ∷ prints "wall 1 1 2 1 1 0\nsplit 0\nwall 0 1 2 1 1 0\nwall 16 16 5 1 1 0\nwall 1 1 8 1 1 0\njoin 0\n" "0;;\n0;0;0 1 2 3\n1;;\n2;;\nlarge\n0;0;0 1 2 3\n"
+    -- 4,095 cells, the most that a plan of at most 4,096 has; 4,116, the fewest of one with more
+    ∷ prints "wall 13 15 3 1 1 0\nwall 14 14 3 1 1 0" "0;;\nlarge\n"
+    -- by functions
+    ∷ prints "wall 3 1 3 1 1 0\nfsplit 1\nfjoin 1 5\n" "0;;\n0;0 1;0 1 4 5\n0;1;1 5\n"
+    ∷ []
+
+pub sample : T (allHold table)
+unfolding table opening calling stepOf repliesFrom replies joined session parts isDigit allDigits valueAfter isNumber allNumbers same kindOf meaningOf lastDigits digits spaced items answer some every sum elem all listed tabulate stored first reach needs closure offset number levelOf placeOn place between inRange ratio grown tooLarge lastLevel above below parent child covers supportedAt supported apart ancestor nearAt near absent active refined children cellFits isMesh isAdmissible labelOf labels isLabelled refusal3 refusal6 check freshCells freshFunctions openMesh reactivable isKind isTooDeep markRefusal underMarked underKept meant base tableOf smallest changed written refused settle newCells refusal outcome
+sample = tt

@@ -1,0 +1,23 @@
+-- `direction_of` meets its contract: the lines `split` and `fsplit` refine, the others coarsen. Assumes nothing.
+use Rattle.script.proofs.Replies.{coarsens}
+use borrow.Author.Needs.{needs}
+use Rattle.script.proofs.direction_of.Statement.{statement}
+use Rattle.script.proofs.direction_of.Tie as tie
+
+enum-told : tie.Need-enum-told
+enum-told c = search needs
+
+enum-told-2 : tie.Need-enum-told-2
+enum-told-2 c = search needs
+
+returns : tie.Need-returns
+returns c = search needs
+
+returns-2 : tie.Need-returns-2
+returns-2 c = search needs
+
+returns-3 : tie.Need-returns-3
+returns-3 c = coarsens (c .before .args .kind) (c .match .keys3)
+
+pub direction-of-spec : {M : Type 1} → statement M
+direction-of-spec = tie.close (tie.spec enum-told enum-told-2 returns returns-2 returns-3)

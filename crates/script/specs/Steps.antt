@@ -1,0 +1,60 @@
+-- How what the code holds and writes stands for the states and replies of Session.antt. Definitions only.
+use mathlib.Core.Path.{_≡_}
+use mathlib.Core.Bool.{cond, false}
+use mathlib.Core.List.{List}
+use Prim.Native.Nat.{ℕ, _≤_, _<_}
+use lib.Dec.{eqb}
+use lib.ListN.{take}
+use Rattle.grid.specs.Plan.{cellTotal, functionTotal}
+use Rattle.lines.specs.Text.{Counts}
+use Rattle.lines.specs.declared.Kind.{Kind}
+use Rattle.lines.specs.declared.Kind.the-variants.{Unreadable, Wall, Split, Join, SplitFunctions, JoinFunctions}
+use Rattle.refine.specs.Calls.{Direction, refine, coarsen, By, cells, functions, Outcome}
+use Rattle.script.specs.Session.{State, noWall, wall, Reply, shown}
+use Rattle.script.specs.declared.Hand.{Hand}
+use Rattle.script.specs.declared.Done.{Done}
+
+-- the state that a hand stands for, with the lent tables; their bytes past the wall's lengths mean nothing
+unfoldable pub held : Hand → List ℕ → List ℕ → State
+held h cs fs = cond (eqb (h .cells) 0) noWall (wall (h .plan) (take (h .cells) cs) (take (h .functions) fs))
+
+-- the lengths of the wall in hand are its plan's T and F, and those of a session's walls
+pub record Sized (h : Hand) : Type 0 where
+  pub cells≤ : h .cells ≤ 4096
+  pub functions≤ : h .functions ≤ 5784
+  pub whole : eqb (h .cells) 0 ≡ false → (h .cells ≡ cellTotal (h .plan)) × (h .functions ≡ functionTotal (h .plan))
+
+-- the call that a kind of line asks for
+abbrev pub directionOf : Kind → Direction
+directionOf Unreadable = coarsen
+directionOf Wall = coarsen
+directionOf Split = refine
+directionOf Join = coarsen
+directionOf SplitFunctions = refine
+directionOf JoinFunctions = coarsen
+
+abbrev pub byOf : Kind → By
+byOf Unreadable = functions
+byOf Wall = functions
+byOf Split = cells
+byOf Join = cells
+byOf SplitFunctions = functions
+byOf JoinFunctions = functions
+
+-- a whole text at the start of the buffer, which had room for it
+pub record Said (text : List ℕ) (count : ℕ) (out : List ℕ) : Type 0 where
+  pub bytes : take count out ≡ text
+  pub some : 0 < count
+  pub inside : Counts count out
+
+-- a call with its answer: both tables, and what stands in the buffer
+pub record Answered (o : Outcome) (count : ℕ) (cs fs out : List ℕ) : Type 0 where
+  pub cells : cs ≡ o .cells
+  pub functions : fs ≡ o .functions
+  pub said : Said (shown o) count out
+
+-- a reply: what is in hand, with the tables, and what stands in the buffer
+pub record Replied (r : Reply) (done : Done) (cs fs out : List ℕ) : Type 0 where
+  pub state : held (done .hand) cs fs ≡ r .state
+  pub said : Said (r .printed) (done .count) out
+  pub sized : Sized (done .hand)

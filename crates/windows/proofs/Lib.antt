@@ -1,0 +1,6 @@
+pub mod Lowered
+pub mod Slides
+pub mod Levels
+pub mod Under
+pub mod Rooms
+pub mod Values

@@ -1,0 +1,57 @@
+-- The least bytes of windows. Definitions only.
+use mathlib.Core.Bool.{cond}
+use mathlib.Core.List.{List}
+use Prim.Native.Nat.{ℕ, min, _+_, _-_, _*_, _/_, _%_, _≤_}
+use lib.ListN.{getD}
+use Rattle.facts.specs.Least.{least}
+use Rattle.facts.specs.Mapped.{inRun, mapped}
+
+-- the byte that lowers nothing
+unfoldable pub two : ℕ → ℕ
+two i = 2
+
+-- the first n entries lowered to those of `from`
+unfoldable pub lowered : ℕ → List ℕ → List ℕ → List ℕ
+lowered n from xs = mapped (λ i x. cond (inRun 0 n i) (min x (getD from i 0)) x) xs
+
+-- what stands o places before t, of the first n entries; 2 where nothing does
+unfoldable pub moved : List ℕ → ℕ → ℕ → ℕ → ℕ
+moved from n o t = cond (inRun o n t) (getD from (t - o) 0) 2
+
+-- the least of the entries at t, t - step, .., as many as `count`
+unfoldable pub slid : List ℕ → ℕ → ℕ → ℕ → ℕ → ℕ
+slid from n step count t = least 2 count (λ d. moved from n (d * step) t)
+
+pub record SlideIn (size room n step times : ℕ) : Type 0 where
+  pub from≤ : n ≤ size
+  pub out≤ : n + times * step ≤ room
+
+-- the same of each row
+unfoldable pub rowSlid : List ℕ → ℕ → ℕ → ℕ → ℕ
+rowSlid from columns across t =
+    least 2 (across + 1) (λ d. cond (inRun d columns (t % (columns + across))) (getD from (t / (columns + across) * columns + (t % (columns + across) - d)) 0) 2)
+
+pub record RowsIn (size room columns rows across : ℕ) : Type 0 where
+  pub from≤ : rows * columns ≤ size
+  pub out≤ : rows * (columns + across) ≤ room
+  pub rows≥ : 1 ≤ rows
+
+-- what stands d places before i, of the n numbers of g; 2 where nothing does
+abbrev pub back : ℕ → ℕ → (ℕ → ℕ) → ℕ → ℕ
+back n i g d = cond (inRun d n i) (g (i - d)) 2
+
+-- the least byte of the window that ends in row j and column i
+unfoldable pub windowAt : List ℕ → ℕ → ℕ → ℕ → ℕ → ℕ → ℕ → ℕ
+windowAt from columns rows across up j i =
+    least 2 (up + 1) (back rows j (λ y. least 2 (across + 1) (back columns i (λ x. getD from (y * columns + x) 0))))
+
+-- the same at t
+unfoldable pub windowLeast : List ℕ → ℕ → ℕ → ℕ → ℕ → ℕ → ℕ
+windowLeast from columns rows across up t = windowAt from columns rows across up (t / (columns + across)) (t % (columns + across))
+
+pub record LevelIn (size room place columns rows across up : ℕ) : Type 0 where
+  pub columns≥ : 1 ≤ columns
+  pub rows≥ : 1 ≤ rows
+  pub from≤ : rows * columns ≤ size
+  pub scratch≤ : rows * (columns + across) ≤ room
+  pub out≤ : (rows + up) * (columns + across) ≤ place
