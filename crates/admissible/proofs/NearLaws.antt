@@ -31,8 +31,8 @@ use Rattle.windows.specs.Level.{leastUnder, levelLeast, wide, high, LevelRoom, 
 use Rattle.windows.proofs.Levels.{under-top, level-at}
 use Rattle.windows.proofs.Under.{near-le, near-ge}
 use Rattle.admissible.specs.Near.{ancestorLevel, cellAdmissible, NearTable}
-use Rattle.cells.proofs.Rows.{every-rows}
-use Rattle.cells.specs.Table.{Sized, MeshTable}
+use Rattle.facts.proofs.Rows.{every-rows}
+use Rattle.nesting.specs.Table.{CellTable, MeshTable}
 
 abbrev at : ℕ → ℕ → ℕ → Place
 at k r c = record { level = k; row = r; column = c }
@@ -41,13 +41,13 @@ at k r c = record { level = k; row = r; column = c }
 
 module _ (p : Plan) (cells : List ℕ) (table : MeshTable p cells) (k : ℕ) where
   pub near-table : (found start : List ℕ) → k < p .levels → NearRoom p (length start)
-      → found ≡ filled 0 (high p k (2 * p .up) * wide p k (2 * p .across)) (levelLeast p cells k (2 * p .across) (2 * p .up)) start → NearTable p cells found k
+      → found ≡ filled 0 (high p k (2 * p .«degree_up») * wide p k (2 * p .«degree_across»)) (levelLeast p cells k (2 * p .«degree_across») (2 * p .«degree_up»)) start → NearTable p cells found k
   near-table found start l room e = record {
     long = rw (ap length e ∙ filled-length 0 _ _ start) (room .enough k l);
-    made = level-at p cells found start k (2 * p .across) (2 * p .up) e (room .enough k l);
+    made = level-at p cells found start k (2 * p .«degree_across») (2 * p .«degree_up») e (room .enough k l);
   }
 
-  pub level-room : {n m : ℕ} → k < p .levels → NearRoom p n → NearRoom p m → LevelRoom p k (length cells) m n (2 * p .across) (2 * p .up)
+  pub level-room : {n m : ℕ} → k < p .levels → NearRoom p n → NearRoom p m → LevelRoom p k (length cells) m n (2 * p .«degree_across») (2 * p .«degree_up»)
   level-room l x y = record {
     range = table .sized .range;
     level< = l;
@@ -65,7 +65,7 @@ module _ (p : Plan) (cells : List ℕ) (table : MeshTable p cells) where
 
   -- the least byte around the ancestor a
   abbrev least-around : Place → ℕ
-  least-around a = leastUnder p cells (a .level) (2 * p .across) (2 * p .up) (firstOver (upAt p (a .level)) (a .row) + p .up) (firstOver (acrossAt p (a .level)) (a .column) + p .across)
+  least-around a = leastUnder p cells (a .level) (2 * p .«degree_across») (2 * p .«degree_up») (firstOver (upAt p (a .level)) (a .row) + p .«degree_up») (firstOver (acrossAt p (a .level)) (a .column) + p .«degree_across»)
 
   abbrev all-pass : ℕ → Bool
   all-pass q = every (cellTotal p) (λ c. implies (near p q c) (refined cells c))
@@ -101,7 +101,7 @@ module _ (p : Plan) (cells : List ℕ) (table : MeshTable p cells) where
         ∙ near-read q (cell-number-lt p (table .sized .range) x i) (subst (λ (y : Place). HasNeighbourhood p (y .level)) (sym e) has)
 
     -- the byte that is read for the cell: r and c are its ancestor's first functions
-    module _ (bytes : List ℕ) (t : NearTable p cells bytes k) (w r c : ℕ) (v : w ≡ wide p k (2 * p .across)) (y : Place) (e : y ≡ a)
+    module _ (bytes : List ℕ) (t : NearTable p cells bytes k) (w r c : ℕ) (v : w ≡ wide p k (2 * p .«degree_across»)) (y : Place) (e : y ≡ a)
         (er : r ≡ firstOver (upAt p (y .level)) (y .row)) (ec : c ≡ firstOver (acrossAt p (y .level)) (y .column)) where
       is-row : r ≡ firstOver (upAt p (a .level)) (a .row)
       is-row = er ∙ ap (λ (y : Place). firstOver (upAt p (y .level)) (y .row)) e
@@ -109,25 +109,25 @@ module _ (p : Plan) (cells : List ℕ) (table : MeshTable p cells) where
       is-column : c ≡ firstOver (acrossAt p (a .level)) (a .column)
       is-column = ec ∙ ap (λ (y : Place). firstOver (acrossAt p (y .level)) (y .column)) e
 
-      row-in : r + p .up < high p (a .level) (2 * p .up)
+      row-in : r + p .«degree_up» < high p (a .level) (2 * p .«degree_up»)
       row-in = omega (arith, is-row, first-lt (upAt p (a .level)) (a .row) (inside .row<))
 
-      column-in : c + p .across < wide p (a .level) (2 * p .across)
+      column-in : c + p .«degree_across» < wide p (a .level) (2 * p .«degree_across»)
       column-in = omega (arith, is-column, first-lt (acrossAt p (a .level)) (a .column) (inside .column<))
 
-      pub read-fits : ((r + p .up) * w + (c + p .across) < length bytes) × ((r + p .up) * w < length bytes)
+      pub read-fits : ((r + p .«degree_up») * w + (c + p .«degree_across») < length bytes) × ((r + p .«degree_up») * w < length bytes)
       unfolding ancestorOf
       read-fits =
-          let m = mul-le-mul-right (wide p k (2 * p .across)) row-in in
+          let m = mul-le-mul-right (wide p k (2 * p .«degree_across»)) row-in in
           let n = column-in in
           rw v (omega (arith, t .long), omega (arith, t .long))
 
-      pub read-is : eqb (getD bytes ((r + p .up) * w + (c + p .across)) 0) 2 ≡ all-pass q
+      pub read-is : eqb (getD bytes ((r + p .«degree_up») * w + (c + p .«degree_across»)) 0) 2 ≡ all-pass q
       unfolding ancestorOf
       read-is =
-          ap (λ w. eqb (getD bytes ((r + p .up) * w + (c + p .across)) 0) 2) v
-          ∙ (ap (λ z. eqb z 2) (t .made (r + p .up) (c + p .across) row-in column-in)
-          ∙ ((λ j. eqb (leastUnder p cells k (2 * p .across) (2 * p .up) (is-row j + p .up) (is-column j + p .across)) 2) ∙ place-read))
+          ap (λ w. eqb (getD bytes ((r + p .«degree_up») * w + (c + p .«degree_across»)) 0) 2) v
+          ∙ (ap (λ z. eqb z 2) (t .made (r + p .«degree_up») (c + p .«degree_across») row-in column-in)
+          ∙ ((λ j. eqb (leastUnder p cells k (2 * p .«degree_across») (2 * p .«degree_up») (is-row j + p .«degree_up») (is-column j + p .«degree_across»)) 2) ∙ place-read))
 
     -- what is asked of the cell, by its byte
     pub admissible-refined : {b : Bool} → getD cells q 0 ≡ 2 → b ≡ all-pass q → b ≡ cellAdmissible p cells q
@@ -140,7 +140,7 @@ unfolding cellAdmissible refined
 admissible-other p cells q e = rw (ne-eqb _ _ e)
 
 -- a level whose cells have no neighbourhood asks nothing
-pub level-free : (p : Plan) (cells : List ℕ) → Sized p cells → (k : ℕ) → k < p .levels → (HasNeighbourhood p k → ⊥)
+pub level-free : (p : Plan) (cells : List ℕ) → CellTable p cells → (k : ℕ) → k < p .levels → (HasNeighbourhood p k → ⊥)
     → everyFrom (cellOffset p k) (rowsAt p k * columnsAt p k) (cellAdmissible p cells) ≡ true
 unfolding everyFrom cellAdmissible
 level-free p cells s k l f = every-rows (rowsAt p k) (columnsAt p k) _ ∙ T-true _ (every-i (rowsAt p k) _ (λ r u. every-i (columnsAt p k) _ (λ c v.

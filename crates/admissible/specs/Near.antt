@@ -20,6 +20,6 @@ cellAdmissible p cells q = implies (refined cells q) (every (cellTotal p) (λ c.
 
 -- the table of the level k: the least bytes of the windows of twice the degrees
 pub record NearTable (p : Plan) (cells near : List ℕ) (k : ℕ) : Type 0 where
-  pub long : high p k (2 * p .up) * wide p k (2 * p .across) ≤ length near
-  pub made : (j i : ℕ) → j < high p k (2 * p .up) → i < wide p k (2 * p .across)
-      → getD near (j * wide p k (2 * p .across) + i) 0 ≡ leastUnder p cells k (2 * p .across) (2 * p .up) j i
+  pub long : high p k (2 * p .«degree_up») * wide p k (2 * p .«degree_across») ≤ length near
+  pub made : (j i : ℕ) → j < high p k (2 * p .«degree_up») → i < wide p k (2 * p .«degree_across»)
+      → getD near (j * wide p k (2 * p .«degree_across») + i) 0 ≡ leastUnder p cells k (2 * p .«degree_across») (2 * p .«degree_up») j i

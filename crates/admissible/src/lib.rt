@@ -1,4 +1,5 @@
 // Refusal 5: the mesh is admissible. The least byte around each cell is found for a level at once; a refined cell reads that of its ancestor.
+use grid::MOST_FUNCTIONS;
 use grid::Place;
 use grid::Plan;
 ghost use mathlib.Core.Path.{_≡_};
@@ -10,7 +11,8 @@ ghost use Rattle.grid.specs.Range.{HasNeighbourhood};
 ghost use Rattle.mesh.specs.Mesh.{isAdmissible};
 ghost use Rattle.admissible.specs.Near.{cellAdmissible, ancestorLevel, NearTable};
 ghost use Rattle.windows.specs.Level.{wide, NearRoom};
-ghost use Rattle.cells.specs.Table.{MeshTable};
+ghost use Rattle.nesting.specs.Table.{MeshTable};
+ghost use Rattle.grid.specs.Bounds.{mostCells};
 
 // The cell at a place has its neighbourhood refined, if it is refined itself: the least byte there is 2, by the table of the level of the
 // neighbourhoods, which is `width` wide and has it `up` rows and `across` columns after the ancestor's first functions.
@@ -25,14 +27,15 @@ fn cell_admissible(
     requires { ⌜ MeshTable plan (now cells) ⌝ }
     requires { ⌜ HasNeighbourhood plan (place .level) ⌝ }
     requires { ⌜ CellInside plan place ⌝ }
-    requires { ⌜ (at ≡ cellNumber plan place) × (NearTable plan (now cells) (now near) (ancestorLevel plan (place .level))) × (width ≡ wide plan (ancestorLevel plan (place .level)) (2 * plan .across)) ⌝ }
+    requires { ⌜ (at ≡ cellNumber plan place) × (NearTable plan (now cells) (now near) (ancestorLevel plan (place .level))) × (width ≡ wide plan (ancestorLevel plan (place .level)) (2 * plan .«degree_across»)) ⌝ }
     ensures { λ r. ⌜ r ≡ cellAdmissible plan (now (cells .entry)) at ⌝ }
 {
     if cells[at] == 2 {
         let above = plan.ancestor_of(place);
         let level = above.level;
-        let row = plan.up_at(level).first_over(above.row) as usize + plan.up as usize;
-        let column = plan.across_at(level).first_over(above.column) as usize + plan.across as usize;
+        let row = plan.up_at(level).first_over(above.row) as usize + plan.degree_up as usize;
+        let column = plan.across_at(level).first_over(above.column) as usize
+            + plan.degree_across as usize;
         return near[row * width + column] == 2;
     }
     true
@@ -51,7 +54,7 @@ fn row_admissible(
     requires { ⌜ MeshTable plan (now cells) ⌝ }
     requires { ⌜ HasNeighbourhood plan level ⌝ }
     requires { ⌜ (level < plan .levels) × (row < rowsAt plan level) ⌝ }
-    requires { ⌜ (at ≡ cellOffset plan level + row * columnsAt plan level) × (NearTable plan (now cells) (now near) (ancestorLevel plan level)) × (width ≡ wide plan (ancestorLevel plan level) (2 * plan .across)) ⌝ }
+    requires { ⌜ (at ≡ cellOffset plan level + row * columnsAt plan level) × (NearTable plan (now cells) (now near) (ancestorLevel plan level)) × (width ≡ wide plan (ancestorLevel plan level) (2 * plan .«degree_across»)) ⌝ }
     ensures { λ r. ⌜ r ≡ everyFrom at (columnsAt plan level) (cellAdmissible plan (now (cells .entry))) ⌝ }
 {
     let columns = plan.columns_at(level);
@@ -73,7 +76,7 @@ fn rows_admissible(plan: Plan, cells: &[u8], near: &[u8], width: usize, level: u
     requires { ⌜ MeshTable plan (now cells) ⌝ }
     requires { ⌜ HasNeighbourhood plan level ⌝ }
     requires { ⌜ level < plan .levels ⌝ }
-    requires { ⌜ (NearTable plan (now cells) (now near) (ancestorLevel plan level)) × (width ≡ wide plan (ancestorLevel plan level) (2 * plan .across)) ⌝ }
+    requires { ⌜ (NearTable plan (now cells) (now near) (ancestorLevel plan level)) × (width ≡ wide plan (ancestorLevel plan level) (2 * plan .«degree_across»)) ⌝ }
     ensures { λ r. ⌜ r ≡ everyFrom (cellOffset plan level) (rowsAt plan level * columnsAt plan level) (cellAdmissible plan (now (cells .entry))) ⌝ }
 {
     let columns = plan.columns_at(level) as usize;
@@ -106,8 +109,8 @@ fn near_admissible(
     ensures { λ r. ⌜ r ≡ everyFrom (cellOffset plan level) (rowsAt plan level * columnsAt plan level) (cellAdmissible plan (now (cells .entry))) ⌝ }
 {
     let above = level - (plan.class - 1);
-    let across = (2 * plan.across) as usize;
-    let up = (2 * plan.up) as usize;
+    let across = (2 * plan.degree_across) as usize;
+    let up = (2 * plan.degree_up) as usize;
     windows::level(plan, cells, above, scratch, near, across, up);
     let width = plan.across_at(above).firsts() as usize + across;
     rows_admissible(plan, cells, near, width, level)
@@ -154,11 +157,11 @@ fn levels_admissible(plan: Plan, cells: &[u8], near: &mut [u8], scratch: &mut [u
 
 // Refusal 5 is its opposite.
 pub fn is_admissible(plan: Plan, cells: &[u8]) -> bool
-    requires { ⌜ (MeshTable plan (now cells)) × (cellTotal plan ≤ 21845) ⌝ }
+    requires { ⌜ (MeshTable plan (now cells)) × (cellTotal plan ≤ mostCells) ⌝ }
     ensures { λ r. ⌜ r ≡ isAdmissible plan (now (cells .entry)) ⌝ }
 {
-    let room: usize = 26220;
-    let mut near = [0u8; 26220];
-    let mut scratch = [0u8; 26220];
+    let room = MOST_FUNCTIONS;
+    let mut near = [0u8; MOST_FUNCTIONS];
+    let mut scratch = [0u8; MOST_FUNCTIONS];
     levels_admissible(plan, cells, &mut near[..room], &mut scratch[..room])
 }

@@ -14,7 +14,7 @@ use Rattle.basis.specs.Basis.{finest, cellOver, inSupport, inRegion, ins
 
 -- document 01's W0 and W2, by their class
 abbrev plan : ℕ → Plan
-plan m = record { columns = 3; rows = 1; levels = 3; across = 1; up = 1; class = m }
+plan m = record { columns = 3; rows = 1; levels = 3; «degree_across» = 1; «degree_up» = 1; class = m }
 
 record Row : Type 0 where
   on : Plan

@@ -22,22 +22,24 @@ use Rattle.grid.specs.Range.{InRange}
 use Rattle.grid.proofs.Laws.{lawful}
 use Rattle.grid.proofs.Totals.{functions-bound}
 use Rattle.mesh.specs.Mesh.{active, refined, reactivable, isMesh, labelOf, labels, check}
-use Rattle.refine.specs.Calls.{Direction, refine, coarsen, By, cells, functions, total, isKind, isTooDeep, markRefusal, underMarked, underKept, meant, base, smallest, refused, settle, newCells, refusal, outcome}
+use Rattle.outcomes.specs.Calls.{Direction, refine, coarsen, By, cells, functions, total, eligible, isTooDeep, markRefusal, underMarked, underKept, selected, base, smallest, refused, settle, newCells, refusal, outcome}
 use Rattle.mesh.proofs.Bridge.{Good, check-good, good-table, is-mesh, length-labels, getD-labels, deactivated-e}
-use Rattle.refine.proofs.Sets.{put, result-mesh}
-use Rattle.refine.proofs.Marks.{fits-e, meant-may, smallest-is}
-use Rattle.walk.proofs.Marked.{ready-good, may-fact, good-ready, flags-mean}
-use Rattle.cells.specs.Table.{MeshTable}
-use Rattle.changes.specs.Changes.{Sizes, made}
-use Rattle.refine.specs.declared.Answer.{Answer}
+use Rattle.outcomes.proofs.Sets.{put, result-mesh}
+use Rattle.outcomes.proofs.Marks.{fits-e, selected-may, smallest-is}
+use Rattle.closure.proofs.Marked.{ready-good, may-fact, good-ready, flags-mean}
+use Rattle.nesting.specs.Table.{MeshTable}
+use Rattle.outcomes.specs.Contracts.{outcomeOf}
+use Rattle.changes.specs.Changes.{Sizes}
+use Rattle.outcomes.specs.declared.Answer.{Answer}
 use Rattle.cover.specs.Cover.{reactivableByte, coarsenableByte}
 use Rattle.cover.specs.Cover as cover
 use Rattle.windows.specs.Level.{leastValue}
 use Rattle.cover.proofs.Meaning.{under-marked-alone}
-use Rattle.calls.specs.Parts.{Kinds, Bytes, Flags}
-use Rattle.walk.specs.Walk.{flagged}
-use Rattle.walk.specs.Ready.{Ready}
+use Rattle.calls.specs.Parts.{Eligible, Bytes, Flags}
+use Rattle.closure.specs.Walk.{flagged}
+use Rattle.closure.specs.Ready.{Ready}
 use Rattle.marks.specs.Marks.{verdict, Inside, weighed, commonAt}
+use Rattle.grid.specs.Bounds.{mostCells, mostFunctions}
 
 -- ---- the outcome, by the first refusal
 
@@ -70,14 +72,14 @@ module _ (d : Direction) (by : By) (p : Plan) (cs fs marks cl fl : List ℕ) whe
 
   -- a refusal's answer, with the tables and lists as they were, is the call's outcome
   module _ (r : Answer) (n : ℕ) (e : r ≡ record { number = n; cells = 0; functions = 0 }) (stopped : n ≢ 0) where
-    refused-made : made r cs fs cl fl ≡ refused n cs fs cl fl
+    refused-made : outcomeOf r cs fs cl fl ≡ refused n cs fs cl fl
     unfolding refused
-    refused-made = ap (λ a. made a cs fs cl fl) e
+    refused-made = ap (λ a. outcomeOf a cs fs cl fl) e
 
-    pub check-refused : n ≡ check p cs fs → made r cs fs cl fl ≡ outcome d by p cs fs marks cl fl
+    pub check-refused : n ≡ check p cs fs → outcomeOf r cs fs cl fl ≡ outcome d by p cs fs marks cl fl
     check-refused q = refused-made ∙ ap (λ m. refused m cs fs cl fl) q ∙ sym (outcome-check (λ z. stopped (q ∙ z)))
 
-    pub mark-refused : check p cs fs ≡ 0 → n ≡ judged → made r cs fs cl fl ≡ outcome d by p cs fs marks cl fl
+    pub mark-refused : check p cs fs ≡ 0 → n ≡ judged → outcomeOf r cs fs cl fl ≡ outcome d by p cs fs marks cl fl
     mark-refused k q = refused-made ∙ ap (λ m. refused m cs fs cl fl) q ∙ sym (outcome-mark k (λ z. stopped (q ∙ z)))
 
 -- ---- what check 0 says of plan and lengths
@@ -86,7 +88,7 @@ module _ (p : Plan) (cs fs : List ℕ) (k : check p cs fs ≡ 0) where
   pub range-of : InRange p
   range-of = check-good p cs fs k .0 .range
 
-  pub small-of : cellTotal p ≤ 21845
+  pub small-of : cellTotal p ≤ mostCells
   small-of = check-good p cs fs k .0 .small
 
   pub cells-sized : length cs ≡ cellTotal p
@@ -95,7 +97,7 @@ module _ (p : Plan) (cs fs : List ℕ) (k : check p cs fs ≡ 0) where
   pub functions-sized : length fs ≡ functionTotal p
   functions-sized = ap length (check-good p cs fs k .1) ∙ length-labels p cs
 
-  pub functions-small : functionTotal p ≤ 26220
+  pub functions-small : functionTotal p ≤ mostFunctions
   functions-small = functions-bound p range-of small-of
 
 -- ---- the last level begins at its offset
@@ -135,7 +137,7 @@ module _ (p : Plan) (range : InRange p) where
 
 -- ---- refusals 7, 8, 9 by a table of kinds and the first number that is too deep
 
-module _ {d : Direction} {by : By} {p : Plan} {cs fs kinds : List ℕ} {deep : ℕ} (K : Kinds d by p cs fs deep kinds) where
+module _ {d : Direction} {by : By} {p : Plan} {cs fs kinds : List ℕ} {deep : ℕ} (K : Eligible d by p cs fs deep kinds) where
   verdict-is : (x : ℕ) → verdict kinds deep x ≡ markRefusal d by p cs fs x
   unfolding verdict markRefusal
   verdict-is x = cases (ltb x (total by p))
@@ -147,13 +149,13 @@ module _ {d : Direction} {by : By} {p : Plan} {cs fs kinds : List ℕ} {deep : �
 
 -- refining: the table itself has byte 1 where a cell (a function) is active, and the last level begins at its offset
 module _ (p : Plan) (range : InRange p) (cs fs : List ℕ) where
-  pub refine-cell-kinds : length cs ≡ cellTotal p → Kinds refine cells p cs fs (cellOffset p (p .levels - 1)) cs
-  unfolding isKind isTooDeep active
-  refine-cell-kinds l = record { sized = l; kind = λ x i. refl; depth = λ x i. sym (cell-last p range x i) }
+  pub refine-eligible-cells : length cs ≡ cellTotal p → Eligible refine cells p cs fs (cellOffset p (p .levels - 1)) cs
+  unfolding eligible isTooDeep active
+  refine-eligible-cells l = record { sized = l; kind = λ x i. refl; depth = λ x i. sym (cell-last p range x i) }
 
-  pub refine-function-kinds : length fs ≡ functionTotal p → Kinds refine functions p cs fs (functionOffset p (p .levels - 1)) fs
-  unfolding isKind isTooDeep active
-  refine-function-kinds l = record { sized = l; kind = λ x i. refl; depth = λ x i. sym (function-last p range x i) }
+  pub refine-eligible-functions : length fs ≡ functionTotal p → Eligible refine functions p cs fs (functionOffset p (p .levels - 1)) fs
+  unfolding eligible isTooDeep active
+  refine-eligible-functions l = record { sized = l; kind = λ x i. refl; depth = λ x i. sym (function-last p range x i) }
 
 -- coarsening: a table of the numbers of the right kind, and none is too deep
 bit : (b : Bool) → eqb (cond b 1 0) 1 ≡ b
@@ -168,9 +170,9 @@ none-deep : (by : By) (p : Plan) (x : ℕ) → x < total by p → leb (total by 
 unfolding isTooDeep
 none-deep by p x i = T-false (leb (total by p) x) (λ t. absurd (omega (arith, leb→le (total by p) x t)))
 
-pub coarsen-cell-kinds : (p : Plan) (cs fs : List ℕ) → Kinds coarsen cells p cs fs (cellTotal p) (tabulate (cellTotal p) (reactivableByte p cs))
-unfolding isKind reactivableByte
-coarsen-cell-kinds p cs fs = record {
+pub coarsen-eligible-cells : (p : Plan) (cs fs : List ℕ) → Eligible coarsen cells p cs fs (cellTotal p) (tabulate (cellTotal p) (reactivableByte p cs))
+unfolding eligible reactivableByte
+coarsen-eligible-cells p cs fs = record {
   sized = length-tabulate (cellTotal p) (reactivableByte p cs);
   kind = λ x i. ap (λ n. eqb n 1) (getD-tabulate (cellTotal p) (reactivableByte p cs) x 0 i) ∙ kind (reactivable p cs x);
   depth = none-deep cells p;
@@ -194,15 +196,15 @@ coarsen-bytes p cs = record {
 pub bytes-are : {d e : Direction} {p : Plan} {kinds table : List ℕ} → e ≡ d → table ≡ kinds → Bytes d p kinds → Bytes e p table
 bytes-are a b B = rw (a, b) B
 
-pub bytes-kinds : {d : Direction} {p : Plan} {table : List ℕ} → d ≡ coarsen → Bytes d p table → cover.Kinds p table
+pub bytes-kinds : {d : Direction} {p : Plan} {table : List ℕ} → d ≡ coarsen → Bytes d p table → cover.Eligible p table
 bytes-kinds {d} {p} {table} e B =
     let C : Bytes coarsen p table = bytes-are (sym e) refl B in
     record { size = C .sized; some = C .above }
 
-pub coarsen-function-kinds : (p : Plan) (cs fs over : List ℕ) (n : ℕ) → Kinds coarsen cells p cs fs n over
-    → Kinds coarsen functions p cs fs (functionTotal p) (tabulate (functionTotal p) (coarsenableByte p fs over))
-unfolding isKind coarsenableByte
-coarsen-function-kinds p cs fs over n K = record {
+pub coarsen-eligible-functions : (p : Plan) (cs fs over : List ℕ) (n : ℕ) → Eligible coarsen cells p cs fs n over
+    → Eligible coarsen functions p cs fs (functionTotal p) (tabulate (functionTotal p) (coarsenableByte p fs over))
+unfolding eligible coarsenableByte
+coarsen-eligible-functions p cs fs over n K = record {
   sized = length-tabulate (functionTotal p) (coarsenableByte p fs over);
   kind = λ x i.
       ap (λ n. eqb n 1) (getD-tabulate (functionTotal p) (coarsenableByte p fs over) x 0 i)
@@ -216,7 +218,7 @@ coarsen-function-kinds p cs fs over n K = record {
 pub marks-inside : (d : Direction) (by : By) (p : Plan) (cs fs marks : List ℕ) → first (markRefusal d by p cs fs) marks ≡ 0 → Inside (total by p) marks
 marks-inside d by p cs fs marks z = record { inside = λ x m. fits-e d by p cs fs x (first-zero (markRefusal d by p cs fs) marks z x m) .inside }
 
--- ---- flags that say what is meant
+-- ---- flags that say what is selected
 
 -- by cells, the marks themselves
 one : (b : Bool) (n : ℕ) → eqb (cond b 1 (cond (eqb n 2) 0 2)) 1 ≡ b
@@ -224,8 +226,8 @@ one true n = refl
 one false n = cases (eqb n 2) (λ t. rw (T-true (eqb n 2) t) refl) (λ t. rw (T-false (eqb n 2) (not-e (eqb n 2) t)) refl)
 
 pub cells-flags : (d : Direction) (p : Plan) (cs fs marks flags : List ℕ) → flags ≡ weighed (cellTotal p) cs marks
-    → (c : ℕ) → c < cellTotal p → flagged flags c ≡ meant d cells p cs fs marks c
-unfolding meant flagged
+    → (c : ℕ) → c < cellTotal p → flagged flags c ≡ selected d cells p cs fs marks c
+unfolding selected flagged
 cells-flags d p cs fs marks flags e c i =
     ap (λ t. eqb (getD t c 0) 1) e ∙ ap (λ n. eqb n 1) (getD-tabulate (cellTotal p) (λ x. cond (elem x marks) 1 (cond (eqb (getD cs x 0) 2) 0 2)) c 0 i)
     ∙ one (elem c marks) (getD cs c 0)
@@ -246,16 +248,16 @@ module _ (p : Plan) (cs fs marks : List ℕ) (k : check p cs fs ≡ 0) (c : ℕ)
   and-tt true = refl
   and-tt false = refl
 
-  pub means : (d : Direction) → isKind d cells p cs fs c && (underMarked p marks c && not (underKept p fs marks c)) ≡ meant d functions p cs fs marks c
-  unfolding isKind meant
+  pub means : (d : Direction) → eligible d cells p cs fs c && (underMarked p marks c && not (underKept p fs marks c)) ≡ selected d functions p cs fs marks c
+  unfolding eligible selected
   means refine = cases (active cs c)
       (λ t. rw (not-kept t) (ap (λ b. active cs c && b) (and-tt (underMarked p marks c))))
       (λ t. rw (T-false (active cs c) (not-e (active cs c) t)) refl)
   means coarsen = refl
 
-pub functions-flags : (d : Direction) (p : Plan) (cs fs marks kinds values over flags : List ℕ) {n : ℕ} → check p cs fs ≡ 0 → Kinds d cells p cs fs n kinds
+pub functions-flags : (d : Direction) (p : Plan) (cs fs marks kinds values over flags : List ℕ) {n : ℕ} → check p cs fs ≡ 0 → Eligible d cells p cs fs n kinds
     → values ≡ weighed (functionTotal p) fs marks → over ≡ tabulate (cellTotal p) (leastValue p values) → flags ≡ tabulate (cellTotal p) (commonAt kinds over)
-    → (c : ℕ) → c < cellTotal p → flagged flags c ≡ meant d functions p cs fs marks c
+    → (c : ℕ) → c < cellTotal p → flagged flags c ≡ selected d functions p cs fs marks c
 unfolding flagged
 functions-flags d p cs fs marks kinds values over flags k K ev eo ef c i =
     ap (λ t. eqb (getD t c 0) 1) ef ∙ ap (λ n. eqb n 1) (getD-tabulate (cellTotal p) (commonAt kinds over) c 0 i)
@@ -274,7 +276,7 @@ module _ (d : Direction) (by : By) (p : Plan) (cs fs marks flags : List ℕ) (k 
 
   -- the walk may go
   pub ready : Ready d p cs flags
-  ready = good-ready d p cs flags good (F .sized) (λ c i t. meant-may p cs fs marks good d by
+  ready = good-ready d p cs flags good (F .sized) (λ c i t. selected-may p cs fs marks good d by
       (λ x m. fits-e d by p cs fs x (first-zero (markRefusal d by p cs fs) marks fine x m)) c i (subst T (F .says z c i) t))
 
   -- and what the flags settle is the call's outcome
@@ -322,7 +324,7 @@ module _ (d : Direction) (p : Plan) (cs flags : List ℕ) (r : Ready d p cs flag
 -- ---- with equal parts
 
 pub kinds-are : {d e : Direction} {by : By} {p : Plan} {cs fs kinds table : List ℕ} {n m : ℕ} → e ≡ d → m ≡ n → table ≡ kinds
-    → Kinds d by p cs fs n kinds → Kinds e by p cs fs m table
+    → Eligible d by p cs fs n kinds → Eligible e by p cs fs m table
 kinds-are a b c K = rw (a, b, c) K
 
 pub flags-are : {d : Direction} {by way : By} {p : Plan} {cs fs marks flags : List ℕ} {n : ℕ} → way ≡ by

@@ -7,8 +7,8 @@ use lib.ListN.{length, getD}
 use Rattle.facts.specs.Numbers.{first}
 use Rattle.grid.specs.declared.Plan.{Plan}
 use Rattle.grid.specs.Plan.{cellTotal, functionTotal}
-use Rattle.refine.specs.Calls.{Direction, refine, coarsen, By, cells, functions, total, isKind, isTooDeep, markRefusal, meant}
-use Rattle.walk.specs.Walk.{flagged}
+use Rattle.outcomes.specs.Calls.{Direction, refine, coarsen, By, cells, functions, total, eligible, isTooDeep, markRefusal, selected}
+use Rattle.closure.specs.Walk.{flagged}
 use Rattle.calls.specs.declared.Direction as code
 use Rattle.calls.specs.declared.Direction.the-variants.{Refine, Coarsen}
 use Rattle.calls.specs.declared.By as code-by
@@ -24,9 +24,9 @@ byOf Cells = cells
 byOf Functions = functions
 
 -- byte 1 at the numbers that a mark may be, and the first that is too deep
-pub record Kinds (d : Direction) (by : By) (p : Plan) (cs fs : List ℕ) (deep : ℕ) (kinds : List ℕ) : Type 0 where
+pub record Eligible (d : Direction) (by : By) (p : Plan) (cs fs : List ℕ) (deep : ℕ) (kinds : List ℕ) : Type 0 where
   pub sized : length kinds ≡ total by p
-  pub kind : (x : ℕ) → x < total by p → eqb (getD kinds x 0) 1 ≡ isKind d by p cs fs x
+  pub kind : (x : ℕ) → x < total by p → eqb (getD kinds x 0) 1 ≡ eligible d by p cs fs x
   pub depth : (x : ℕ) → x < total by p → leb deep x ≡ isTooDeep d by p x
 
 -- a byte for each cell; when coarsening, none of them is 0
@@ -48,4 +48,4 @@ pub record Scratch (p : Plan) (flags over values : List ℕ) : Type 0 where
 pub record Flags (d : Direction) (by : By) (p : Plan) (cs fs marks : List ℕ) (n : ℕ) (flags : List ℕ) : Type 0 where
   pub number : n ≡ first (markRefusal d by p cs fs) marks
   pub sized : length flags ≡ cellTotal p
-  pub says : n ≡ 0 → (c : ℕ) → c < cellTotal p → flagged flags c ≡ meant d by p cs fs marks c
+  pub says : n ≡ 0 → (c : ℕ) → c < cellTotal p → flagged flags c ≡ selected d by p cs fs marks c

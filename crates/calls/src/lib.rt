@@ -1,8 +1,10 @@
 // The four calls: refine and coarsen, by cells and by functions. Each takes any plan, tables, marks and lists; what document 01
 // refuses gets its number and nothing is written. The marks are judged, and each cell that they mean gets a flag; the new tables
 // are made beside the old ones and are taken over once 10 and 11 are decided.
+use grid::MOST_CELLS;
+use grid::MOST_FUNCTIONS;
 use grid::Plan;
-use refine::Answer;
+use outcomes::Answer;
 ghost use mathlib.Core.Path.{_≡_};
 ghost use mathlib.Core.List.{List};
 ghost use Prim.Native.Nat.{ℕ, _≤_};
@@ -10,12 +12,13 @@ ghost use lib.ListN.{length};
 ghost use Rattle.grid.specs.Plan.{cellTotal, functionTotal};
 ghost use Rattle.grid.specs.Range.{InRange};
 ghost use Rattle.mesh.specs.Mesh.{check};
-ghost use Rattle.refine.specs.Calls as calls;
-ghost use Rattle.refine.specs.Calls.{outcome, smallest, base};
-ghost use Rattle.changes.specs.Changes.{Meets};
-ghost use Rattle.walk.specs.Walk.{flagged};
-ghost use Rattle.walk.specs.Ready.{Ready};
-ghost use Rattle.calls.specs.Parts.{directionOf, byOf, Kinds, Bytes, Scratch, Flags};
+ghost use Rattle.outcomes.specs.Calls as calls;
+ghost use Rattle.outcomes.specs.Calls.{outcome, smallest, base};
+ghost use Rattle.outcomes.specs.Contracts.{Meets};
+ghost use Rattle.closure.specs.Walk.{flagged};
+ghost use Rattle.closure.specs.Ready.{Ready};
+ghost use Rattle.calls.specs.Parts.{directionOf, byOf, Eligible, Bytes, Scratch, Flags};
+ghost use Rattle.grid.specs.Bounds.{mostCells};
 
 // Which way a call goes.
 pub enum Direction {
@@ -30,10 +33,10 @@ pub enum By {
 }
 
 // Gives byte 1 to the cells that may be marked: the active ones, or the reactivable ones. Answers the first number that is too deep.
-fn cell_kinds(direction: Direction, plan: Plan, cells: &[u8], kinds: &mut [u8]) -> u32
+fn eligible_cells(direction: Direction, plan: Plan, cells: &[u8], kinds: &mut [u8]) -> u32
     requires { ⌜ InRange plan ⌝ }
     requires { ⌜ (length (now cells) ≡ cellTotal plan) × (length (now kinds) ≡ cellTotal plan) ⌝ }
-    ensures { λ r. ⌜ ((fs : List ℕ) → Kinds (directionOf direction) calls.cells plan (now (cells .entry)) fs r (now (kinds .exit))) ⌝ }
+    ensures { λ r. ⌜ ((fs : List ℕ) → Eligible (directionOf direction) calls.cells plan (now (cells .entry)) fs r (now (kinds .exit))) ⌝ }
     ensures { λ _. ⌜ Bytes (directionOf direction) plan (now (kinds .exit)) ⌝ }
 {
     match direction {
@@ -49,16 +52,16 @@ fn cell_kinds(direction: Direction, plan: Plan, cells: &[u8], kinds: &mut [u8]) 
 }
 
 // The same of functions: the active ones, or the deactivated ones with a reactivable cell, which has byte 1 in `over`.
-fn function_kinds(
+fn eligible_functions(
     direction: Direction,
     plan: Plan,
     functions: &[u8],
     over: &[u8],
     kinds: &mut [u8],
 ) -> u32
-    requires { ⌜ (InRange plan) × (cellTotal plan ≤ 21845) ⌝ }
+    requires { ⌜ (InRange plan) × (cellTotal plan ≤ mostCells) ⌝ }
     requires { ⌜ (length (now functions) ≡ functionTotal plan) × (Bytes (directionOf direction) plan (now over)) × (length (now kinds) ≡ functionTotal plan) ⌝ }
-    ensures { λ r. ⌜ ((cs : List ℕ) (n : ℕ) → Kinds (directionOf direction) calls.cells plan cs (now (functions .entry)) n (now (over .entry)) → Kinds (directionOf direction) calls.functions plan cs (now (functions .entry)) r (now (kinds .exit))) ⌝ }
+    ensures { λ r. ⌜ ((cs : List ℕ) (n : ℕ) → Eligible (directionOf direction) calls.cells plan cs (now (functions .entry)) n (now (over .entry)) → Eligible (directionOf direction) calls.functions plan cs (now (functions .entry)) r (now (kinds .exit))) ⌝ }
 {
     match direction {
         Direction::Refine => {
@@ -89,7 +92,7 @@ fn flag_marks(
     requires { ⌜ Scratch plan (now flags) (now over) (now values) ⌝ }
     ensures { λ r. ⌜ Flags (directionOf direction) (byOf by) plan (now (cells .entry)) (now (functions .entry)) (now (marks .entry)) r (now (flags .exit)) ⌝ }
 {
-    let deep = cell_kinds(direction, plan, cells, flags);
+    let deep = eligible_cells(direction, plan, cells, flags);
     match by {
         By::Cells => {
             let number = marks::judge(flags, deep, marks);
@@ -99,7 +102,7 @@ fn flag_marks(
             marks::weigh(cells, marks, flags);
         }
         By::Functions => {
-            let last = function_kinds(direction, plan, functions, flags, values);
+            let last = eligible_functions(direction, plan, functions, flags, values);
             let number = marks::judge(values, last, marks);
             if number != 0 {
                 return number;
@@ -118,8 +121,8 @@ fn turn(direction: Direction, plan: Plan, cells: &mut [u8], flags: &[u8])
     ensures { λ _. ⌜ now (cells .exit) ≡ smallest plan (base (directionOf direction) (now (cells .entry)) (flagged (now (flags .entry)))) ⌝ }
 {
     match direction {
-        Direction::Refine => walk::refine_marked(plan, cells, flags),
-        Direction::Coarsen => walk::coarsen_marked(plan, cells, flags),
+        Direction::Refine => closure::refine_marked(plan, cells, flags),
+        Direction::Coarsen => closure::coarsen_marked(plan, cells, flags),
     }
 }
 
@@ -143,9 +146,9 @@ pub fn change(
     }
     let total = plan.cell_total() as usize;
     let count = plan.function_total() as usize;
-    let mut flag_room = [0u8; 21845];
-    let mut cell_room = [0u8; 21845];
-    let mut function_room = [0u8; 26220];
+    let mut flag_room = [0u8; MOST_CELLS];
+    let mut cell_room = [0u8; MOST_CELLS];
+    let mut function_room = [0u8; MOST_FUNCTIONS];
     let flags = &mut flag_room[..total];
     let new_cells = &mut cell_room[..total];
     let new_functions = &mut function_room[..count];

@@ -11,9 +11,11 @@ use Rattle.facts.proofs.Turns.{listed-none, listed-yes, listed-no, listed-longe
 use Rattle.grid.specs.declared.Plan.{Plan}
 use Rattle.grid.specs.Plan.{cellTotal, functionTotal}
 use Rattle.mesh.specs.Mesh.{refined}
-use Rattle.refine.specs.declared.Answer.{Answer}
-use Rattle.refine.specs.Calls.{changed, written, refused, settle}
-use Rattle.changes.specs.Changes.{Sizes, made}
+use Rattle.outcomes.specs.declared.Answer.{Answer}
+use Rattle.outcomes.specs.Calls.{changed, written, refused, settle}
+use Rattle.outcomes.specs.Contracts.{outcomeOf}
+use Rattle.changes.specs.Changes.{Sizes}
+use Rattle.grid.specs.Bounds.{mostCells, mostFunctions}
 
 pub beq-true : (b : Bool) → Bool·beq true b ≡ b
 beq-true true = refl
@@ -29,33 +31,33 @@ not-not false = refl
 
 module _ (old new : List ℕ) where
   -- the bytes at a number, tested as the code tests them
-  abbrev pub turned : ℕ → Bool
-  turned x = not (Bool·beq (eqb (getD old x 0) 2) (eqb (getD new x 0) 2))
+  abbrev pub differs : ℕ → Bool
+  differs x = not (Bool·beq (eqb (getD old x 0) 2) (eqb (getD new x 0) 2))
 
   pub changed-none : changed 0 old new ≡ []
   unfolding changed
   changed-none = listed-none _
 
-  pub changed-no : (i : ℕ) → turned i ≡ false → changed (i + 1) old new ≡ changed i old new
+  pub changed-no : (i : ℕ) → differs i ≡ false → changed (i + 1) old new ≡ changed i old new
   unfolding changed refined
-  changed-no = listed-no turned
+  changed-no = listed-no differs
 
-  pub changed-longer : (i : ℕ) → turned i ≡ true → length (changed (i + 1) old new) ≡ length (changed i old new) + 1
+  pub changed-longer : (i : ℕ) → differs i ≡ true → length (changed (i + 1) old new) ≡ length (changed i old new) + 1
   unfolding changed refined
-  changed-longer = listed-longer turned
+  changed-longer = listed-longer differs
 
   pub changed-le : (i m : ℕ) → i ≤ m → length (changed i old new) ≤ length (changed m old new)
   unfolding changed refined
-  changed-le = listed-le turned
+  changed-le = listed-le differs
 
   pub changed-short : (n : ℕ) → length (changed n old new) ≤ n
   unfolding changed
   changed-short = listed-short _
 
   pub changed-write : (ls ls₀ : List ℕ) (n i : ℕ) → n ≡ length (changed i old new) → ls ≡ changed i old new ++ drop n ls₀
-      → n < length ls₀ → turned i ≡ true → set ls n i ≡ changed (i + 1) old new ++ drop (n + 1) ls₀
+      → n < length ls₀ → differs i ≡ true → set ls n i ≡ changed (i + 1) old new ++ drop (n + 1) ls₀
   unfolding changed refined
-  changed-write = listed-write turned
+  changed-write = listed-write differs
 
 -- ---- the outcomes
 
@@ -72,22 +74,22 @@ module _ {p : Plan} {cs fs cl fl cs′ fs′ : List ℕ} {n m : ℕ} (C : Counte
   functions-are : length (changed (functionTotal p) fs fs′) ≡ m
   functions-are = sym (C .functions-counted ∙ ap (λ (k : ℕ). length (changed k fs fs′)) (C .sizes .functions-are))
 
-  pub counts-small : (n ≤ 21845) × (m ≤ 26220)
+  pub counts-small : (n ≤ mostCells) × (m ≤ mostFunctions)
   counts-small = (omega (arith, C .sizes, cells-are, changed-short cs cs′ (cellTotal p)), omega (arith, C .sizes, functions-are, changed-short fs fs′ (functionTotal p)))
 
   pub refuses-10 : {a : Answer} → a ≡ record { number = 10; cells = 0; functions = 0 } → length cl < n
-      → made a cs fs cl fl ≡ settle p cs fs cl fl cs′ fs′
+      → outcomeOf a cs fs cl fl ≡ settle p cs fs cl fl cs′ fs′
   unfolding settle refused
   refuses-10 e h = rw (e, cells-are, lt-ltb _ _ h)
 
   pub refuses-11 : {a : Answer} → a ≡ record { number = 11; cells = 0; functions = 0 } → n ≤ length cl → length fl < m
-      → made a cs fs cl fl ≡ settle p cs fs cl fl cs′ fs′
+      → outcomeOf a cs fs cl fl ≡ settle p cs fs cl fl cs′ fs′
   unfolding settle refused
   refuses-11 e h k = rw (e, cells-are, functions-are, le-ltb _ _ h, lt-ltb _ _ k)
 
   pub accepts : {cs″ fs″ cl′ fl′ : List ℕ} → n ≤ length cl → m ≤ length fl
       → cl′ ≡ written (changed (length cs) cs cs′) cl → fl′ ≡ written (changed (length fs) fs fs′) fl → cs″ ≡ cs′ → fs″ ≡ fs′
-      → made (record { number = 0; cells = n; functions = m }) cs″ fs″ cl′ fl′ ≡ settle p cs fs cl fl cs′ fs′
+      → outcomeOf (record { number = 0; cells = n; functions = m }) cs″ fs″ cl′ fl′ ≡ settle p cs fs cl fl cs′ fs′
   unfolding settle
   accepts h k ec ef ecs efs =
       rw (ec, ef, ecs, efs, C .sizes .cells-are, C .sizes .functions-are, cells-are, functions-are, le-ltb _ _ h, le-ltb _ _ k)

@@ -4,11 +4,12 @@ ghost use mathlib.Core.Path.{_≡_};
 ghost use mathlib.Core.Bool.{not, Bool·beq};
 ghost use lib.Dec.{eqb};
 ghost use lib.ListN.{length};
-ghost use Rattle.refine.specs.Calls.{changed, written, settle};
-ghost use Rattle.changes.specs.Changes.{Room, Sizes, Taken, left};
+ghost use Rattle.outcomes.specs.Calls.{changed, written, settle};
+ghost use Rattle.changes.specs.Changes.{ListRoom, Sizes, Taken};
+ghost use Rattle.outcomes.specs.Contracts.{left};
 ghost use Rattle.mesh.specs.Mesh.{labels};
 use grid::Plan;
-use refine::Answer;
+use outcomes::Answer;
 
 // The bytes of one table to another.
 pub fn copy_bytes(to: &mut [u8], from: &[u8])
@@ -50,7 +51,7 @@ fn count_changed(old: &[u8], new: &[u8]) -> usize
 
 // The numbers that changed, in rising order; the entries past them stay.
 fn list_changed(old: &[u8], new: &[u8], list: &mut [u32])
-    requires { ⌜ Room (now old) (now new) (now list) ⌝ }
+    requires { ⌜ ListRoom (now old) (now new) (now list) ⌝ }
     ensures { λ _. ⌜ now (list .exit) ≡ written (changed (length (now (old .entry))) (now (old .entry)) (now (new .entry))) (now (list .entry)) ⌝ }
 {
     let mut n: usize = 0;
@@ -77,7 +78,7 @@ pub fn refuse(number: u32) -> Answer
 
 // The list gets the numbers that changed, and the table the new bytes.
 fn take_over(table: &mut [u8], list: &mut [u32], new: &[u8])
-    requires { ⌜ Room (now table) (now new) (now list) ⌝ }
+    requires { ⌜ ListRoom (now table) (now new) (now list) ⌝ }
     ensures { λ _. ⌜ Taken table list (now (new .entry)) ⌝ }
 {
     list_changed(table, new, list);
@@ -87,7 +88,7 @@ fn take_over(table: &mut [u8], list: &mut [u32], new: &[u8])
 // The last step, when the cells are settled: the functions and their list get what the cells and the old bytes say.
 fn relabel(plan: Plan, cells: &[u8], functions: &mut [u8], list: &mut [u32], new: &[u8])
     requires { ⌜ now new ≡ labels plan (now cells) ⌝ }
-    requires { ⌜ Room (now functions) (now new) (now list) ⌝ }
+    requires { ⌜ ListRoom (now functions) (now new) (now list) ⌝ }
     ensures { λ _. ⌜ Taken functions list (labels plan (now (cells .entry))) ⌝ }
 {
     take_over(functions, list, new);

@@ -11,10 +11,6 @@ use Rattle.facts.proofs.Mapped.{part-at}
 use Rattle.mesh.specs.Mesh.{active, refined}
 use Rattle.cover.specs.Level.{family, rowReactivable, levelReactivable}
 
--- a row ends before the last one does
-pub row-ends : (r R w : ℕ) → r < R → r * w + w ≤ R * w
-row-ends r R w l = omega (arith, mul-le-mul-right w l)
-
 module _ (o : ℕ) (xs : List ℕ) where
   pub active-part : (i : ℕ) → active (midOf o (length xs - o) xs) i ≡ active xs (o + i)
   unfolding active

@@ -29,7 +29,7 @@ use Rattle.windows.specs.Level.{levelLeast, wide, high, leastValue, valueAt, Va
 use Rattle.windows.proofs.Levels.{level-entry}
 use Rattle.windows.proofs.Under.{support-one, part-size, part-ends, level-support}
 use Rattle.cover.specs.Level.{family, levelReactivable, picked, rowRead, levelRead}
-use Rattle.cover.specs.Cover.{reactivableByte, coarsenableByte, Kinds}
+use Rattle.cover.specs.Cover.{reactivableByte, coarsenableByte, NonZero}
 use Rattle.cover.proofs.Families.{refined-part, family-part}
 
 -- ---- offsets
@@ -128,8 +128,8 @@ module _ (p : Plan) (range : InRange p) (k : ℕ) (l : k < p .levels) where
   -- ---- functions
 
   -- what is picked by the least bytes of the supports
-  pub picked-at : (functions reactivables found start : List ℕ) → Kinds p reactivables → functionTotal p ≤ length start
-      → found ≡ filled 0 (high p k (p .up) * wide p k (p .across)) (levelLeast p reactivables k (p .across) (p .up)) start
+  pub picked-at : (functions reactivables found start : List ℕ) → NonZero p reactivables → functionTotal p ≤ length start
+      → found ≡ filled 0 (high p k (p .«degree_up») * wide p k (p .«degree_across»)) (levelLeast p reactivables k (p .«degree_across») (p .«degree_up»)) start
       → (j : ℕ) → j < functionRowsAt p k * functionColumnsAt p k
       → picked (midOf (functionOffset p k) (length functions - functionOffset p k) functions) found j ≡ coarsenableByte p functions reactivables (functionOffset p k + j)
   unfolding picked coarsenableByte refined
@@ -139,7 +139,7 @@ module _ (p : Plan) (range : InRange p) (k : ℕ) (l : k < p .levels) where
       let b : functionOffset p k + j < functionTotal p = omega arith in
       rw (part-at (functionOffset p k) functions j)
       (ap (λ z. cond (eqb (getD functions (functionOffset p k + j) 0) 2 && z) 1 0)
-      (ap (λ z. eqb z 1) (level-entry p reactivables found start k (p .across) (p .up) e (rw size (omega arith)) j (rw size m) ∙ level-support p range reactivables k l j m)
+      (ap (λ z. eqb z 1) (level-entry p reactivables found start k (p .«degree_across») (p .«degree_up») e (rw size (omega arith)) j (rw size m) ∙ level-support p range reactivables k l j m)
       ∙ support-one p range reactivables (functionOffset p k + j) b (kinds .some)))
 
   -- ---- cells under functions

@@ -16,7 +16,7 @@ use Rattle.facts.proofs.Numbers.{getD-tabulate}
 use Rattle.grid.specs.declared.Plan.{Plan}
 use Rattle.grid.specs.Plan.{functionTotal, supported}
 use Rattle.mesh.specs.Mesh.{refined}
-use Rattle.refine.specs.Calls.{underMarked, underKept}
+use Rattle.outcomes.specs.Calls.{underMarked, underKept}
 use Rattle.windows.specs.Level.{leastValue}
 
 -- ---- what marks mean

@@ -19,7 +19,7 @@ use Rattle.windows.specs.Windows.{two}
 use Rattle.windows.specs.Level.{levelLeast, wide, high, LevelRoom, leastValue, ValueTable}
 use Rattle.windows.proofs.Under.{part-size, part-ends}
 use Rattle.cover.specs.Level.{levelReactivable, picked, levelRead, ReadIn}
-use Rattle.cover.specs.Cover.{reactivableByte, coarsenableByte, Kinds}
+use Rattle.cover.specs.Cover.{reactivableByte, coarsenableByte, NonZero}
 use Rattle.cover.proofs.Levels.{offset-next, offset-first, offset-in, cells-in, next-in, last-none, reactivable-at, picked-at, read-at}
 
 -- how far the level's cells and functions, and the cells of the next level, reach
@@ -32,8 +32,8 @@ pub record Children (columns rows next size : ℕ) : Type 0 where
 -- the level's functions
 module _ (p : Plan) (range : InRange p) (k : ℕ) (l : k < p .levels) where
   pub coarsenable-pass : {at n : ℕ} (functions reactivables found start out zs : List ℕ) → at ≡ functionOffset p k → n ≡ functionRowsAt p k * functionColumnsAt p k
-      → Kinds p reactivables → functionTotal p ≤ length start → length out ≡ functionTotal p
-      → found ≡ filled 0 (high p k (p .up) * wide p k (p .across)) (levelLeast p reactivables k (p .across) (p .up)) start
+      → NonZero p reactivables → functionTotal p ≤ length start → length out ≡ functionTotal p
+      → found ≡ filled 0 (high p k (p .«degree_up») * wide p k (p .«degree_across»)) (levelLeast p reactivables k (p .«degree_across») (p .«degree_up»)) start
       → zs ≡ filled 0 n (picked (midOf at (length functions - at) functions) found) (midOf at (length out - at) out)
       → putMid at (length out - at) out zs ≡ filled (functionOffset p k) (functionRowsAt p k * functionColumnsAt p k) (coarsenableByte p functions reactivables) out
   coarsenable-pass functions reactivables found start out zs ea en kinds room e made z =
@@ -41,7 +41,7 @@ module _ (p : Plan) (range : InRange p) (k : ℕ) (l : k < p .levels) where
       ∙ filled-part (functionOffset p k) (functionRowsAt p k * functionColumnsAt p k) (coarsenableByte p functions reactivables) _ out (omega (arith, part-ends p range reactivables k l))
       (picked-at p range k l functions reactivables found start kinds room made))
 
-  pub level-room : {n m : ℕ} (reactivables : List ℕ) → Kinds p reactivables → functionTotal p ≤ n → functionTotal p ≤ m → LevelRoom p k (length reactivables) n m (p .across) (p .up)
+  pub level-room : {n m : ℕ} (reactivables : List ℕ) → NonZero p reactivables → functionTotal p ≤ n → functionTotal p ≤ m → LevelRoom p k (length reactivables) n m (p .«degree_across») (p .«degree_up»)
   level-room reactivables kinds x y =
       let ends = part-ends p range reactivables k l in
       let size = part-size p range reactivables k l in

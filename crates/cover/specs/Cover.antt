@@ -8,7 +8,7 @@ use lib.ListN.{length, getD}
 use Rattle.facts.specs.Bounded.{some}
 use Rattle.grid.specs.declared.Plan.{Plan}
 use Rattle.grid.specs.Plan.{cellTotal, supported}
-use Rattle.mesh.specs.Mesh.{refined, reactivable}
+use Rattle.mesh.specs.Mesh.{deactivated, reactivable}
 
 -- 1 for "a split cell whose four children are active", 2 for any other
 unfoldable pub reactivableByte : Plan → List ℕ → ℕ → ℕ
@@ -17,9 +17,9 @@ reactivableByte p cells c = cond (reactivable p cells c) 1 2
 -- 1 for a "deactivated function with a joinable cell of its own level in its support"
 unfoldable pub coarsenableByte : Plan → List ℕ → List ℕ → ℕ → ℕ
 coarsenableByte p functions reactivables f =
-    cond (refined functions f && some (cellTotal p) (λ c. supported p f c && eqb (getD reactivables c 0) 1)) 1 0
+    cond (deactivated functions f && some (cellTotal p) (λ c. supported p f c && eqb (getD reactivables c 0) 1)) 1 0
 
 -- a byte for each cell, none of them 0
-pub record Kinds (p : Plan) (table : List ℕ) : Type 0 where
+pub record NonZero (p : Plan) (table : List ℕ) : Type 0 where
   pub size : length table ≡ cellTotal p
   pub some : (c : ℕ) → c < cellTotal p → 1 ≤ getD table c 0

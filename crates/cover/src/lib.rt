@@ -3,6 +3,7 @@
 // marks and to know which cells the marks mean.
 mod family; // a cell with its children
 
+use grid::MOST_FUNCTIONS;
 use grid::Plan;
 use grid::Side;
 ghost use mathlib.Core.Path.{_≡_};
@@ -14,10 +15,11 @@ ghost use Rattle.facts.specs.Numbers.{tabulate};
 ghost use Rattle.facts.specs.Mapped.{filled};
 ghost use Rattle.grid.specs.Range.{InRange};
 ghost use Rattle.grid.specs.Plan.{columnsAt, rowsAt, functionColumnsAt, functionRowsAt, cellOffset, functionOffset, cellTotal, functionTotal};
-ghost use Rattle.cover.specs.Cover.{reactivableByte, coarsenableByte, Kinds};
+ghost use Rattle.cover.specs.Cover.{reactivableByte, coarsenableByte, NonZero};
 ghost use Rattle.cover.specs.Level.{picked, rowRead, levelRead, ReadIn};
 ghost use Rattle.grid.specs.Side.{SideIn, firsts};
 ghost use Rattle.windows.specs.Level.{leastValue, NearRoom};
+ghost use Rattle.grid.specs.Bounds.{mostCells};
 
 // The cells of a level that has a next one. The next level's part of the table begins at its own offset.
 fn reactivable_on(plan: Plan, cells: &[u8], out: &mut [u8], level: u32)
@@ -87,7 +89,7 @@ fn coarsenable_on(
     level: u32,
 )
     requires { ⌜ InRange plan ⌝ }
-    requires { ⌜ (length (now functions) ≡ functionTotal plan) × (Kinds plan (now reactivables)) × (length (now out) ≡ functionTotal plan) ⌝ }
+    requires { ⌜ (length (now functions) ≡ functionTotal plan) × (NonZero plan (now reactivables)) × (length (now out) ≡ functionTotal plan) ⌝ }
     requires { ⌜ (functionTotal plan ≤ length (now scratch)) × (functionTotal plan ≤ length (now least)) ⌝ }
     requires { ⌜ level < plan .levels ⌝ }
     ensures { λ _. ⌜ now (out .exit) ≡ filled (functionOffset plan level) (functionRowsAt plan level * functionColumnsAt plan level) (coarsenableByte plan (now (functions .entry)) (now (reactivables .entry))) (now (out .entry)) ⌝ }
@@ -95,8 +97,8 @@ fn coarsenable_on(
     let columns = plan.function_columns_at(level) as usize;
     let rows = plan.function_rows_at(level) as usize;
     let at = plan.function_offset(level) as usize;
-    let across = plan.across as usize;
-    let up = plan.up as usize;
+    let across = plan.degree_across as usize;
+    let up = plan.degree_up as usize;
     windows::level(plan, reactivables, level, scratch, least, across, up);
     pick(&functions[at..], least, &mut out[at..], rows * columns);
 }
@@ -110,7 +112,7 @@ fn coarsenable_levels(
     least: &mut [u8],
 )
     requires { ⌜ InRange plan ⌝ }
-    requires { ⌜ (length (now functions) ≡ functionTotal plan) × (Kinds plan (now reactivables)) × (length (now out) ≡ functionTotal plan) ⌝ }
+    requires { ⌜ (length (now functions) ≡ functionTotal plan) × (NonZero plan (now reactivables)) × (length (now out) ≡ functionTotal plan) ⌝ }
     requires { ⌜ (functionTotal plan ≤ length (now scratch)) × (functionTotal plan ≤ length (now least)) ⌝ }
     ensures { λ _. ⌜ now (out .exit) ≡ tabulate (functionTotal plan) (coarsenableByte plan (now (functions .entry)) (now (reactivables .entry))) ⌝ }
 {
@@ -124,13 +126,13 @@ fn coarsenable_levels(
 
 // 1 for each deactivated function with a reactivable cell in its support, 0 for any other.
 pub fn coarsenable_functions(plan: Plan, functions: &[u8], reactivables: &[u8], out: &mut [u8])
-    requires { ⌜ (InRange plan) × (cellTotal plan ≤ 21845) ⌝ }
-    requires { ⌜ (length (now functions) ≡ functionTotal plan) × (Kinds plan (now reactivables)) × (length (now out) ≡ functionTotal plan) ⌝ }
+    requires { ⌜ (InRange plan) × (cellTotal plan ≤ mostCells) ⌝ }
+    requires { ⌜ (length (now functions) ≡ functionTotal plan) × (NonZero plan (now reactivables)) × (length (now out) ≡ functionTotal plan) ⌝ }
     ensures { λ _. ⌜ now (out .exit) ≡ tabulate (functionTotal plan) (coarsenableByte plan (now (functions .entry)) (now (reactivables .entry))) ⌝ }
 {
-    let room: usize = 26220;
-    let mut scratch = [0u8; 26220];
-    let mut least = [0u8; 26220];
+    let room = MOST_FUNCTIONS;
+    let mut scratch = [0u8; MOST_FUNCTIONS];
+    let mut least = [0u8; MOST_FUNCTIONS];
     coarsenable_levels(
         plan,
         functions,
@@ -215,12 +217,12 @@ fn cover_levels(plan: Plan, values: &[u8], out: &mut [u8], scratch: &mut [u8], t
 
 // The least value of the functions that have a cell in their supports, for each cell.
 pub fn cover(plan: Plan, values: &[u8], out: &mut [u8])
-    requires { ⌜ (InRange plan) × (cellTotal plan ≤ 21845) ⌝ }
+    requires { ⌜ (InRange plan) × (cellTotal plan ≤ mostCells) ⌝ }
     requires { ⌜ (length (now values) ≡ functionTotal plan) × (length (now out) ≡ cellTotal plan) ⌝ }
     ensures { λ _. ⌜ now (out .exit) ≡ tabulate (cellTotal plan) (leastValue plan (now (values .entry))) ⌝ }
 {
-    let room: usize = 26220;
-    let mut scratch = [0u8; 26220];
-    let mut table = [0u8; 26220];
+    let room = MOST_FUNCTIONS;
+    let mut scratch = [0u8; MOST_FUNCTIONS];
+    let mut table = [0u8; MOST_FUNCTIONS];
     cover_levels(plan, values, out, &mut scratch[..room], &mut table[..room]);
 }

@@ -5,5 +5,6 @@ pub mod Sums
 pub mod Least
 pub mod Ranges
 pub mod Turns
-pub mod Greatest
 pub mod Mapped
+pub mod Zeros
+pub mod Rows

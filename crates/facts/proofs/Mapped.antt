@@ -2,8 +2,8 @@
 use mathlib.Core.Path.{_≡_, refl, sym, ap, _∙_}
 use mathlib.Core.Bool.{true, false, cond}
 use mathlib.Core.List.{List, _++_}
-use Prim.Native.Nat.{ℕ, max, _+_, _-_, _≤_, _<_}
-use native.Mathlib.Nat.{le-of-eq, max-zero, zero-max}
+use Prim.Native.Nat.{ℕ, _+_, _-_, _≤_, _<_}
+use native.Mathlib.Nat.{le-of-eq}
 use native.Mathlib.Omega.{arith}
 use lib.Dec.{leb, ltb, ltb→lt, nltb→le}
 use lib.ListN.{length, getD, set, take, drop, length-set, length-drop, List·getD-append}
@@ -11,7 +11,7 @@ use lib.Seq.{getD-set-same, getD-set-other, getD-append-add, getD-take, getD-dro
 use borrow.Author.Tests.{lt-ltb, le-leb, lt-leb}
 use borrow.Rule.Slice.PartMut.{putMid, midOf, postOf, same-len-mid}
 use Rattle.facts.specs.Numbers.{tabulate}
-use Rattle.facts.specs.Mapped.{inRun, mapped, filled, raised}
+use Rattle.facts.specs.Mapped.{inRun, mapped, filled}
 use Rattle.facts.proofs.Tests.{and-r, cases, T-false}
 use Rattle.facts.proofs.Ranges.{mid-len}
 use Rattle.facts.proofs.Numbers.{length-tabulate, getD-tabulate, tabulate-is}
@@ -144,57 +144,3 @@ module _ (f : ℕ → ℕ) (n : ℕ) (xs ys : List ℕ) (e : ys ≡ filled 0 n f
   fill-part m g zs l q h =
       ap (putMid n (length ys - n) ys) q
       ∙ (filled-part n m f g ys (omega (arith, fill-length)) h ∙ (ap (filled n m f) e ∙ filled-more 0 n n m f xs (omega arith)))
-
--- ---- entries raised
-
-pub raised-length : (f : ℕ → ℕ) (xs : List ℕ) → length (raised f xs) ≡ length xs
-unfolding raised
-raised-length f xs = mapped-length _ xs
-
-pub raised-at : (f : ℕ → ℕ) (xs : List ℕ) (i : ℕ) → i < length xs → getD (raised f xs) i 0 ≡ max (getD xs i 0) (f i)
-unfolding raised
-raised-at f xs i l = mapped-at _ xs i l
-
-pub raised-none : (f : ℕ → ℕ) (xs : List ℕ) → ((i : ℕ) → i < length xs → f i ≡ 0) → xs ≡ raised f xs
-unfolding raised
-raised-none f xs h = mapped-is _ xs xs refl (λ i l. rw (h i l) (sym (max-zero (getD xs i 0))))
-
-pub raised-same : (f g : ℕ → ℕ) (xs : List ℕ) → ((i : ℕ) → i < length xs → f i ≡ g i) → raised f xs ≡ raised g xs
-unfolding raised
-raised-same f g xs h = mapped-is _ xs _ (mapped-length _ xs) (λ i l. mapped-at _ xs i l ∙ rw (h i l))
-
-pub raised-more : (f g h : ℕ → ℕ) (xs : List ℕ) → ((i : ℕ) → max (f i) (g i) ≡ h i) → raised g (raised f xs) ≡ raised h xs
-unfolding raised
-raised-more f g h xs e = mapped-more _ _ _ xs (λ i x. rw (← e i) (omega arith))
-
--- one run, entry by entry
-pub run-none : (a v : ℕ) (xs : List ℕ) → xs ≡ raised (λ i. cond (inRun a 0 i) v 0) xs
-run-none a v xs = raised-none _ xs (λ i l. cases (ltb i a) (λ t. rw (run-before a 0 i (ltb→lt i a t))) (λ t. rw (run-after a 0 i (omega (arith, nltb→le i a t)))))
-
-raised-set : (a v : ℕ) (xs : List ℕ) → a < length xs → set xs a (max (getD xs a 0) v) ≡ raised (λ i. cond (inRun a 1 i) v 0) xs
-unfolding raised
-raised-set a v xs l = mapped-is _ xs (set xs a (max (getD xs a 0) v)) (length-set xs a _) (λ i m. run-e a 1 i
-    (λ u. rw (run-before a 1 i u, max-zero (getD xs i 0)) (getD-set-other xs a i _ 0 (omega arith)))
-    (λ u w. let q : i ≡ a = omega arith in rw (run-in a 1 i u w, q) (getD-set-same xs a _ 0 l))
-    (λ u. rw (run-after a 1 i u, max-zero (getD xs i 0)) (getD-set-other xs a i _ 0 (omega arith))))
-
-runs-join : (a m n v i : ℕ) → max (cond (inRun a m i) v 0) (cond (inRun (a + m) n i) v 0) ≡ cond (inRun a (m + n) i) v 0
-runs-join a m n v i = run-e a m i
-    (λ l. rw (run-before a m i l, run-before (a + m) n i (omega arith), run-before a (m + n) i l))
-    (λ l u. rw (run-in a m i l u, run-before (a + m) n i (omega arith), run-in a (m + n) i l (omega arith)) (max-zero v))
-    (λ l. rw (run-after a m i l) (run-e (a + m) n i
-    (λ u. absurd (omega arith))
-    (λ u w. rw (run-in (a + m) n i u w, run-in a (m + n) i (omega arith) (omega arith)) (zero-max v))
-    (λ u. rw (run-after (a + m) n i u, run-after a (m + n) i (omega arith)))))
-
-pub run-more : (a n v : ℕ) (xs ys : List ℕ) → ys ≡ raised (λ i. cond (inRun a n i) v 0) xs → a + n < length xs
-    → set ys (a + n) (max (getD ys (a + n) 0) v) ≡ raised (λ i. cond (inRun a (n + 1) i) v 0) xs
-run-more a n v xs ys e l =
-    raised-set (a + n) v ys (omega (arith, ap length e, raised-length (λ i. cond (inRun a n i) v 0) xs))
-    ∙ (ap (raised (λ i. cond (inRun (a + n) 1 i) v 0)) e ∙ raised-more _ _ _ xs (runs-join a n 1 v))
-
--- through a part
-pub raised-part : (o : ℕ) (f g : ℕ → ℕ) (xs : List ℕ) → o ≤ length xs → ((i : ℕ) → i < o → f i ≡ 0) → ((j : ℕ) → o + j < length xs → g j ≡ f (o + j))
-    → putMid o (length xs - o) xs (raised g (midOf o (length xs - o) xs)) ≡ raised f xs
-unfolding raised
-raised-part o f g xs l before inside = mapped-part o _ _ xs l (λ i x u. rw (before i u) (sym (max-zero x))) (λ j x b. rw (inside j b))

@@ -2,5 +2,4 @@ pub mod Bounded
 pub mod Numbers
 pub mod Least
 pub mod Ranges
-pub mod Greatest
 pub mod Mapped

@@ -1,7 +1,7 @@
--- A table whose entries are made from what stood there: some are replaced, or each is raised. Definitions only.
+-- A table whose entries are made from what stood there: some are replaced. Definitions only.
 use mathlib.Core.Bool.{Bool, _&&_, cond}
 use mathlib.Core.List.{List}
-use Prim.Native.Nat.{ℕ, max, _+_}
+use Prim.Native.Nat.{ℕ, _+_}
 use lib.Dec.{leb, ltb}
 use lib.ListN.{length, getD}
 use Rattle.facts.specs.Numbers.{tabulate}
@@ -17,7 +17,3 @@ mapped g xs = tabulate (length xs) (λ i. g i (getD xs i 0))
 -- the n entries from a on are f's, the others stay
 unfoldable pub filled : ℕ → ℕ → (ℕ → ℕ) → List ℕ → List ℕ
 filled a n f xs = mapped (λ i x. cond (inRun a n i) (f i) x) xs
-
--- each entry is the larger of what stands there and f's
-unfoldable pub raised : (ℕ → ℕ) → List ℕ → List ℕ
-raised f xs = mapped (λ i x. max x (f i)) xs

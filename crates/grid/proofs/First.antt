@@ -30,8 +30,8 @@ pub record Under (p : Plan) (f c : Place) : Type 0 where
 -- the cell at c is around that at a, of the same level
 pub record Around (p : Plan) (a c : Place) : Type 0 where
   pub level : a .level ≡ c .level
-  pub columns : Apart (p .across) (firstOver (acrossAt p (c .level)) (c .column)) (firstOver (acrossAt p (c .level)) (a .column))
-  pub rows : Apart (p .up) (firstOver (upAt p (c .level)) (c .row)) (firstOver (upAt p (c .level)) (a .row))
+  pub columns : Apart (p .«degree_across») (firstOver (acrossAt p (c .level)) (c .column)) (firstOver (acrossAt p (c .level)) (a .column))
+  pub rows : Apart (p .«degree_up») (firstOver (upAt p (c .level)) (c .row)) (firstOver (upAt p (c .level)) (a .row))
 
 module _ (p : Plan) (range : InRange p) where
   module _ (f c : ℕ) (b : c < cellTotal p) where

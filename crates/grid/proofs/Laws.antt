@@ -44,10 +44,10 @@ module _ (p : Plan) where
   r3 = between 1 8 (p .levels)
 
   abbrev r4 : Bool
-  r4 = between 1 4 (p .across)
+  r4 = between 1 4 (p .«degree_across»)
 
   abbrev r5 : Bool
-  r5 = between 1 4 (p .up)
+  r5 = between 1 4 (p .«degree_up»)
 
   abbrev r6 : Bool
   r6 = eqb (p .class) 0 || between 2 8 (p .class)
@@ -81,8 +81,8 @@ module _ (p : Plan) where
       let t1 = between-i 1 16 (p .columns) (i .columns≥) (i .columns≤) in
       let t2 = between-i 1 16 (p .rows) (i .rows≥) (i .rows≤) in
       let t3 = between-i 1 8 (p .levels) (i .levels≥) (i .levels≤) in
-      let t4 = between-i 1 4 (p .across) (i .across≥) (i .across≤) in
-      let t5 = between-i 1 4 (p .up) (i .up≥) (i .up≤) in
+      let t4 = between-i 1 4 (p .«degree_across») (i .across≥) (i .across≤) in
+      let t5 = between-i 1 4 (p .«degree_up») (i .up≥) (i .up≤) in
       let t6 : T r6 = cases (eqb (p .class) 0) (λ z. or-l (eqb (p .class) 0) (between 2 8 (p .class)) z) (λ z. or-r (eqb (p .class) 0) (between 2 8 (p .class)) (between-i 2 8 (p .class) (omega (arith, differ (p .class) 0 z, i .class≢)) (i .class≤))) in
       and-i r1 _ t1 (and-i r2 _ t2 (and-i r3 _ t3 (and-i r4 _ t4 (and-i r5 r6 t5 t6))))
 
@@ -236,8 +236,8 @@ apart-test g x y a = and-i (leb x (y + g)) (leb y (x + g)) (le→leb x (y + g) (
 pub record Near (p : Plan) (q c : Place) : Type 0 where
   pub graded : p .class ≢ 0
   pub levels : q .level + 1 ≡ c .level + p .class
-  pub columns : Apart (p .across) (c .column) (ancestor p (p .class - 1) (q .column))
-  pub rows : Apart (p .up) (c .row) (ancestor p (p .class - 1) (q .row))
+  pub columns : Apart (p .«degree_across») (c .column) (ancestor p (p .class - 1) (q .column))
+  pub rows : Apart (p .«degree_up») (c .row) (ancestor p (p .class - 1) (q .row))
 
 module _ (p : Plan) (q c : Place) where
   abbrev classed : Bool
@@ -247,10 +247,10 @@ module _ (p : Plan) (q c : Place) where
   leveled = eqb (q .level + 1) (c .level + p .class)
 
   abbrev columned : Bool
-  columned = apart (p .across) (c .column) (ancestor p (p .class - 1) (q .column))
+  columned = apart (p .«degree_across») (c .column) (ancestor p (p .class - 1) (q .column))
 
   abbrev rowed : Bool
-  rowed = apart (p .up) (c .row) (ancestor p (p .class - 1) (q .row))
+  rowed = apart (p .«degree_up») (c .row) (ancestor p (p .class - 1) (q .row))
 
   pub near-fact : T (nearAt p q c) → Near p q c
   unfolding nearAt

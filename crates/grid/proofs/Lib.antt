@@ -1,4 +1,5 @@
 pub mod Numbering
+pub mod Levels
 pub mod Direction
 pub mod Laws
 pub mod Small

@@ -28,17 +28,17 @@ module _ (w h : ℕ → ℕ) where
       go true e ih = let i = ih (ltb-true _ _ e) in omega arith
       go false e ih = omega (arith, ltb-false)
 
-  pub offset-step : (j k : ℕ) → j < k → offset w h j + h j * w j ≤ offset w h k
+  pub level-ends : (j k : ℕ) → j < k → offset w h j + h j * w j ≤ offset w h k
   unfolding offset
-  offset-step j zero b = absurd (omega arith)
-  offset-step j (suc k) b = go (eq-or-lt-of-le (le-of-suc-le-suc b)) (offset-step j k)
+  level-ends j zero b = absurd (omega arith)
+  level-ends j (suc k) b = go (eq-or-lt-of-le (le-of-suc-le-suc b)) (level-ends j k)
     where
       go : (j ≡ k) ⊎ (j < k) → (j < k → offset w h j + h j * w j ≤ offset w h k) → offset w h j + h j * w j ≤ offset w h k + h k * w k
       go (inl e) ih = rw e (le-refl _)
       go (inr l) ih = let i = ih l in omega arith
 
   on-least : (L n : ℕ) {j k : ℕ} → On L n j → On L n k → ¬ (j < k)
-  on-least L n {j} {k} a b l = let s = offset-step j k l in omega arith
+  on-least L n {j} {k} a b l = let s = level-ends j k l in omega arith
 
   on-one : (L n : ℕ) {j k : ℕ} → On L n j → On L n k → j ≡ k
   on-one L n a b = omega (arith, on-least L n a b, on-least L n b a)
@@ -49,7 +49,7 @@ module _ (w h : ℕ → ℕ) where
   number-on L x i = omega (arith, i .level<, digits-lt (i .row<) (i .column<))
 
   pub number-lt : (L : ℕ) (x : Place) → Inside w h L x → number w h x < offset w h L
-  number-lt L x i = omega (arith, number-on L x i .to, offset-step (x .level) L (i .level<))
+  number-lt L x i = omega (arith, number-on L x i .to, level-ends (x .level) L (i .level<))
 
   placeOn-number : (x : Place) → x .column < w (x .level) → placeOn w h (number w h x) (x .level) ≡ x
   unfolding placeOn number
@@ -68,7 +68,7 @@ module _ (w h : ℕ → ℕ) where
   place-rest L n k rest l e m =
       let q : n - offset w h k ≡ rest = omega arith in
       let o : On L n k = omega arith in
-      let b : n < offset w h L = omega (arith, offset-step k L l) in
+      let b : n < offset w h L = omega (arith, level-ends k L l) in
       sym (place-on L n k o b ∙ (λ i. record { level = k; row = q i / w k; column = q i % w k }))
 
   -- another level follows one that does not have the number

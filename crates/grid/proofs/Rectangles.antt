@@ -1,20 +1,22 @@
--- Rectangles of a plan's cells: supports and neighbourhoods are some, and the numbers of a rectangle's cells are counted row by row.
+-- Rectangles of a plan's cells: the children and the neighbourhood of a cell are some, and the numbers of a rectangle's cells are counted row by row.
 -- Assumes nothing.
-use Prim.Native.Nat.{ℕ, min, _+_, _-_, _*_, _<_, _≤_}
-use native.Mathlib.Nat.{le-min, min-le-left, min-le-right}
+use Prim.Native.Nat.{ℕ, suc, pred, min, _+_, _-_, _*_, _/_, _<_, _≤_}
+use native.Mathlib.Nat.{le-min, min-le-right, mod-lt, div-add-mod'}
+use native.Mathlib.Numerals.{add-one}
 use native.Mathlib.Omega.{arith}
 use mathlib.Core.Bool.{Bool, _&&_}
-use mathlib.Core.Path.{_≡_, refl, sym, _∙_}
+use mathlib.Core.Path.{_≡_, refl, sym, ap, _∙_}
 use lib.Dec.{T}
+use lib.Arith.{digits-div}
 use Rattle.grid.specs.declared.Plan.{Plan}
 use Rattle.grid.specs.declared.Place.{Place}
 use Rattle.grid.specs.declared.Span.{Span}
 use Rattle.grid.specs.declared.Rectangle.{Rectangle}
-use Rattle.grid.specs.Plan.{ratio, columnsAt, rowsAt, cellTotal, cellPlace, cellNumber, cellLevel, CellInside, FunctionInside, ancestor}
+use Rattle.grid.specs.Plan.{ratio, grown, columnsAt, rowsAt, cellTotal, cellPlace, cellNumber, cellLevel, CellInside, above, parent}
 use Rattle.grid.specs.Range.{InRange, HasNeighbourhood}
-use Rattle.grid.specs.Spans.{inSpan, inRectangle, supportSpan, aroundSpan, supportOf, around, ancestorOf, neighbourhood}
-use Rattle.grid.proofs.Direction.{grown-pos}
-use Rattle.grid.proofs.Laws.{ratio-pos, cell-inside, cell-number-lt, cell-number-place, cell-place-number}
+use Rattle.grid.specs.Spans.{inSpan, inRectangle, aroundSpan, finerSpan, childrenOf, around, ancestorOf, neighbourhood}
+use Rattle.grid.proofs.Direction.{grown-down}
+use Rattle.grid.proofs.Laws.{ratio-pos, cell-number-lt, cell-number-place, cell-place-number, parent-place}
 use Rattle.grid.proofs.Spans.{InSpan, InRectangle, rectangle-fact, rectangle-test, ancestor-in}
 
 abbrev at : ℕ → ℕ → ℕ → Place
@@ -59,28 +61,67 @@ module _ (p : Plan) (range : InRange p) (r : Rectangle) (i : RectangleIn p r) wh
         let e : cellPlace p c .level ≡ r .level = sym (cell-in-rectangle .level) in
         sym (cell-number-place p range c b) ∙ (λ j. cellNumber p (at (e j) (cellPlace p c .row) (cellPlace p c .column)))
 
--- ---- supports and neighbourhoods are rectangles of the plan's cells
+-- ---- the children of a cell
 
-pub support-span-in : (n d i : ℕ) → 0 < n → i < n + d → SpanIn n (supportSpan n d i)
-unfolding supportSpan
-support-span-in n d i z l = record {
-  some = omega (arith, le-min {k = i - d} {a = n - 1} {b = i} (omega arith) (omega arith));
-  within = omega (arith, min-le-left (n - 1) i);
+-- one direction: the columns on x are those that x is above
+module _ (s x y : ℕ) (z : 0 < s) where
+  finer-down : InSpan (finerSpan s x) y → y / s ≡ x
+  unfolding finerSpan
+  finer-down i =
+      let low : x * s ≤ y = i .from in
+      let high : y < x * s + s = i .to in
+      let e : y ≡ x * s + (y - x * s) = omega arith in
+      rw e (digits-div x (omega arith))
+
+  finer-up : y / s ≡ x → InSpan (finerSpan s x) y
+  unfolding finerSpan
+  finer-up e = let d = div-add-mod' y s in let m = mod-lt y z in let q : y / s * s ≡ x * s = ap (λ n. n * s) e in omega arith
+
+finer-in : (s b k x : ℕ) → 0 < s → x < grown s b k → SpanIn (grown s b (suc k)) (finerSpan s x)
+unfolding finerSpan
+finer-in s b k x z l = record { some = omega arith; within = omega (arith, grown-down s z b k x (s - 1) l (omega arith)) }
+
+pub children-in : (p : Plan) → (x : Place) → x .level + 1 < p .levels → CellInside p x → RectangleIn p (childrenOf p x)
+unfolding childrenOf
+children-in p x l i = record {
+  level< = l;
+  rows = rw (add-one (x .level)) (finer-in (ratio p) (p .rows) (x .level) (x .row) (ratio-pos p) (i .row<));
+  columns = rw (add-one (x .level)) (finer-in (ratio p) (p .columns) (x .level) (x .column) (ratio-pos p) (i .column<));
 }
+
+-- its rectangle has the cells whose parent it is
+module _ (p : Plan) (range : InRange p) (c d : ℕ) (b : c < cellTotal p) (e : d < cellTotal p) where
+  pub in-children : 0 < cellLevel p d → parent p d ≡ c → T (inRectangle (childrenOf p (cellPlace p c)) (cellPlace p d))
+  unfolding childrenOf above
+  in-children z q =
+      let a : above p (cellPlace p d) ≡ cellPlace p c = sym (parent-place p range d e z) ∙ ap (cellPlace p) q in
+      let l : pred (cellLevel p d) + 1 ≡ cellLevel p d = omega arith in
+      rectangle-test _ _ (record {
+        level = rw (← a) l;
+        columns = rw (← a) (finer-up (ratio p) _ _ (ratio-pos p) refl);
+        rows = rw (← a) (finer-up (ratio p) _ _ (ratio-pos p) refl);
+      })
+
+  pub children-parent : T (inRectangle (childrenOf p (cellPlace p c)) (cellPlace p d)) → (0 < cellLevel p d) × (parent p d ≡ c)
+  unfolding childrenOf above parent
+  children-parent t =
+      let i = rectangle-fact (childrenOf p (cellPlace p c)) (cellPlace p d) t in
+      let z : 0 < cellLevel p d = omega (arith, i .level) in
+      let l : pred (cellLevel p d) ≡ cellLevel p c = omega (arith, i .level) in
+      let a : above p (cellPlace p d) ≡ cellPlace p c = λ j. record {
+        level = l j;
+        row = finer-down (ratio p) _ _ (ratio-pos p) (i .rows) j;
+        column = finer-down (ratio p) _ _ (ratio-pos p) (i .columns) j;
+      } in
+      (z, ap (cellNumber p) a ∙ cell-number-place p range c b)
+
+-- ---- a neighbourhood
 
 around-span-in : (n d x : ℕ) → x < n → SpanIn n (aroundSpan n d x)
 unfolding aroundSpan
 around-span-in n d x l = record {
   some = le-min {a = x + d + 1} {b = n} (omega arith) (omega arith);
   within = min-le-right (x + d + 1) n;
-}
-
-pub support-in : (p : Plan) → InRange p → (x : Place) → FunctionInside p x → RectangleIn p (supportOf p x)
-unfolding supportOf
-support-in p range x i = record {
-  level< = i .level<;
-  rows = support-span-in (rowsAt p (x .level)) (p .up) (x .row) (grown-pos (ratio p) (ratio-pos p) (p .rows) (x .level) (range .rows≥)) (i .row<);
-  columns = support-span-in (columnsAt p (x .level)) (p .across) (x .column) (grown-pos (ratio p) (ratio-pos p) (p .columns) (x .level) (range .columns≥)) (i .column<);
 }
 
 -- the level of the neighbourhoods of the cells of level j

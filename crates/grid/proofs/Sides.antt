@@ -1,25 +1,18 @@
--- One direction of one level: its supports are spans of its columns. Assumes nothing.
+-- One direction of one level: how many functions it has, and which are the first over a column. Assumes nothing.
 use Prim.Native.Nat.{ℕ, _+_, _≤_, _<_}
 use native.Mathlib.Omega.{arith}
 use mathlib.Core.Path.{_≡_, refl, _∙_}
 use Rattle.grid.specs.declared.Plan.{Plan}
 use Rattle.grid.specs.declared.Side.{Side}
-use Rattle.grid.specs.Plan.{ratio, functionColumnsAt, functionRowsAt, columnsAt, rowsAt, acrossAt, upAt}
+use Rattle.grid.specs.Plan.{ratio, functionColumnsAt, functionRowsAt, acrossAt, upAt}
 use Rattle.grid.specs.Range.{InRange}
-use Rattle.grid.specs.Spans.{supportSpan}
-use Rattle.grid.specs.Side.{functions, supportOver, firstOver, firsts, SideIn}
+use Rattle.grid.specs.Side.{functions, firstOver, firsts, SideIn}
 use Rattle.grid.proofs.Direction.{grown-pos}
 use Rattle.grid.proofs.Laws.{ratio-pos}
 use Rattle.grid.proofs.Small.{grown-small}
-use Rattle.grid.proofs.Rectangles.{SpanIn, support-span-in}
 
 pub side-same : {s t : Side} → s .cells ≡ t .cells → s .degree ≡ t .degree → s ≡ t
 side-same a b = λ i. record { cells = a i; degree = b i }
-
--- a support is a span of the columns, and not empty
-pub over-in : (s : Side) → SideIn s → (i : ℕ) → i < functions s → SpanIn (s .cells) (supportOver s i)
-unfolding functions supportOver
-over-in s r i l = support-span-in (s .cells) (s .degree) i (r .cells≥) l
 
 pub functions-pos : (s : Side) → SideIn s → 0 < functions s
 unfolding functions
@@ -61,17 +54,8 @@ pub up-functions : (p : Plan) (k : ℕ) → functions (upAt p k) ≡ functionRow
 unfolding functions
 up-functions p k = refl
 
-pub across-firsts : (p : Plan) (k : ℕ) → firsts (acrossAt p k) + p .across ≡ functionColumnsAt p k
+pub across-firsts : (p : Plan) (k : ℕ) → firsts (acrossAt p k) + p .«degree_across» ≡ functionColumnsAt p k
 across-firsts p k = firsts-functions (acrossAt p k) ∙ across-functions p k
 
-pub up-firsts : (p : Plan) (k : ℕ) → firsts (upAt p k) + p .up ≡ functionRowsAt p k
+pub up-firsts : (p : Plan) (k : ℕ) → firsts (upAt p k) + p .«degree_up» ≡ functionRowsAt p k
 up-firsts p k = firsts-functions (upAt p k) ∙ up-functions p k
-
--- the rectangle of a support has the two directions' spans
-pub across-support : (p : Plan) (k i : ℕ) → supportSpan (columnsAt p k) (p .across) i ≡ supportOver (acrossAt p k) i
-unfolding supportOver
-across-support p k i = refl
-
-pub up-support : (p : Plan) (k i : ℕ) → supportSpan (rowsAt p k) (p .up) i ≡ supportOver (upAt p k) i
-unfolding supportOver
-up-support p k i = refl

@@ -19,6 +19,11 @@ pub grown-small : (p : Plan) {b k : ℕ} → b ≤ 16 → k < 8 → grown (ratio
 unfolding grown ratio
 grown-small p h l = mul-le-mul h (pow-mono {j = 7} (omega arith))
 
+-- the columns of the next level on a column of some level, and their end
+pub finer-small : (p : Plan) {b k x s : ℕ} → b ≤ 16 → k < 8 → x < grown (ratio p) b k → s ≡ ratio p → x * s + s ≤ 4096
+unfolding ratio
+finer-small p {x = x} h l i e = let g : x * 2 + 2 ≤ 4096 = omega (arith, grown-small p h l) in rw e g
+
 -- so a shift loses no bit
 pub shifted : (p : Plan) {b k : ℕ} → b ≤ 16 → k < 8 → (b * 2 ^ k) % 2 ^ 32 ≡ grown (ratio p) b k
 unfolding grown ratio
@@ -59,13 +64,5 @@ module _ (p : Plan) (range : InRange p) (across up : ℕ) (beyond : Beyond acros
   number-small x i = omega (arith, number-lt w h (p .levels) x i, offset-small (p .levels) (le-refl _))
 
   -- one level more, as the code counts
-  pub offset-more : (k : ℕ) → offset w h (k + 1) ≡ offset w h k + h k * w k
-  unfolding offset
-  offset-more k = rw add-one refl
-
-  pub offset-none : offset w h 0 ≡ 0
-  unfolding offset
-  offset-none = refl
-
   pub columns-pos : (k : ℕ) → 0 < w k
   columns-pos k = omega (arith, grown-pos (ratio p) (ratio-pos p) (p .columns) k (range .columns≥))

@@ -1,4 +1,4 @@
--- Supports and neighbourhoods, as facts and as rectangles; a cell's ancestor lies in its neighbourhood, and no support is empty.
+-- Supports as facts, neighbourhoods as facts and as rectangles; a cell's ancestor lies in its neighbourhood, and no support is empty.
 -- Assumes nothing.
 use Prim.Native.Nat.{ℕ, min, _+_, _-_, _<_, _≤_}
 use native.Mathlib.Omega.{arith}
@@ -12,7 +12,7 @@ use Rattle.grid.specs.declared.Span.{Span}
 use Rattle.grid.specs.declared.Rectangle.{Rectangle}
 use Rattle.grid.specs.Plan.{ratio, columnsAt, rowsAt, cellTotal, functionTotal, cellPlace, cellNumber, functionPlace, cellLevel, functionLevel, CellInside, FunctionInside, covers, supportedAt, supported, apart, ancestor, nearAt, near}
 use Rattle.grid.specs.Range.{InRange, HasNeighbourhood}
-use Rattle.grid.specs.Spans.{inSpan, inRectangle, supportSpan, aroundSpan, supportOf, around, ancestorOf, neighbourhood}
+use Rattle.grid.specs.Spans.{inSpan, inRectangle, aroundSpan, around, ancestorOf, neighbourhood}
 use Rattle.grid.proofs.Direction.{grown-pos, grown-ancestor}
 use Rattle.grid.proofs.Laws.{ratio-pos, apart-fact, apart-test, Near, near-fact, near-test, near-places, near-of, cell-inside, cell-number-lt, cell-place-number, function-inside}
 
@@ -76,17 +76,6 @@ pub record Covers (d i c : ℕ) : Type 0 where
   pub from : i ≤ c + d
   pub to : c ≤ i
 
--- the code's span is document 01's
-pub span-covers : (n d i c : ℕ) → inSpan (supportSpan n d i) c ≡ covers n d i c
-unfolding supportSpan covers
-span-covers n d i c =
-    same (inSpan (supportSpan n d i) c) (covers n d i c)
-    (λ t. let k = span-fact (supportSpan n d i) c t in let a = k .from in let b = k .to in
-    and-i (leb (i - d) c) (leb c (min (n - 1) i)) (le→leb (i - d) c (omega arith)) (le→leb c (min (n - 1) i) (omega arith)))
-    (λ t. let a = leb→le (i - d) c (and-l (leb (i - d) c) (leb c (min (n - 1) i)) t) in
-    let b = leb→le c (min (n - 1) i) (and-r (leb (i - d) c) (leb c (min (n - 1) i)) t) in
-    span-test (supportSpan n d i) c (omega arith))
-
 module _ (n d i c : ℕ) (inside : c < n) where
   pub covers-fact : T (covers n d i c) → Covers d i c
   unfolding covers
@@ -109,26 +98,21 @@ module _ (n d i c : ℕ) (inside : c < n) where
         to = leb→le c i (and-l (leb c i) (leb i (c + d)) t);
       }))
 
--- a cell lies in a function's support just where it lies in the rectangle
-pub supported-rectangle : (p : Plan) (f c : Place) → supportedAt p f c ≡ inRectangle (supportOf p f) c
-unfolding supportedAt inRectangle supportOf
-supported-rectangle p f c = simp span-covers
-
 -- what `supportedAt` tests, as facts
 pub record Supported (p : Plan) (f c : Place) : Type 0 where
   pub level : f .level ≡ c .level
-  pub columns : Covers (p .across) (f .column) (c .column)
-  pub rows : Covers (p .up) (f .row) (c .row)
+  pub columns : Covers (p .«degree_across») (f .column) (c .column)
+  pub rows : Covers (p .«degree_up») (f .row) (c .row)
 
 module _ (p : Plan) (f c : Place) (inside : CellInside p c) where
   abbrev level-covered : Bool
   level-covered = eqb (f .level) (c .level)
 
   abbrev columns-covered : Bool
-  columns-covered = covers (columnsAt p (f .level)) (p .across) (f .column) (c .column)
+  columns-covered = covers (columnsAt p (f .level)) (p .«degree_across») (f .column) (c .column)
 
   abbrev rows-covered : Bool
-  rows-covered = covers (rowsAt p (f .level)) (p .up) (f .row) (c .row)
+  rows-covered = covers (rowsAt p (f .level)) (p .«degree_up») (f .row) (c .row)
 
   pub supported-fact : T (supportedAt p f c) → Supported p f c
   unfolding supportedAt
@@ -163,11 +147,6 @@ module _ (p : Plan) (range : InRange p) where
   unfolding supported
   supported-of f c b s = supported-test p (functionPlace p f) (cellPlace p c) (cell-inside p range c b) s
 
-  -- the cells of a function's support are those of its rectangle
-  pub supported-is : (f c : ℕ) → supported p f c ≡ inRectangle (supportOf p (functionPlace p f)) (cellPlace p c)
-  unfolding supported
-  supported-is f c = supported-rectangle p (functionPlace p f) (cellPlace p c)
-
   -- no function's support is empty
   pub support-some : (f : ℕ) → f < functionTotal p → (c : ℕ) × (c < cellTotal p) × T (supported p f c)
   support-some f b = (cellNumber p x, cell-number-lt p range x i, supported-of f (cellNumber p x) (cell-number-lt p range x i) (rw (cell-place-number p range x i) s))
@@ -178,11 +157,11 @@ module _ (p : Plan) (range : InRange p) where
       inside : FunctionInside p (functionPlace p f)
       inside = function-inside p range f b
 
-      across : (min (columnsAt p k - 1) (functionPlace p f .column) < columnsAt p k) × Covers (p .across) (functionPlace p f .column) (min (columnsAt p k - 1) (functionPlace p f .column))
-      across = covers-last (columnsAt p k) (p .across) (functionPlace p f .column) (grown-pos (ratio p) (ratio-pos p) (p .columns) k (range .columns≥)) (inside .column<)
+      across : (min (columnsAt p k - 1) (functionPlace p f .column) < columnsAt p k) × Covers (p .«degree_across») (functionPlace p f .column) (min (columnsAt p k - 1) (functionPlace p f .column))
+      across = covers-last (columnsAt p k) (p .«degree_across») (functionPlace p f .column) (grown-pos (ratio p) (ratio-pos p) (p .columns) k (range .columns≥)) (inside .column<)
 
-      up : (min (rowsAt p k - 1) (functionPlace p f .row) < rowsAt p k) × Covers (p .up) (functionPlace p f .row) (min (rowsAt p k - 1) (functionPlace p f .row))
-      up = covers-last (rowsAt p k) (p .up) (functionPlace p f .row) (grown-pos (ratio p) (ratio-pos p) (p .rows) k (range .rows≥)) (inside .row<)
+      up : (min (rowsAt p k - 1) (functionPlace p f .row) < rowsAt p k) × Covers (p .«degree_up») (functionPlace p f .row) (min (rowsAt p k - 1) (functionPlace p f .row))
+      up = covers-last (rowsAt p k) (p .«degree_up») (functionPlace p f .row) (grown-pos (ratio p) (ratio-pos p) (p .rows) k (range .rows≥)) (inside .row<)
 
       x : Place
       x = record { level = k; row = min (rowsAt p k - 1) (functionPlace p f .row); column = min (columnsAt p k - 1) (functionPlace p f .column) }
@@ -228,10 +207,10 @@ module _ (p : Plan) (q c : Place) (has : HasNeighbourhood p (q .level)) (inside 
       k : ℕ
       k = q .level - (p .class - 1)
 
-      columns : k ≡ c .level → inSpan (neighbourhood p q .columns) (c .column) ≡ apart (p .across) (c .column) (ancestor p (p .class - 1) (q .column))
+      columns : k ≡ c .level → inSpan (neighbourhood p q .columns) (c .column) ≡ apart (p .«degree_across») (c .column) (ancestor p (p .class - 1) (q .column))
       columns e = span-apart (columnsAt p k) _ _ _ (rw e (inside .column<))
 
-      rows : k ≡ c .level → inSpan (neighbourhood p q .rows) (c .row) ≡ apart (p .up) (c .row) (ancestor p (p .class - 1) (q .row))
+      rows : k ≡ c .level → inSpan (neighbourhood p q .rows) (c .row) ≡ apart (p .«degree_up») (c .row) (ancestor p (p .class - 1) (q .row))
       rows e = span-apart (rowsAt p k) _ _ _ (rw e (inside .row<))
 
       to : T (nearAt p q c) → T (inRectangle (neighbourhood p q) c)
@@ -282,7 +261,7 @@ near-own p range q b has =
 -- column 3 of level 0: the cell in row 0 and column 2 only shares a corner with that one and is near; the cell in row 1 and
 -- column 5 is beside column 6, the first cell's own, and is not
 abbrev sixByFour : Plan
-sixByFour = record { columns = 6; rows = 4; levels = 2; across = 1; up = 1; class = 2 }
+sixByFour = record { columns = 6; rows = 4; levels = 2; «degree_across» = 1; «degree_up» = 1; class = 2 }
 
 abbrev at : ℕ → ℕ → ℕ → Place
 at k r c = record { level = k; row = r; column = c }

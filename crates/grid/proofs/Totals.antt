@@ -46,7 +46,7 @@ offset-le w h u v f g (suc k) = omega (arith, offset-le w h u v f g k, mul-le-mu
 
 -- a plan of this shape, of degree 4
 abbrev shape : ℕ → ℕ → ℕ → Plan
-shape L a b = record { columns = a; rows = b; levels = L; across = 4; up = 4; class = 0 }
+shape L a b = record { columns = a; rows = b; levels = L; «degree_across» = 4; «degree_up» = 4; class = 0 }
 
 -- where such a plan has at most `limit` cells, it has at most `bound` functions
 unfoldable fits : ℕ → ℕ → ℕ → ℕ → ℕ → Bool

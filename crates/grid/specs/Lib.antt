@@ -1,4 +1,5 @@
 pub mod Numbering
+pub mod Bounds
 pub mod Plan
 pub mod Range
 pub mod Spans

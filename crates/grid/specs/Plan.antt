@@ -7,6 +7,7 @@ use Rattle.grid.specs.declared.Plan.{Plan}
 use Rattle.grid.specs.declared.Place.{Place}
 use Rattle.grid.specs.declared.Side.{Side}
 use Rattle.grid.specs.Numbering
+use Rattle.grid.specs.Bounds.{mostCells}
 
 -- ---- the six numbers
 
@@ -18,7 +19,7 @@ between lo hi x = leb lo x && leb x hi
 unfoldable pub inRange : Plan → Bool
 inRange p =
     between 1 16 (p .columns) && (between 1 16 (p .rows) && (between 1 8 (p .levels)
-    && (between 1 4 (p .across) && (between 1 4 (p .up) && (eqb (p .class) 0 || between 2 8 (p .class))))))
+    && (between 1 4 (p .«degree_across») && (between 1 4 (p .«degree_up») && (eqb (p .class) 0 || between 2 8 (p .class))))))
 
 -- ---- levels
 
@@ -43,17 +44,17 @@ widened n d k = n k + d
 
 -- "With n columns, a level has n + p functions across. Up is the same with q"
 abbrev pub functionColumnsAt : Plan → ℕ → ℕ
-functionColumnsAt p k = columnsAt p k + p .across
+functionColumnsAt p k = columnsAt p k + p .«degree_across»
 
 abbrev pub functionRowsAt : Plan → ℕ → ℕ
-functionRowsAt p k = rowsAt p k + p .up
+functionRowsAt p k = rowsAt p k + p .«degree_up»
 
 -- a level's directions
 abbrev pub acrossAt : Plan → ℕ → Side
-acrossAt p k = record { cells = columnsAt p k; degree = p .across }
+acrossAt p k = record { cells = columnsAt p k; degree = p .«degree_across» }
 
 abbrev pub upAt : Plan → ℕ → Side
-upAt p k = record { cells = rowsAt p k; degree = p .up }
+upAt p k = record { cells = rowsAt p k; degree = p .«degree_up» }
 
 -- ---- numbers and places: "numbered from 0, level by level, row by row"; functions "like cells, with n + p to a row"
 
@@ -72,7 +73,7 @@ functionTotal p = functionOffset p (p .levels)
 
 -- "T is at most 21,845"
 unfoldable pub tooLarge : Plan → Bool
-tooLarge p = ltb 21845 (cellTotal p)
+tooLarge p = ltb mostCells (cellTotal p)
 
 abbrev pub cellPlace : Plan → ℕ → Place
 cellPlace p = Numbering.place (columnsAt p) (rowsAt p) (p .levels)
@@ -128,7 +129,7 @@ covers n d i c = leb (i - d) c && leb c (min (n - 1) i)
 unfoldable pub supportedAt : Plan → Place → Place → Bool
 supportedAt p f c =
     eqb (f .level) (c .level)
-    && (covers (columnsAt p (f .level)) (p .across) (f .column) (c .column) && covers (rowsAt p (f .level)) (p .up) (f .row) (c .row))
+    && (covers (columnsAt p (f .level)) (p .«degree_across») (f .column) (c .column) && covers (rowsAt p (f .level)) (p .«degree_up») (f .row) (c .row))
 
 -- the cell c lies in the support of the function f
 unfoldable pub supported : Plan → ℕ → ℕ → Bool
@@ -150,7 +151,7 @@ unfoldable pub nearAt : Plan → Place → Place → Bool
 nearAt p q c =
     not (eqb (p .class) 0)
     && (eqb (q .level + 1) (c .level + p .class)
-    && (apart (p .across) (c .column) (ancestor p (p .class - 1) (q .column)) && apart (p .up) (c .row) (ancestor p (p .class - 1) (q .row))))
+    && (apart (p .«degree_across») (c .column) (ancestor p (p .class - 1) (q .column)) && apart (p .«degree_up») (c .row) (ancestor p (p .class - 1) (q .row))))
 
 unfoldable pub near : Plan → ℕ → ℕ → Bool
 near p q c = ltb c (cellTotal p) && nearAt p (cellPlace p q) (cellPlace p c)

@@ -10,10 +10,10 @@ pub record InRange (p : Plan) : Type 0 where
   pub rows≤ : p .rows ≤ 16
   pub levels≥ : 1 ≤ p .levels
   pub levels≤ : p .levels ≤ 8
-  pub across≥ : 1 ≤ p .across
-  pub across≤ : p .across ≤ 4
-  pub up≥ : 1 ≤ p .up
-  pub up≤ : p .up ≤ 4
+  pub across≥ : 1 ≤ p .«degree_across»
+  pub across≤ : p .«degree_across» ≤ 4
+  pub up≥ : 1 ≤ p .«degree_up»
+  pub up≤ : p .«degree_up» ≤ 4
   pub class≢ : p .class ≢ 1
   pub class≤ : p .class ≤ 8
 

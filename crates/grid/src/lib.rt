@@ -3,9 +3,14 @@ ghost use mathlib.Core.Path.{_≡_};
 ghost use Prim.Native.Nat.{_+_, _-_, _*_, _≤_, _<_};
 ghost use Rattle.grid.specs.Numbering.{Inside, offset, number, place};
 ghost use Rattle.grid.specs.Range.{InRange, Beyond, HasNeighbourhood};
-ghost use Rattle.grid.specs.Spans.{supportSpan, aroundSpan, supportOf, around, ancestorOf, neighbourhood};
-ghost use Rattle.grid.specs.Side.{SideIn, functions, firstOver, firsts, supportOver};
+ghost use Rattle.grid.specs.Spans.{aroundSpan, childrenOf, around, ancestorOf, neighbourhood};
+ghost use Rattle.grid.specs.Side.{SideIn, functions, firstOver, firsts};
 ghost use Rattle.grid.specs.Plan.{between, inRange, ratio, grown, widened, columnsAt, rowsAt, acrossAt, upAt, functionColumnsAt, functionRowsAt, cellOffset, functionOffset, cellTotal, functionTotal, tooLarge, cellPlace, cellNumber, functionPlace, functionNumber, CellInside, FunctionInside, cellLevel, above, parent, ancestor};
+
+// The most cells that a plan may have, and the most functions of such a plan: what lent tables need.
+pub const MOST_CELLS: usize = 21845;
+
+pub const MOST_FUNCTIONS: usize = 26220;
 
 // Document 01, "The plan": six numbers handed over by value.
 #[repr(C)]
@@ -14,9 +19,8 @@ pub struct Plan {
     pub columns: u32,
     pub rows: u32,
     pub levels: u32,
-    // the degree across and up
-    pub across: u32,
-    pub up: u32,
+    pub degree_across: u32,
+    pub degree_up: u32,
     // the admissible class; 0: no condition
     pub class: u32,
 }
@@ -57,18 +61,6 @@ fn less(x: u32, d: u32) -> u32
     ensures { λ r. ⌜ r ≡ x - d ⌝ }
 {
     if x < d { 0 } else { x - d }
-}
-
-// One direction: of `count` columns, those that function i of a degree covers.
-pub fn support(count: u32, degree: u32, i: u32) -> Span
-    requires { ⌜ 0 < count ⌝ }
-    ensures { λ r. ⌜ r ≡ supportSpan count degree i ⌝ }
-{
-    let first = less(i, degree);
-    if i < count {
-        return Span { first, end: i + 1 };
-    }
-    Span { first, end: count }
 }
 
 // One direction: of `count` columns, those at most d from x.
@@ -119,14 +111,6 @@ impl Side {
         let degree = self.degree;
         self.functions() - degree
     }
-
-    // The columns that function i covers.
-    pub fn support(self, i: u32) -> Span
-        requires { ⌜ SideIn self ⌝ }
-        ensures { λ r. ⌜ r ≡ supportOver self i ⌝ }
-    {
-        support(self.cells, self.degree, i)
-    }
 }
 
 impl Plan {
@@ -135,12 +119,19 @@ impl Plan {
         ensures { λ r. ⌜ r ≡ inRange self ⌝ }
     {
         let class = (self.class == 0) | between(2, 8, self.class);
-        let degrees = between(1, 4, self.across) & (between(1, 4, self.up) & class);
+        let degrees = between(1, 4, self.degree_across) & (between(1, 4, self.degree_up) & class);
         between(1, 16, self.columns)
             & (between(1, 16, self.rows) & (between(1, 8, self.levels) & degrees))
     }
 
-    // A direction with `base` columns (or rows) on level 0: how many it has on a level. The shift is where the code knows the ratio.
+    // How many columns (or rows) of the next level stand on one. This and the shifts of `grown` and `coarser` are where code knows it.
+    pub fn ratio(self) -> u32
+        ensures { λ r. ⌜ r ≡ ratio self ⌝ }
+    {
+        2
+    }
+
+    // A direction with `base` columns (or rows) on level 0: how many it has on a level.
     fn grown(self, base: u32, level: u32) -> u32
         requires { ⌜ base ≤ 16 ⌝ }
         requires { ⌜ level < 8 ⌝ }
@@ -160,7 +151,7 @@ impl Plan {
     }
 
     // Where x, a column (or a row), is some levels up.
-    fn coarser(self, x: u32, levels: u32) -> u32
+    pub fn coarser(self, x: u32, levels: u32) -> u32
         requires { ⌜ levels < 8 ⌝ }
         ensures { λ r. ⌜ r ≡ ancestor self levels x ⌝ }
     {
@@ -188,7 +179,7 @@ impl Plan {
         requires { ⌜ level < self .levels ⌝ }
         ensures { λ r. ⌜ r ≡ functionColumnsAt self level ⌝ }
     {
-        self.wide(self.columns, self.across, level)
+        self.wide(self.columns, self.degree_across, level)
     }
 
     pub fn function_rows_at(self, level: u32) -> u32
@@ -196,7 +187,7 @@ impl Plan {
         requires { ⌜ level < self .levels ⌝ }
         ensures { λ r. ⌜ r ≡ functionRowsAt self level ⌝ }
     {
-        self.wide(self.rows, self.up, level)
+        self.wide(self.rows, self.degree_up, level)
     }
 
     // A level's directions.
@@ -206,7 +197,7 @@ impl Plan {
         ensures { λ r. ⌜ r ≡ acrossAt self level ⌝ }
     {
         let cells = self.columns_at(level);
-        let degree = self.across;
+        let degree = self.degree_across;
         Side { cells, degree }
     }
 
@@ -216,7 +207,7 @@ impl Plan {
         ensures { λ r. ⌜ r ≡ upAt self level ⌝ }
     {
         let cells = self.rows_at(level);
-        let degree = self.up;
+        let degree = self.degree_up;
         Side { cells, degree }
     }
 
@@ -260,7 +251,7 @@ impl Plan {
         requires { ⌜ level ≤ self .levels ⌝ }
         ensures { λ r. ⌜ r ≡ functionOffset self level ⌝ }
     {
-        self.offset(self.across, self.up, level)
+        self.offset(self.degree_across, self.degree_up, level)
     }
 
     // T and F.
@@ -283,7 +274,7 @@ impl Plan {
         requires { ⌜ InRange self ⌝ }
         ensures { λ r. ⌜ r ≡ tooLarge self ⌝ }
     {
-        self.cell_total() > 21845
+        self.cell_total() as usize > MOST_CELLS
     }
 
     // The place of a number. Each level passed takes its area off the number.
@@ -344,7 +335,7 @@ impl Plan {
         requires { ⌜ function .0 < functionTotal self ⌝ }
         ensures { λ r. ⌜ r ≡ functionPlace self (function .0) ⌝ }
     {
-        self.place_of(self.across, self.up, function.0)
+        self.place_of(self.degree_across, self.degree_up, function.0)
     }
 
     pub fn function_number(self, place: Place) -> Function
@@ -352,7 +343,7 @@ impl Plan {
         requires { ⌜ FunctionInside self place ⌝ }
         ensures { λ r. ⌜ r .0 ≡ functionNumber self place ⌝ }
     {
-        Function(self.number_of(self.across, self.up, place))
+        Function(self.number_of(self.degree_across, self.degree_up, place))
     }
 
     // The place one level up.
@@ -379,36 +370,26 @@ impl Plan {
         self.cell_number(self.above(self.cell_place(cell)))
     }
 
-    // The columns of cells that a function's support takes, and its rows.
-    pub fn support_columns(self, level: u32, column: u32) -> Span
+    // The children of the cell at a place.
+    pub fn children(self, place: Place) -> Rectangle
         requires { ⌜ InRange self ⌝ }
-        requires { ⌜ level < self .levels ⌝ }
-        ensures { λ r. ⌜ r ≡ supportSpan (columnsAt self level) (self .across) column ⌝ }
+        requires { ⌜ CellInside self place ⌝ }
+        ensures { λ r. ⌜ r ≡ childrenOf self place ⌝ }
     {
-        support(self.columns_at(level), self.across, column)
-    }
-
-    pub fn support_rows(self, level: u32, row: u32) -> Span
-        requires { ⌜ InRange self ⌝ }
-        requires { ⌜ level < self .levels ⌝ }
-        ensures { λ r. ⌜ r ≡ supportSpan (rowsAt self level) (self .up) row ⌝ }
-    {
-        support(self.rows_at(level), self.up, row)
-    }
-
-    // The support of the function at a place.
-    pub fn support_of(self, place: Place) -> Rectangle
-        requires { ⌜ InRange self ⌝ }
-        requires { ⌜ place .level < self .levels ⌝ }
-        ensures { λ r. ⌜ r ≡ supportOf self place ⌝ }
-    {
+        let ratio = self.ratio();
         let level = place.level;
-        let row = place.row;
-        let column = place.column;
-        let rows = self.support_rows(level, row);
-        let columns = self.support_columns(level, column);
+        let row = place.row * ratio;
+        let column = place.column * ratio;
+        let rows = Span {
+            first: row,
+            end: row + ratio,
+        };
+        let columns = Span {
+            first: column,
+            end: column + ratio,
+        };
         Rectangle {
-            level,
+            level: level + 1,
             rows,
             columns,
         }
@@ -423,8 +404,8 @@ impl Plan {
         let level = place.level;
         let row = place.row;
         let column = place.column;
-        let rows = reach(self.rows_at(level), self.up, row);
-        let columns = reach(self.columns_at(level), self.across, column);
+        let rows = reach(self.rows_at(level), self.degree_up, row);
+        let columns = reach(self.columns_at(level), self.degree_across, column);
         Rectangle {
             level,
             rows,

@@ -1,2 +1,1 @@
 pub mod SupportLaws
-pub mod Room

@@ -21,8 +21,8 @@ use Rattle.grid.specs.Plan.{columnsAt, rowsAt, functionColumnsAt, functionRowsA
 use Rattle.mesh.specs.Mesh.{isMesh, cellFits, labelOf, labels, isLabelled}
 use Rattle.mesh.proofs.Bridge.{fits-e}
 use Rattle.mesh.proofs.Label.{label}
-use Rattle.cells.specs.Table.{MeshTable}
-use Rattle.cells.proofs.Levels.{offset-next}
+use Rattle.nesting.specs.Table.{MeshTable}
+use Rattle.grid.proofs.Levels.{offset-next}
 use Rattle.windows.specs.Level.{levelLeast, wide, high, LevelRoom}
 use Rattle.windows.proofs.Levels.{under-top}
 use Rattle.windows.proofs.Under.{support-le, support-ge, part-size, part-ends, level-support}
@@ -41,7 +41,7 @@ module _ (p : Plan) (cells : List ℕ) (table : MeshTable p cells) (level : ℕ)
   unfolding isMesh
   small n b = fits-e p cells n (every-e (cellTotal p) (cellFits p cells) (true-T _ (table .mesh)) n b) .byte
 
-  level-label : (j : ℕ) → j < functionRowsAt p level * functionColumnsAt p level → levelLeast p cells level (p .across) (p .up) j ≡ labelOf p cells (functionOffset p level + j)
+  level-label : (j : ℕ) → j < functionRowsAt p level * functionColumnsAt p level → levelLeast p cells level (p .«degree_across») (p .«degree_up») j ≡ labelOf p cells (functionOffset p level + j)
   level-label j m =
       let range = table .sized .range in
       let b : functionOffset p level + j < functionTotal p = omega (arith, part-ends p range cells level l) in
@@ -50,7 +50,7 @@ module _ (p : Plan) (cells : List ℕ) (table : MeshTable p cells) (level : ℕ)
 
   -- what the windows of the level write through its part of the table
   pub level-written : {o : ℕ} (out ys : List ℕ) → o ≡ functionOffset p level → length out ≡ functionTotal p
-      → ys ≡ filled 0 (high p level (p .up) * wide p level (p .across)) (levelLeast p cells level (p .across) (p .up)) (midOf o (length out - o) out)
+      → ys ≡ filled 0 (high p level (p .«degree_up») * wide p level (p .«degree_across»)) (levelLeast p cells level (p .«degree_across») (p .«degree_up»)) (midOf o (length out - o) out)
       → Written out (putMid o (length out - o) out ys) (functionOffset p level) (functionOffset p (level + 1)) (labelOf p cells)
   level-written {o} out ys q s h =
       let k = part-ends p (table .sized .range) cells level l in
@@ -61,7 +61,7 @@ module _ (p : Plan) (cells : List ℕ) (table : MeshTable p cells) (level : ℕ)
 
   -- the tables hold the level
   pub level-room : {o : ℕ} (out scratch : List ℕ) → o ≡ functionOffset p level → length out ≡ functionTotal p → functionTotal p ≤ length scratch
-      → LevelRoom p level (length cells) (length scratch) (length out - o) (p .across) (p .up) × (o ≤ length out)
+      → LevelRoom p level (length cells) (length scratch) (length out - o) (p .«degree_across») (p .«degree_up») × (o ≤ length out)
   level-room out scratch q s t =
       let k = part-ends p (table .sized .range) cells level l in
       let z = table .sized .size in

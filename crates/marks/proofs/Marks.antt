@@ -10,7 +10,7 @@ use borrow.Author.Tests.{lt-ltb, le-ltb, le-leb, lt-leb, eq-eqb, ne-eqb}
 use Rattle.facts.specs.Numbers.{elem, tabulate}
 use Rattle.facts.proofs.Numbers.{tabulate-is, tabulate-same, getD-tabulate}
 use Rattle.facts.proofs.Turns.{set-tabulate, elem-at, elem-none, elem-more}
-use Rattle.marks.specs.Marks.{verdict, Inside, flagged, unmarkedAt, weighed}
+use Rattle.marks.specs.Marks.{verdict, MarksBelow, withMarks, unmarkedAt, weighed}
 
 module _ (kinds : List ℕ) (deep x : ℕ) where
   pub verdict-7 : length kinds ≤ x → verdict kinds deep x ≡ 7
@@ -33,7 +33,7 @@ module _ (kinds : List ℕ) (deep x : ℕ) where
 
 module _ (marks table : List ℕ) where
   -- no mark is flagged at the start
-  pub flagged-none : table ≡ flagged (length table) (take 0 marks) table
+  pub flagged-none : table ≡ withMarks (length table) (take 0 marks) table
   flagged-none = tabulate-is (length table) (λ x. cond (elem x (take 0 marks)) 1 (getD table x 0)) table refl (λ x l. sym (ap (λ b. cond b 1 (getD table x 0)) (elem-none marks x)))
 
   one-more : (a b : Bool) (n : ℕ) → cond b 1 (cond a 1 n) ≡ cond (a || b) 1 n
@@ -42,17 +42,17 @@ module _ (marks table : List ℕ) where
   one-more false true n = refl
   one-more false false n = refl
 
-  pub flagged-more : (n i : ℕ) → i < length marks → set (flagged n (take i marks) table) (getD marks i 0) 1 ≡ flagged n (take (i + 1) marks) table
+  pub flagged-more : (n i : ℕ) → i < length marks → set (withMarks n (take i marks) table) (getD marks i 0) 1 ≡ withMarks n (take (i + 1) marks) table
   flagged-more n i h =
       set-tabulate n (λ x. cond (elem x (take i marks)) 1 (getD table x 0)) (getD marks i 0) 1
       ∙ tabulate-same n _ _ (λ x l. one-more (elem x (take i marks)) (eqb x (getD marks i 0)) (getD table x 0) ∙ sym (ap (λ b. cond b 1 (getD table x 0)) (elem-more marks i x h)))
 
-  pub flagged-all : (n i : ℕ) → length marks ≤ i → flagged n (take i marks) table ≡ flagged n marks table
-  flagged-all n i h = ap (λ m. flagged n m table) (take-all i marks h)
+  pub flagged-all : (n i : ℕ) → length marks ≤ i → withMarks n (take i marks) table ≡ withMarks n marks table
+  flagged-all n i h = ap (λ m. withMarks n m table) (take-all i marks h)
 
-pub mark-inside : {n : ℕ} {marks : List ℕ} → Inside n marks → (i : ℕ) → i < length marks → getD marks i 0 < n
+pub mark-inside : {n : ℕ} {marks : List ℕ} → MarksBelow n marks → (i : ℕ) → i < length marks → getD marks i 0 < n
 mark-inside {n} {marks} M i h = M .inside (getD marks i 0) (elem-at marks i h)
 
 -- the marks flagged in a table of what the others weigh
-pub weighed-is : (n : ℕ) (marks table others : List ℕ) → others ≡ tabulate n (unmarkedAt table) → flagged n marks others ≡ weighed n table marks
+pub weighed-is : (n : ℕ) (marks table others : List ℕ) → others ≡ tabulate n (unmarkedAt table) → withMarks n marks others ≡ weighed n table marks
 weighed-is n marks table others e = tabulate-same n _ _ (λ x l. ap (λ b. cond (elem x marks) 1 b) (ap (λ t. getD t x 0) e ∙ getD-tabulate n (unmarkedAt table) x 0 l))

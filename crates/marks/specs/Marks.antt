@@ -15,12 +15,12 @@ verdict kinds deep x =
     (cond (leb deep x) 9 0))
 
 -- every mark is a number below n
-pub record Inside (n : ℕ) (marks : List ℕ) : Type 0 where
+pub record MarksBelow (n : ℕ) (marks : List ℕ) : Type 0 where
   pub inside : (x : ℕ) → T (elem x marks) → x < n
 
 -- 1 at the marks, and the bytes of a table elsewhere
-abbrev pub flagged : ℕ → List ℕ → List ℕ → List ℕ
-flagged n marks table = tabulate n (λ x. cond (elem x marks) 1 (getD table x 0))
+abbrev pub withMarks : ℕ → List ℕ → List ℕ → List ℕ
+withMarks n marks table = tabulate n (λ x. cond (elem x marks) 1 (getD table x 0))
 
 -- what weighs a number that is not marked: 0 where its byte is 2 (refined, deactivated), 2 any other
 abbrev pub unmarked : ℕ → ℕ

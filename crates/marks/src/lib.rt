@@ -3,7 +3,7 @@
 ghost use mathlib.Core.Path.{_≡_};
 ghost use lib.ListN.{length};
 ghost use Rattle.facts.specs.Numbers.{first, tabulate};
-ghost use Rattle.marks.specs.Marks.{verdict, Inside, flagged, unmarked as weight·unmarked, unmarkedAt, weighed, common, commonAt};
+ghost use Rattle.marks.specs.Marks.{verdict, MarksBelow, withMarks, unmarked as weight·unmarked, unmarkedAt, weighed, common, commonAt};
 
 // Why a mark is refused, or 0.
 fn verdict_of(kinds: &[u8], deep: u32, mark: u32) -> u32
@@ -39,8 +39,8 @@ pub fn judge(kinds: &[u8], deep: u32, marks: &[u32]) -> u32
 
 // The marked numbers get byte 1, repeats mean one mark; the others keep theirs.
 fn flag(marks: &[u32], out: &mut [u8])
-    requires { ⌜ Inside (length (now out)) (now marks) ⌝ }
-    ensures { λ _. ⌜ now (out .exit) ≡ flagged (length (now (out .entry))) (now (marks .entry)) (now (out .entry)) ⌝ }
+    requires { ⌜ MarksBelow (length (now out)) (now marks) ⌝ }
+    ensures { λ _. ⌜ now (out .exit) ≡ withMarks (length (now (out .entry))) (now (marks .entry)) (now (out .entry)) ⌝ }
 {
     let mut k = 0;
     while k < marks.len() {
@@ -71,7 +71,7 @@ fn unmarked(table: &[u8], out: &mut [u8])
 // For each number of a table: 1 marked, 0 refined (deactivated) and not marked, 2 any other.
 pub fn weigh(table: &[u8], marks: &[u32], out: &mut [u8])
     requires { ⌜ length (now table) ≡ length (now out) ⌝ }
-    requires { ⌜ Inside (length (now out)) (now marks) ⌝ }
+    requires { ⌜ MarksBelow (length (now out)) (now marks) ⌝ }
     ensures { λ _. ⌜ now (out .exit) ≡ weighed (length (now (out .entry))) (now (table .entry)) (now (marks .entry)) ⌝ }
 {
     unmarked(table, out);

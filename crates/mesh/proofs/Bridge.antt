@@ -21,6 +21,7 @@ use Rattle.grid.specs.Plan.{inRange, ratio, tooLarge, cellTotal, functionTotal,
 use Rattle.grid.specs.Range.{InRange}
 use Rattle.grid.proofs.Laws.{in-range, range-test, lawful, cell-inside, parent-lt, parent-level, is-child, child-lt, child-level, parent-of-child, near-in}
 use Rattle.mesh.specs.Mesh.{absent, active, refined, children, cellFits, isMesh, isAdmissible, reactivable, tableOf, labelOf, labels, isLabelled, refusal3, refusal6, check}
+use Rattle.grid.specs.Bounds.{mostCells}
 
 -- ---- children
 
@@ -135,7 +136,7 @@ rooted p S c = eqb (cellLevel p c) 0 || S (parent p c)
 -- what check says of the cells
 pub record Good (p : Plan) (cs : List ℕ) : Type 0 where
   pub range : InRange p
-  pub small : cellTotal p ≤ 21845
+  pub small : cellTotal p ≤ mostCells
   pub sized : length cs ≡ cellTotal p
   pub mesh : MeshSet (hierarchy p) (refined cs)
   pub admissible : Admissible (hierarchy p) (refined cs)
@@ -186,7 +187,7 @@ module _ (p : Plan) (range : InRange p) where
         (λ h. let l : length (tableOf p S) ≤ c = omega (arith, nltb→le c (cellTotal p) h, length-tableOf) in
         rw (List·getD-eq-default (tableOf p S) 0 l) (same false (S c) (λ u. absurd u) (λ s. absurd (omega (arith, nltb→le c (cellTotal p) h, I c s))))))
 
-    pub good-table : cellTotal p ≤ 21845 → MeshSet (hierarchy p) S → Admissible (hierarchy p) S → Good p (tableOf p S)
+    pub good-table : cellTotal p ≤ mostCells → MeshSet (hierarchy p) S → Admissible (hierarchy p) S → Good p (tableOf p S)
     good-table s m a = record {
       range = range;
       small = s;
@@ -355,7 +356,7 @@ module _ (p : Plan) (cs fs : List ℕ) where
       let sized : length cs ≡ cellTotal p = eqb→eq _ _ (and-l (eqb (length cs) (cellTotal p)) _ (k .lengths)) in (
         record {
           range = range;
-          small = nltb→le 21845 (cellTotal p) (not-i (ltb 21845 (cellTotal p)) (k .small));
+          small = nltb→le mostCells (cellTotal p) (not-i (ltb mostCells (cellTotal p)) (k .small));
           sized = sized;
           mesh = fit-mesh p range cs fit;
           admissible = admissible-of p range cs (k .admissible);
@@ -377,7 +378,7 @@ pub good-check : (p : Plan) (cs : List ℕ) → Good p cs → check p cs (labels
 unfolding isLabelled tooLarge
 good-check p cs G = unchecked p cs (labels p cs) (record {
   range = range-test p (G .range);
-  small = λ t. absurd (omega (arith, ltb→lt 21845 (cellTotal p) t, G .small));
+  small = λ t. absurd (omega (arith, ltb→lt mostCells (cellTotal p) t, G .small));
   lengths = and-i (eqb (length cs) (cellTotal p)) _ (eqb-of _ _ (G .sized)) (eqb-of _ _ (length-labels p cs));
   mesh = is-mesh p cs G;
   admissible = is-admissible p cs G;

@@ -23,6 +23,10 @@ module _ (table : List ℕ) where
   unfoldable pub refined : ℕ → Bool
   refined c = eqb (getD table c 0) 2
 
+-- the functions' bytes: 0 passive, 1 active, 2 deactivated
+abbrev pub deactivated : List ℕ → ℕ → Bool
+deactivated functions f = refined functions f
+
 -- each of the cell's children passes; a cell of the last level has none
 unfoldable pub children : Plan → ℕ → (ℕ → Bool) → Bool
 children p c test =

@@ -18,7 +18,7 @@ use Rattle.grid.specs.Range.{InRange}
 use Rattle.grid.specs.Plan.{inRange, ratio, grown, columnsAt, rowsAt, tooLarge, cellTotal, functionTotal}
 use Rattle.grid.proofs.Numbering.{offset-step}
 use Rattle.mesh.specs.Mesh.{refusal3, Opened, freshCells, freshFunctions, openMesh}
-use Rattle.refine.specs.Calls.{Direction, coarsen, By, cells, functions, changed, written, Outcome, refused, settle, refusal, outcome}
+use Rattle.outcomes.specs.Calls.{Direction, coarsen, By, cells, functions, changed, written, Outcome, refused, settle, refusal, outcome}
 use Rattle.lines.specs.declared.Kind.{Kind}
 use Rattle.lines.specs.declared.Kind.the-variants.{Unreadable, Wall, Split, Join, SplitFunctions, JoinFunctions}
 use Rattle.lines.proofs.Kind as kinds
@@ -28,7 +28,8 @@ use Rattle.lines.specs.Writing.{digits, items, answer, question, large, Prints}
 use Rattle.script.specs.Session.{State, noWall, wall, Reply, reply, blank, opening, shown, calling, obey, stepOf}
 use Rattle.script.specs.declared.Hand.{Hand}
 use Rattle.script.specs.declared.Done.{Done}
-use Rattle.script.specs.Steps.{held, Sized, directionOf, byOf, Said, Answered, Replied}
+use Rattle.script.specs.Steps.{held, HandSized, directionOf, byOf, Said, Answered, Replied}
+use Rattle.script.specs.Bounds.{wallCells, wallFunctions}
 
 -- ---- printing
 
@@ -75,13 +76,13 @@ module _ (p : Plan) (e : inRange p ≡ true) (g : tooLarge p ≡ false) where
   blank-opened : openMesh p (blank (cellTotal p)) (blank (functionTotal p)) ≡ record { number = 0; cells = freshCells p; functions = freshFunctions p }
   blank-opened = opened (blank (cellTotal p)) (blank (functionTotal p)) (length-replicate (cellTotal p) 0) (length-replicate (functionTotal p) 0)
 
-  pub opening-large : (s : State) → 4096 < cellTotal p → opening s p ≡ reply s large
+  pub opening-large : (s : State) → wallCells < cellTotal p → opening s p ≡ reply s large
   unfolding opening
-  opening-large s h = rw (blank-opened, lt-ltb 4096 (cellTotal p) h) refl
+  opening-large s h = rw (blank-opened, lt-ltb wallCells (cellTotal p) h) refl
 
-  pub opening-fresh : (s : State) → cellTotal p ≤ 4096 → opening s p ≡ reply (wall p (freshCells p) (freshFunctions p)) (answer 0 [] [])
+  pub opening-fresh : (s : State) → cellTotal p ≤ wallCells → opening s p ≡ reply (wall p (freshCells p) (freshFunctions p)) (answer 0 [] [])
   unfolding opening
-  opening-fresh s h = rw (blank-opened, le-ltb 4096 (cellTotal p) h) refl
+  opening-fresh s h = rw (blank-opened, le-ltb wallCells (cellTotal p) h) refl
 
 -- a wall that is in range has cells
 grown-some : (b : ℕ) → 1 ≤ b → 1 ≤ grown 2 b 0
@@ -150,7 +151,7 @@ held-front h cs fs more rest e a b =
     held-wall h (cs ++ more) (fs ++ rest) e ∙ rw (take-at cs more (h .cells) a, take-at fs rest (h .functions) b) refl
 
 -- what is in hand before the first line
-pub sized-none : (h : Hand) → h .cells ≡ 0 → h .functions ≡ 0 → Sized h
+pub sized-none : (h : Hand) → h .cells ≡ 0 → h .functions ≡ 0 → HandSized h
 sized-none h a b = record {
   cells≤ = omega arith;
   functions≤ = omega arith;
@@ -160,7 +161,7 @@ sized-none h a b = record {
 -- the tables of a new wall at the start of the lent ones
 pub fresh : (s : State) (p : Plan) (n : ℕ) (done : Done) (cs fs cs′ fs′ out : List ℕ) → InRange p → inRange p ≡ true → tooLarge p ≡ false
     → done .hand .plan ≡ p → done .hand .cells ≡ cellTotal p → done .hand .functions ≡ functionTotal p
-    → done .hand .cells ≤ 4096 → done .hand .functions ≤ 5784 → done .hand .cells ≤ length cs → done .hand .functions ≤ length fs
+    → done .hand .cells ≤ wallCells → done .hand .functions ≤ wallFunctions → done .hand .cells ≤ length cs → done .hand .functions ≤ length fs
     → n ≡ openMesh p (take (done .hand .cells) cs) (take (done .hand .functions) fs) .number
     → cs′ ≡ openMesh p (take (done .hand .cells) cs) (take (done .hand .functions) fs) .cells
     → fs′ ≡ openMesh p (take (done .hand .cells) cs) (take (done .hand .functions) fs) .functions
@@ -182,7 +183,7 @@ fresh s p n done cs fs cs′ fs′ out r e g hp hc hf bc bf lc lf en ec ef kc kf
     })
 
 -- a mark line before any wall
-pub called-none : (d : Direction) (by : By) (marks : List ℕ) (done : Done) (cs fs out : List ℕ) → Sized (done .hand) → done .hand .cells ≡ 0
+pub called-none : (d : Direction) (by : By) (marks : List ℕ) (done : Done) (cs fs out : List ℕ) → HandSized (done .hand) → done .hand .cells ≡ 0
     → Said question (done .count) out → Replied (calling d by (held (done .hand) cs fs) marks) done cs fs out
 unfolding calling
 called-none d by marks done cs fs out z e s =
@@ -190,7 +191,7 @@ called-none d by marks done cs fs out z e s =
 
 -- a mark line on the wall in hand: the call had the parts of the tables and lists that are the wall's
 pub called : (d : Direction) (by : By) (marks : List ℕ) (done : Done) (cs fs cl fl cs′ fs′ out : List ℕ)
-    → Sized (done .hand) → eqb (done .hand .cells) 0 ≡ false
+    → HandSized (done .hand) → eqb (done .hand .cells) 0 ≡ false
     → length (take (done .hand .cells) cl) ≡ done .hand .cells → length (take (done .hand .functions) fl) ≡ done .hand .functions
     → length cs′ ≡ done .hand .cells → length fs′ ≡ done .hand .functions
     → Answered (outcome d by (done .hand .plan) (take (done .hand .cells) cs) (take (done .hand .functions) fs) marks (take (done .hand .cells) cl) (take (done .hand .functions) fl)) (done .count) cs′ fs′ out
@@ -210,7 +211,7 @@ called d by marks done cs fs cl fl cs′ fs′ out z e a b ac af w =
     })
 
 -- a line that leaves what is in hand
-pub kept : (r : Reply) (done : Done) (cs fs out text : List ℕ) → Sized (done .hand) → r ≡ reply (held (done .hand) cs fs) text → Said text (done .count) out → Replied r done cs fs out
+pub kept : (r : Reply) (done : Done) (cs fs out text : List ℕ) → HandSized (done .hand) → r ≡ reply (held (done .hand) cs fs) text → Said text (done .count) out → Replied r done cs fs out
 kept r done cs fs out text z e s = rw e (record { state = refl; said = s; sized = z })
 
 -- ---- kinds
@@ -262,17 +263,17 @@ wall-fields (w ∷ fs) e = go (fits (kindOf w) (length fs)) (allNumbers fs) refl
     go false b f g = absurd (let k : Unreadable ≡ Wall = rw f at e in let z : _≡_ {A = ℕ} 0 1 = cc in let y : ⊥ = omega arith in y)
 
 module _ (s old : List ℕ) (line : Line) (new : List ℕ) (room : 64 ≤ length old) (r : Reads s old line new) where
-  meant : meaningIn (length old) s ≡ meaning s
-  meant = rw (le-leb 64 (length old) room) refl
+  selected : meaningIn (length old) s ≡ meaning s
+  selected = rw (le-leb 64 (length old) room) refl
 
   pub read-numbers : take (line .count) new ≡ meaning s .numbers
   read-numbers =
-      let c : line .count ≡ length (meaning s .numbers) = r .count ∙ ap (λ (m : Meaning). length (m .numbers)) meant in
-      let b : new ≡ meaning s .numbers ++ drop (length (meaning s .numbers)) old = r .buffer ∙ ap (λ (m : Meaning). m .numbers ++ drop (length (m .numbers)) old) meant in
+      let c : line .count ≡ length (meaning s .numbers) = r .count ∙ ap (λ (m : Meaning). length (m .numbers)) selected in
+      let b : new ≡ meaning s .numbers ++ drop (length (meaning s .numbers)) old = r .buffer ∙ ap (λ (m : Meaning). m .numbers ++ drop (length (m .numbers)) old) selected in
       ap (take (line .count)) b ∙ take-at (meaning s .numbers) (drop (length (meaning s .numbers)) old) (line .count) (sym c)
 
   pub read-kind : line .kind ≡ meaning s .kind
-  read-kind = r .kind ∙ ap (λ (m : Meaning). m .kind) meant
+  read-kind = r .kind ∙ ap (λ (m : Meaning). m .kind) selected
 
   pub read-plan : line .kind ≡ Wall → 6 ≤ length (take (line .count) new)
   read-plan e = rw read-numbers (wall-fields _ (sym read-kind ∙ e))

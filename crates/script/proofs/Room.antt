@@ -6,10 +6,10 @@ use native.Mathlib.Omega.{arith}
 use lib.ListN.{length, drop, length-append}
 use Rattle.grid.specs.declared.Plan.{Plan}
 use Rattle.grid.specs.Plan.{cellTotal, functionTotal}
-use Rattle.refine.specs.declared.Answer.{Answer}
-use Rattle.refine.specs.Calls.{Direction, By, changed, written, Outcome, refused, outcome}
-use Rattle.refine.proofs.Results.{Made, refusal-of, accepted-as, accepted, made as made-by}
-use Rattle.changes.specs.Changes.{made}
+use Rattle.outcomes.specs.declared.Answer.{Answer}
+use Rattle.outcomes.specs.Calls.{Direction, By, changed, written, Outcome, refused, outcome}
+use Rattle.outcomes.proofs.Results.{Made, refusal-of, accepted-as, accepted, made as made-by}
+use Rattle.outcomes.specs.Contracts.{outcomeOf}
 
 -- what a caller that reads the lists is asked
 abbrev pub Within : Outcome → Type 0
@@ -27,6 +27,6 @@ within d by p cs fs marks cl fl o (accepted-as cs′ fs′ ec ef z a b e) =
 
 -- of a call's answer and lists, which are its outcome
 pub answered : (d : Direction) (by : By) (p : Plan) (cs fs marks cl fl : List ℕ) (r : Answer) (cs′ fs′ cl′ fl′ : List ℕ)
-    → made r cs′ fs′ cl′ fl′ ≡ outcome d by p cs fs marks cl fl → (r .cells ≤ length cl′) × (r .functions ≤ length fl′)
+    → outcomeOf r cs′ fs′ cl′ fl′ ≡ outcome d by p cs fs marks cl fl → (r .cells ≤ length cl′) × (r .functions ≤ length fl′)
 answered d by p cs fs marks cl fl r cs′ fs′ cl′ fl′ e =
     subst Within (sym e) (within d by p cs fs marks cl fl _ (made-by d by p cs fs marks cl fl))

@@ -9,7 +9,7 @@ use Rattle.hierarchy.specs.Hierarchy.{reach, needs, closure}
 use Rattle.grid.specs.Numbering.{offset, number, levelOf, placeOn, place}
 use Rattle.grid.specs.Plan.{between, inRange, ratio, grown, tooLarge, lastLevel, above, below, parent, child, covers, supportedAt, supported, apart, ancestor, nearAt, near}
 use Rattle.mesh.specs.Mesh.{absent, active, refined, children, cellFits, isMesh, isAdmissible, reactivable, tableOf, labelOf, labels, isLabelled, refusal3, refusal6, check, freshCells, freshFunctions, openMesh}
-use Rattle.refine.specs.Calls.{isKind, isTooDeep, markRefusal, underMarked, underKept, meant, base, smallest, changed, written, refused, settle, newCells, refusal, outcome}
+use Rattle.outcomes.specs.Calls.{eligible, isTooDeep, markRefusal, underMarked, underKept, selected, base, smallest, changed, written, refused, settle, newCells, refusal, outcome}
 use Rattle.lines.specs.Text.{bytes}
 use Rattle.lines.specs.Reading.{parts, isDigit, allDigits, valueAfter, isNumber, allNumbers, same, kindOf, meaningOf}
 use Rattle.lines.specs.Writing.{lastDigits, digits, spaced, items, answer}
@@ -42,5 +42,5 @@ table =
     ∷ []
 
 pub sample : T (allHold table)
-unfolding table opening calling stepOf repliesFrom replies joined session parts isDigit allDigits valueAfter isNumber allNumbers same kindOf meaningOf lastDigits digits spaced items answer some every sum elem all listed tabulate stored first reach needs closure offset number levelOf placeOn place between inRange ratio grown tooLarge lastLevel above below parent child covers supportedAt supported apart ancestor nearAt near absent active refined children cellFits isMesh isAdmissible labelOf labels isLabelled refusal3 refusal6 check freshCells freshFunctions openMesh reactivable isKind isTooDeep markRefusal underMarked underKept meant base tableOf smallest changed written refused settle newCells refusal outcome
+unfolding table opening calling stepOf repliesFrom replies joined session parts isDigit allDigits valueAfter isNumber allNumbers same kindOf meaningOf lastDigits digits spaced items answer some every sum elem all listed tabulate stored first reach needs closure offset number levelOf placeOn place between inRange ratio grown tooLarge lastLevel above below parent child covers supportedAt supported apart ancestor nearAt near absent active refined children cellFits isMesh isAdmissible labelOf labels isLabelled refusal3 refusal6 check freshCells freshFunctions openMesh reactivable eligible isTooDeep markRefusal underMarked underKept selected base tableOf smallest changed written refused settle newCells refusal outcome
 sample = tt

@@ -8,11 +8,12 @@ use lib.ListN.{getD, take, replicate}
 use Rattle.grid.specs.declared.Plan.{Plan}
 use Rattle.grid.specs.Plan.{cellTotal, functionTotal}
 use Rattle.mesh.specs.Mesh.{Opened, openMesh}
-use Rattle.refine.specs.Calls.{Direction, refine, coarsen, By, cells, functions, Outcome, outcome}
+use Rattle.outcomes.specs.Calls.{Direction, refine, coarsen, By, cells, functions, Outcome, outcome}
 use Rattle.lines.specs.declared.Kind.{Kind}
 use Rattle.lines.specs.declared.Kind.the-variants.{Unreadable, Wall, Split, Join, SplitFunctions, JoinFunctions}
 use Rattle.lines.specs.Reading.{linesOf, meaning}
 use Rattle.lines.specs.Writing.{answer, question, large}
+use Rattle.script.specs.Bounds.{inputBytes, wallCells}
 
 -- what is in hand between two lines: no wall, or a plan with its cell table and its function table
 pub data State : Type 0 where
@@ -39,8 +40,8 @@ planOf ns = record {
   columns = getD ns 0 0;
   rows = getD ns 1 0;
   levels = getD ns 2 0;
-  across = getD ns 3 0;
-  up = getD ns 4 0;
+  «degree_across» = getD ns 3 0;
+  «degree_up» = getD ns 4 0;
   class = getD ns 5 0;
 }
 
@@ -48,7 +49,7 @@ planOf ns = record {
 abbrev pub settled : State → Plan → Opened → Reply
 settled earlier p o =
     cond (eqb (o .number) 0)
-    (cond (ltb 4096 (cellTotal p)) (reply earlier large) (reply (wall p (o .cells) (o .functions)) (answer (o .number) [] [])))
+    (cond (ltb wallCells (cellTotal p)) (reply earlier large) (reply (wall p (o .cells) (o .functions)) (answer (o .number) [] [])))
     (reply earlier (answer (o .number) [] []))
 
 unfoldable pub opening : State → Plan → Reply
@@ -89,7 +90,7 @@ repliesFrom s (l ∷ ls) = let r = stepOf s l in r .printed ∷ repliesFrom (r .
 
 -- "It reads at most 16,384 bytes from standard input and ignores the rest": what each line of an input prints
 unfoldable pub replies : List ℕ → List (List ℕ)
-replies input = repliesFrom noWall (linesOf (take 16384 input))
+replies input = repliesFrom noWall (linesOf (take inputBytes input))
 
 unfoldable pub joined : List (List ℕ) → List ℕ
 joined [] = []

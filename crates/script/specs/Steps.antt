@@ -9,19 +9,20 @@ use Rattle.grid.specs.Plan.{cellTotal, functionTotal}
 use Rattle.lines.specs.Text.{Counts}
 use Rattle.lines.specs.declared.Kind.{Kind}
 use Rattle.lines.specs.declared.Kind.the-variants.{Unreadable, Wall, Split, Join, SplitFunctions, JoinFunctions}
-use Rattle.refine.specs.Calls.{Direction, refine, coarsen, By, cells, functions, Outcome}
+use Rattle.outcomes.specs.Calls.{Direction, refine, coarsen, By, cells, functions, Outcome}
 use Rattle.script.specs.Session.{State, noWall, wall, Reply, shown}
 use Rattle.script.specs.declared.Hand.{Hand}
 use Rattle.script.specs.declared.Done.{Done}
+use Rattle.script.specs.Bounds.{wallCells, wallFunctions}
 
 -- the state that a hand stands for, with the lent tables; their bytes past the wall's lengths mean nothing
 unfoldable pub held : Hand → List ℕ → List ℕ → State
 held h cs fs = cond (eqb (h .cells) 0) noWall (wall (h .plan) (take (h .cells) cs) (take (h .functions) fs))
 
 -- the lengths of the wall in hand are its plan's T and F, and those of a session's walls
-pub record Sized (h : Hand) : Type 0 where
-  pub cells≤ : h .cells ≤ 4096
-  pub functions≤ : h .functions ≤ 5784
+pub record HandSized (h : Hand) : Type 0 where
+  pub cells≤ : h .cells ≤ wallCells
+  pub functions≤ : h .functions ≤ wallFunctions
   pub whole : eqb (h .cells) 0 ≡ false → (h .cells ≡ cellTotal (h .plan)) × (h .functions ≡ functionTotal (h .plan))
 
 -- the call that a kind of line asks for
@@ -57,4 +58,4 @@ pub record Answered (o : Outcome) (count : ℕ) (cs fs out : List ℕ) : Type 0 
 pub record Replied (r : Reply) (done : Done) (cs fs out : List ℕ) : Type 0 where
   pub state : held (done .hand) cs fs ≡ r .state
   pub said : Said (r .printed) (done .count) out
-  pub sized : Sized (done .hand)
+  pub sized : HandSized (done .hand)

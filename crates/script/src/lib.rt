@@ -6,18 +6,28 @@ ghost use Prim.Native.Nat.{_≤_};
 ghost use lib.ListN.{length};
 ghost use Rattle.grid.specs.Range.{InRange};
 ghost use Rattle.grid.specs.Plan.{inRange, cellTotal, functionTotal};
-ghost use Rattle.refine.specs.Calls.{outcome};
-ghost use Rattle.changes.specs.Changes.{Meets};
+ghost use Rattle.outcomes.specs.Calls.{outcome};
+ghost use Rattle.outcomes.specs.Contracts.{Meets};
 ghost use Rattle.calls.specs.Parts as parts;
 ghost use Rattle.lines.specs.declared.Kind.the-variants.{Wall};
-ghost use Rattle.lines.specs.Writing.{answer as answer·line, question as question·line, large as large·line, answerRoom};
+ghost use Rattle.lines.specs.Writing.{answer as answer·line, question as question·line, large as large·line};
 ghost use Rattle.script.specs.Session.{planOf, opening, calling, obey as obey·kind, stepOf};
-ghost use Rattle.script.specs.Steps.{held, Sized, directionOf, byOf, Said, Answered, Replied};
+ghost use Rattle.script.specs.Steps.{held, HandSized, directionOf, byOf, Said, Answered, Replied};
+ghost use Rattle.script.specs.Bounds.{answerBytes, wallCells, wallFunctions};
 use calls::By;
 use calls::Direction;
 use grid::Plan;
 use lines::Kind;
-use refine::Answer;
+use outcomes::Answer;
+
+// The input that a session reads, the cells and functions of its largest wall, and the bytes of its longest answer.
+pub const INPUT_BYTES: usize = 16384;
+
+pub const WALL_CELLS: usize = 4096;
+
+pub const WALL_FUNCTIONS: usize = 5784;
+
+pub const ANSWER_BYTES: usize = 108693;
 
 // The wall in hand and the lengths of its tables. Without cells there is none.
 pub struct Hand {
@@ -33,14 +43,14 @@ pub struct Done {
 }
 
 fn say_question(out: &mut [u8]) -> usize
-    requires { ⌜ answerRoom 4096 5784 ≤ length (now out) ⌝ }
+    requires { ⌜ answerBytes ≤ length (now out) ⌝ }
     ensures { λ r. ⌜ Said question·line r (now (out .exit)) ⌝ }
 {
     lines::write_question(out)
 }
 
 fn say_large(out: &mut [u8]) -> usize
-    requires { ⌜ answerRoom 4096 5784 ≤ length (now out) ⌝ }
+    requires { ⌜ answerBytes ≤ length (now out) ⌝ }
     ensures { λ r. ⌜ Said large·line r (now (out .exit)) ⌝ }
 {
     lines::write_large(out)
@@ -48,8 +58,8 @@ fn say_large(out: &mut [u8]) -> usize
 
 // The longest answer of a session's wall has room.
 fn say_answer(out: &mut [u8], number: u32, cells: &[u32], functions: &[u32]) -> usize
-    requires { ⌜ answerRoom 4096 5784 ≤ length (now out) ⌝ }
-    requires { ⌜ (length (now cells) ≤ 4096) × (length (now functions) ≤ 5784) ⌝ }
+    requires { ⌜ answerBytes ≤ length (now out) ⌝ }
+    requires { ⌜ (length (now cells) ≤ wallCells) × (length (now functions) ≤ wallFunctions) ⌝ }
     ensures { λ r. ⌜ Said (answer·line number (now (cells .entry)) (now (functions .entry))) r (now (out .exit)) ⌝ }
 {
     lines::write_answer(out, number, cells, functions)
@@ -64,17 +74,17 @@ fn plan_of(numbers: &[u32]) -> Plan
         columns: numbers[0],
         rows: numbers[1],
         levels: numbers[2],
-        across: numbers[3],
-        up: numbers[4],
+        degree_across: numbers[3],
+        degree_up: numbers[4],
         class: numbers[5],
     }
 }
 
-// The functions of a wall that is not large: no such wall has more than 5,784.
+// The functions of a wall that is not large.
 fn function_count(plan: Plan) -> usize
     requires { ⌜ InRange plan ⌝ }
-    requires { ⌜ cellTotal plan ≤ 4096 ⌝ }
-    ensures { λ r. ⌜ (r ≡ functionTotal plan) × (r ≤ 5784) ⌝ }
+    requires { ⌜ cellTotal plan ≤ wallCells ⌝ }
+    ensures { λ r. ⌜ (r ≡ functionTotal plan) × (r ≤ wallFunctions) ⌝ }
 {
     plan.function_total() as usize
 }
@@ -88,10 +98,10 @@ fn open(
     none: &[u32],
     out: &mut [u8],
 ) -> Done
-    requires { ⌜ Sized earlier ⌝ }
-    requires { ⌜ (4096 ≤ length (now cells)) × (5784 ≤ length (now functions)) ⌝ }
+    requires { ⌜ HandSized earlier ⌝ }
+    requires { ⌜ (wallCells ≤ length (now cells)) × (wallFunctions ≤ length (now functions)) ⌝ }
     requires { ⌜ now none ≡ [] ⌝ }
-    requires { ⌜ answerRoom 4096 5784 ≤ length (now out) ⌝ }
+    requires { ⌜ answerBytes ≤ length (now out) ⌝ }
     ensures { λ r. ⌜ Replied (opening (held earlier (now (cells .entry)) (now (functions .entry))) plan) r (now (cells .exit)) (now (functions .exit)) (now (out .exit)) ⌝ }
 {
     if plan.in_range() {
@@ -114,10 +124,10 @@ fn open_in_range(
 ) -> Done
     requires { ⌜ InRange plan ⌝ }
     requires { ⌜ inRange plan ≡ true ⌝ }
-    requires { ⌜ Sized earlier ⌝ }
-    requires { ⌜ (4096 ≤ length (now cells)) × (5784 ≤ length (now functions)) ⌝ }
+    requires { ⌜ HandSized earlier ⌝ }
+    requires { ⌜ (wallCells ≤ length (now cells)) × (wallFunctions ≤ length (now functions)) ⌝ }
     requires { ⌜ now none ≡ [] ⌝ }
-    requires { ⌜ answerRoom 4096 5784 ≤ length (now out) ⌝ }
+    requires { ⌜ answerBytes ≤ length (now out) ⌝ }
     ensures { λ r. ⌜ Replied (opening (held earlier (now (cells .entry)) (now (functions .entry))) plan) r (now (cells .exit)) (now (functions .exit)) (now (out .exit)) ⌝ }
 {
     if plan.too_large() {
@@ -128,7 +138,7 @@ fn open_in_range(
         };
     }
     let total = plan.cell_total() as usize;
-    if total > 4096 {
+    if total > WALL_CELLS {
         let count = say_large(out);
         return Done {
             hand: earlier,
@@ -203,8 +213,8 @@ fn answer(
     function_list: &mut [u32],
     out: &mut [u8],
 ) -> usize
-    requires { ⌜ (length (now «cell_list») ≤ 4096) × (length (now «function_list») ≤ 5784) ⌝ }
-    requires { ⌜ answerRoom 4096 5784 ≤ length (now out) ⌝ }
+    requires { ⌜ (length (now «cell_list») ≤ wallCells) × (length (now «function_list») ≤ wallFunctions) ⌝ }
+    requires { ⌜ answerBytes ≤ length (now out) ⌝ }
     ensures { λ r. ⌜ Answered (outcome (directionOf kind) (byOf kind) plan (now (cells .entry)) (now (functions .entry)) (now (marks .entry)) (now («cell_list» .entry)) (now («function_list» .entry))) r (now (cells .exit)) (now (functions .exit)) (now (out .exit)) ⌝ }
 {
     let answer = call(
@@ -237,10 +247,10 @@ fn change(
     function_list: &mut [u32],
     out: &mut [u8],
 ) -> Done
-    requires { ⌜ Sized hand ⌝ }
-    requires { ⌜ (4096 ≤ length (now cells)) × (5784 ≤ length (now functions)) ⌝ }
-    requires { ⌜ (4096 ≤ length (now «cell_list»)) × (5784 ≤ length (now «function_list»)) ⌝ }
-    requires { ⌜ answerRoom 4096 5784 ≤ length (now out) ⌝ }
+    requires { ⌜ HandSized hand ⌝ }
+    requires { ⌜ (wallCells ≤ length (now cells)) × (wallFunctions ≤ length (now functions)) ⌝ }
+    requires { ⌜ (wallCells ≤ length (now «cell_list»)) × (wallFunctions ≤ length (now «function_list»)) ⌝ }
+    requires { ⌜ answerBytes ≤ length (now out) ⌝ }
     ensures { λ r. ⌜ Replied (calling (directionOf kind) (byOf kind) (held hand (now (cells .entry)) (now (functions .entry))) (now (marks .entry))) r (now (cells .exit)) (now (functions .exit)) (now (out .exit)) ⌝ }
 {
     let total = hand.cells;
@@ -274,11 +284,11 @@ fn obey(
     function_list: &mut [u32],
     out: &mut [u8],
 ) -> Done
-    requires { ⌜ Sized hand ⌝ }
+    requires { ⌜ HandSized hand ⌝ }
     requires { ⌜ (kind ≡ Wall → 6 ≤ length (now numbers)) ⌝ }
-    requires { ⌜ (4096 ≤ length (now cells)) × (5784 ≤ length (now functions)) ⌝ }
-    requires { ⌜ (4096 ≤ length (now «cell_list»)) × (5784 ≤ length (now «function_list»)) ⌝ }
-    requires { ⌜ answerRoom 4096 5784 ≤ length (now out) ⌝ }
+    requires { ⌜ (wallCells ≤ length (now cells)) × (wallFunctions ≤ length (now functions)) ⌝ }
+    requires { ⌜ (wallCells ≤ length (now «cell_list»)) × (wallFunctions ≤ length (now «function_list»)) ⌝ }
+    requires { ⌜ answerBytes ≤ length (now out) ⌝ }
     ensures { λ r. ⌜ Replied (obey·kind kind (held hand (now (cells .entry)) (now (functions .entry))) (now (numbers .entry))) r (now (cells .exit)) (now (functions .exit)) (now (out .exit)) ⌝ }
 {
     match kind {
@@ -314,11 +324,11 @@ pub fn step(
     function_list: &mut [u32],
     out: &mut [u8],
 ) -> Done
-    requires { ⌜ Sized hand ⌝ }
+    requires { ⌜ HandSized hand ⌝ }
     requires { ⌜ 64 ≤ length (now numbers) ⌝ }
-    requires { ⌜ (4096 ≤ length (now cells)) × (5784 ≤ length (now functions)) ⌝ }
-    requires { ⌜ (4096 ≤ length (now «cell_list»)) × (5784 ≤ length (now «function_list»)) ⌝ }
-    requires { ⌜ answerRoom 4096 5784 ≤ length (now out) ⌝ }
+    requires { ⌜ (wallCells ≤ length (now cells)) × (wallFunctions ≤ length (now functions)) ⌝ }
+    requires { ⌜ (wallCells ≤ length (now «cell_list»)) × (wallFunctions ≤ length (now «function_list»)) ⌝ }
+    requires { ⌜ answerBytes ≤ length (now out) ⌝ }
     ensures { λ r. ⌜ Replied (stepOf (held hand (now (cells .entry)) (now (functions .entry))) (now (line .entry))) r (now (cells .exit)) (now (functions .exit)) (now (out .exit)) ⌝ }
 {
     let read = lines::read_line(line, numbers);
@@ -338,14 +348,14 @@ pub fn step(
 
 // What is in hand before the first line.
 pub fn no_wall() -> Hand
-    ensures { λ r. ⌜ (Sized r) × (r .cells ≡ 0) ⌝ }
+    ensures { λ r. ⌜ (HandSized r) × (r .cells ≡ 0) ⌝ }
 {
     let plan = Plan {
         columns: 0,
         rows: 0,
         levels: 0,
-        across: 0,
-        up: 0,
+        degree_across: 0,
+        degree_up: 0,
         class: 0,
     };
     Hand {

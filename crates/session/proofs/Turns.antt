@@ -16,6 +16,7 @@ use Rattle.script.specs.declared.Done.{Done}
 use Rattle.script.specs.Steps.{held, Replied}
 use Rattle.script.proofs.Replies.{held-none}
 use Rattle.session.specs.Program.{after, linesIn, Due, Left}
+use Rattle.script.specs.Bounds.{inputBytes}
 
 -- what is left has a first text
 module _ (xs : List (List ℕ)) (n : ℕ) (y : List ℕ) (ys : List (List ℕ)) (e : drop n xs ≡ y ∷ ys) where
@@ -45,9 +46,9 @@ unfolding after
 after-more s [] l = refl
 after-more s (m ∷ ls) l = after-more (stepOf s m .state) ls l
 
-pub starts : (input : List ℕ) (h : Hand) (cs fs : List ℕ) → length input ≤ 16384 → h .cells ≡ 0 → Left input 0 0 (held h cs fs)
+pub starts : (input : List ℕ) (h : Hand) (cs fs : List ℕ) → length input ≤ inputBytes → h .cells ≡ 0 → Left input 0 0 (held h cs fs)
 unfolding replies after
-starts input h cs fs l e = record { state = held-none h cs fs e; lines = rw (take-all 16384 input l) refl; answered = omega arith; left = rw (take-all 16384 input l, held-none h cs fs e) refl }
+starts input h cs fs l e = record { state = held-none h cs fs e; lines = rw (take-all inputBytes input l) refl; answered = omega arith; left = rw (take-all inputBytes input l, held-none h cs fs e) refl }
 
 module _ (input : List ℕ) (n at r : ℕ) (s : State) (l : Left input n at s) (i : at < length input) (e : EndsLine input at r) where
   abbrev turned : Reply

@@ -5,6 +5,7 @@ use Prim.Native.Nat.{ℕ, _≤_, _<_}
 use lib.ListN.{length, getD, take, drop}
 use Rattle.lines.specs.Reading.{linesOf}
 use Rattle.script.specs.Session.{State, noWall, stepOf, repliesFrom, replies}
+use Rattle.script.specs.Bounds.{inputBytes}
 
 -- the text is what the n-th line of the input prints, counted from 0: in order, these are all that `session` says is printed
 pub record Due (input : List ℕ) (n : ℕ) (text : List ℕ) : Type 0 where
@@ -18,7 +19,7 @@ after s (l ∷ ls) = after (stepOf s l .state) ls
 
 -- the lines that a session answers
 abbrev pub linesIn : List ℕ → List (List ℕ)
-linesIn input = linesOf (take 16384 input)
+linesIn input = linesOf (take inputBytes input)
 
 -- n lines are answered, and the next starts at a place of the input: s is in hand after those n, and what is left to be printed is
 -- what the lines from there on print

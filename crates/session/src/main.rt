@@ -2,11 +2,15 @@
 ghost use mathlib.Core.Path.{_≡_};
 ghost use Prim.Native.Nat.{_≤_};
 ghost use lib.ListN.{length, take};
-ghost use Rattle.lines.specs.Writing.{answerRoom};
 ghost use Rattle.script.specs.Session.{replies};
 ghost use Rattle.session.specs.Program.{Due};
+ghost use Rattle.script.specs.Bounds.{answerBytes, inputBytes, wallCells, wallFunctions};
 use libc::STDIN_FILENO;
 use libc::STDOUT_FILENO;
+use script::ANSWER_BYTES;
+use script::INPUT_BYTES;
+use script::WALL_CELLS;
+use script::WALL_FUNCTIONS;
 
 // Hands the answer to the n-th line of the input to standard output. Nothing else is ever handed to it. What is made of it there
 // no contract can say.
@@ -26,11 +30,11 @@ fn run(
     function_list: &mut [u32],
     out: &mut [u8],
 ) -> usize
-    requires { ⌜ length (now input) ≤ 16384 ⌝ }
+    requires { ⌜ length (now input) ≤ inputBytes ⌝ }
     requires { ⌜ 64 ≤ length (now numbers) ⌝ }
-    requires { ⌜ (4096 ≤ length (now cells)) × (5784 ≤ length (now functions)) ⌝ }
-    requires { ⌜ (4096 ≤ length (now «cell_list»)) × (5784 ≤ length (now «function_list»)) ⌝ }
-    requires { ⌜ answerRoom 4096 5784 ≤ length (now out) ⌝ }
+    requires { ⌜ (wallCells ≤ length (now cells)) × (wallFunctions ≤ length (now functions)) ⌝ }
+    requires { ⌜ (wallCells ≤ length (now «cell_list»)) × (wallFunctions ≤ length (now «function_list»)) ⌝ }
+    requires { ⌜ answerBytes ≤ length (now out) ⌝ }
     ensures { λ r. ⌜ r ≡ length (replies (now (input .entry))) ⌝ }
 {
     let mut hand = script::no_wall();
@@ -60,16 +64,16 @@ fn run(
 // The tables and lists of the largest wall of a session, and room for its longest answer. The input is what was read into a
 // buffer of 16,384 bytes.
 fn session(buffer: &[u8], count: usize) -> usize
-    requires { ⌜ length (now buffer) ≡ 16384 ⌝ }
+    requires { ⌜ length (now buffer) ≡ inputBytes ⌝ }
     requires { ⌜ count ≤ length (now buffer) ⌝ }
     ensures { λ r. ⌜ r ≡ length (replies (take count (now (buffer .entry)))) ⌝ }
 {
     let mut numbers = [0u32; 64];
-    let mut cells = [0u8; 4096];
-    let mut functions = [0u8; 5784];
-    let mut cell_list = [0u32; 4096];
-    let mut function_list = [0u32; 5784];
-    let mut out = [0u8; 108693];
+    let mut cells = [0u8; WALL_CELLS];
+    let mut functions = [0u8; WALL_FUNCTIONS];
+    let mut cell_list = [0u32; WALL_CELLS];
+    let mut function_list = [0u32; WALL_FUNCTIONS];
+    let mut out = [0u8; ANSWER_BYTES];
     run(
         &buffer[..count],
         &mut numbers,
@@ -82,7 +86,7 @@ fn session(buffer: &[u8], count: usize) -> usize
 }
 
 fn main() {
-    let mut input = [0u8; 16384];
+    let mut input = [0u8; INPUT_BYTES];
     let count = io::read_full(STDIN_FILENO, &mut input);
     session(&input, count);
 }

@@ -25,7 +25,10 @@ use Rattle.mesh.specs.Mesh.{active, refined, isMesh, isAdmissible, isLabelled, 
 use Rattle.mesh.proofs.Bridge.{chain, pass, stop}
 use Rattle.mesh.proofs.Area.{area-4}
 use Rattle.tables.specs.Entries.{byteIs, freshByte}
-use Rattle.cells.proofs.Levels.{offset-zero, offset-next, level-ends, columns-pos}
+use Rattle.grid.proofs.Levels.{offset-zero, offset-next}
+use Rattle.grid.proofs.Numbering.{level-ends}
+use Rattle.nesting.proofs.Levels.{columns-pos}
+use Rattle.grid.specs.Bounds.{mostCells}
 
 module _ (p : Plan) (cs fs : List ℕ) where
   -- ---- refusals 1 to 3
@@ -56,7 +59,7 @@ module _ (p : Plan) (cs fs : List ℕ) where
   -- what holds where none of them is given
   pub record Passed : Type 0 where
     pub range : InRange p
-    pub small : cellTotal p ≤ 21845
+    pub small : cellTotal p ≤ mostCells
     pub cells : length cs ≡ cellTotal p
     pub functions : length fs ≡ functionTotal p
 
@@ -68,7 +71,7 @@ module _ (p : Plan) (cs fs : List ℕ) where
       let (t3, e3) = pass (eqb (length cs) (cellTotal p) && eqb (length fs) (functionTotal p)) 2 0 e2 in
       record {
         range = in-range p t1;
-        small = nltb→le 21845 (cellTotal p) (not-i (ltb 21845 (cellTotal p)) t2);
+        small = nltb→le mostCells (cellTotal p) (not-i (ltb mostCells (cellTotal p)) t2);
         cells = eqb→eq _ _ (and-l (eqb (length cs) (cellTotal p)) (eqb (length fs) (functionTotal p)) t3);
         functions = eqb→eq _ _ (and-r (eqb (length cs) (cellTotal p)) (eqb (length fs) (functionTotal p)) t3);
       }
@@ -132,7 +135,7 @@ module _ (p : Plan) (cs fs : List ℕ) where
     arith,
     k .functions,
     k .range .levels≤,
-    offset-small p (k .range) (p .across) (p .up) (record { across≤ = k .range .across≤; up≤ = k .range .up≤ }) (p .levels) (le-refl (p .levels)),
+    offset-small p (k .range) (p .«degree_across») (p .«degree_up») (record { across≤ = k .range .across≤; up≤ = k .range .up≤ }) (p .levels) (le-refl (p .levels)),
   )
 
 -- ---- tally, one byte more

@@ -3,11 +3,11 @@ use calls::By;
 use calls::Direction;
 use grid::Plan;
 use mesh::Count;
-use refine::Answer;
+use outcomes::Answer;
 ghost use mathlib.Core.Path.{_≡_};
 ghost use Rattle.mesh.specs.Mesh.{openMesh, check, count};
-ghost use Rattle.refine.specs.Calls.{refineCells, refineFunctions, coarsenCells, coarsenFunctions};
-ghost use Rattle.changes.specs.Changes.{Meets};
+ghost use Rattle.outcomes.specs.Calls.{refineCells, refineFunctions, coarsenCells, coarsenFunctions};
+ghost use Rattle.outcomes.specs.Contracts.{Meets};
 
 #[no_mangle]
 pub extern "C" fn wallmirror_open(plan: Plan, cells: &mut [u8], functions: &mut [u8]) -> u32

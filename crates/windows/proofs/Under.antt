@@ -35,7 +35,7 @@ module _ (p : Plan) (range : InRange p) (cells : List ℕ) where
     x = functionPlace p f
 
     abbrev pub least-support : ℕ
-    least-support = leastUnder p cells (x .level) (p .across) (p .up) (x .row) (x .column)
+    least-support = leastUnder p cells (x .level) (p .«degree_across») (p .«degree_up») (x .row) (x .column)
 
     pub support-le : (c : ℕ) → c < cellTotal p → T (supported p f c) → least-support ≤ getD cells c 0
     support-le c l t =
@@ -44,10 +44,10 @@ module _ (p : Plan) (range : InRange p) (cells : List ℕ) where
         let i = cell-inside p range c l in
         let e = cell-number-place p range c l in
         rw (u .level)
-        (rw e at (under-le p cells (cellPlace p c .level) (p .across) (p .up) (x .row) (x .column) (cellPlace p c .row) (cellPlace p c .column) (i .row<) (i .column<) (u .rows .from) (u .rows .to) (u .columns .from) (u .columns .to)))
+        (rw e at (under-le p cells (cellPlace p c .level) (p .«degree_across») (p .«degree_up») (x .row) (x .column) (cellPlace p c .row) (cellPlace p c .column) (i .row<) (i .column<) (u .rows .from) (u .rows .to) (u .columns .from) (u .columns .to)))
 
     pub support-ge : (v : ℕ) → v ≤ 2 → ((c : ℕ) → c < cellTotal p → T (supported p f c) → v ≤ getD cells c 0) → v ≤ least-support
-    support-ge v t h = under-ge p cells (x .level) (p .across) (p .up) (x .row) (x .column) v t (λ y z l m a b' c d.
+    support-ge v t h = under-ge p cells (x .level) (p .«degree_across») (p .«degree_up») (x .row) (x .column) v t (λ y z l m a b' c d.
         let i : CellInside p (at (x .level) y z) = record { level< = function-inside p range f b .level<; row< = l; column< = m } in
         h (cellNumber p (at (x .level) y z)) (cell-number-lt p range (at (x .level) y z) i)
         (under-supported p range f (cellNumber p (at (x .level) y z)) (cell-number-lt p range (at (x .level) y z) i)
@@ -73,18 +73,18 @@ module _ (p : Plan) (range : InRange p) (cells : List ℕ) where
 
   -- the table of the windows of the degrees has a byte for each function of the level
   module _ (k : ℕ) (l : k < p .levels) where
-    pub part-size : high p k (p .up) * wide p k (p .across) ≡ functionRowsAt p k * functionColumnsAt p k
+    pub part-size : high p k (p .«degree_up») * wide p k (p .«degree_across») ≡ functionRowsAt p k * functionColumnsAt p k
     part-size = rw (across-firsts p k, up-firsts p k)
 
     pub part-ends : functionOffset p k + functionRowsAt p k * functionColumnsAt p k ≤ functionTotal p
     part-ends = offset-step (functionColumnsAt p) (functionRowsAt p) k (p .levels) l
 
     pub level-support : (j : ℕ) (m : j < functionRowsAt p k * functionColumnsAt p k)
-        → levelLeast p cells k (p .across) (p .up) j ≡ least-support (functionOffset p k + j) (omega (arith, part-ends))
+        → levelLeast p cells k (p .«degree_across») (p .«degree_up») j ≡ least-support (functionOffset p k + j) (omega (arith, part-ends))
     unfolding levelLeast
     level-support j m =
         rw (across-firsts p k)
-        (ap (λ (x : Place). leastUnder p cells (x .level) (p .across) (p .up) (x .row) (x .column))
+        (ap (λ (x : Place). leastUnder p cells (x .level) (p .«degree_across») (p .«degree_up») (x .row) (x .column))
         (place-rest (functionColumnsAt p) (functionRowsAt p) (p .levels) (functionOffset p k + j) k j l (omega arith) m))
 
   -- of the window of twice the degrees that ends the degrees after the ancestor's place
@@ -93,7 +93,7 @@ module _ (p : Plan) (range : InRange p) (cells : List ℕ) where
     a = ancestorOf p (cellPlace p q)
 
     abbrev least-near : ℕ
-    least-near = leastUnder p cells (a .level) (2 * p .across) (2 * p .up) (firstOver (upAt p (a .level)) (a .row) + p .up) (firstOver (acrossAt p (a .level)) (a .column) + p .across)
+    least-near = leastUnder p cells (a .level) (2 * p .«degree_across») (2 * p .«degree_up») (firstOver (upAt p (a .level)) (a .row) + p .«degree_up») (firstOver (acrossAt p (a .level)) (a .column) + p .«degree_across»)
 
     pub near-le : (c : ℕ) → T (near p q c) → least-near ≤ getD cells c 0
     near-le c t =
@@ -104,10 +104,10 @@ module _ (p : Plan) (range : InRange p) (cells : List ℕ) where
         let rows = u .rows in
         let columns = u .columns in
         rw (u .level)
-        (rw e at (under-le p cells (cellPlace p c .level) (2 * p .across) (2 * p .up) _ _ (cellPlace p c .row) (cellPlace p c .column) (i .row<) (i .column<) (rows .right) (omega (arith, rows .left)) (columns .right) (omega (arith, columns .left))))
+        (rw e at (under-le p cells (cellPlace p c .level) (2 * p .«degree_across») (2 * p .«degree_up») _ _ (cellPlace p c .row) (cellPlace p c .column) (i .row<) (i .column<) (rows .right) (omega (arith, rows .left)) (columns .right) (omega (arith, columns .left))))
 
     pub near-ge : (v : ℕ) → v ≤ 2 → ((c : ℕ) → T (near p q c) → v ≤ getD cells c 0) → v ≤ least-near
-    near-ge v t h = under-ge p cells (a .level) (2 * p .across) (2 * p .up) _ _ v t (λ y z l m r s c d.
+    near-ge v t h = under-ge p cells (a .level) (2 * p .«degree_across») (2 * p .«degree_up») _ _ v t (λ y z l m r s c d.
         let i : CellInside p (at (a .level) y z) = record { level< = ancestor-in p (cellPlace p q) has (cell-inside p range q b) .level<; row< = l; column< = m } in
         h (cellNumber p (at (a .level) y z))
         (around-near p range q (cellNumber p (at (a .level) y z)) (cell-number-lt p range (at (a .level) y z) i) has

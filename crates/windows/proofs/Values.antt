@@ -48,10 +48,10 @@ module _ (p : Plan) (range : InRange p) (values : List ℕ) (k : ℕ) (l : k < p
 
   module _ (y x : ℕ) (yl : y < rowsAt p k) (xl : x < columnsAt p k) where
     abbrev j : ℕ
-    j = firstOver (upAt p k) y + p .up
+    j = firstOver (upAt p k) y + p .«degree_up»
 
     abbrev i : ℕ
-    i = firstOver (acrossAt p k) x + p .across
+    i = firstOver (acrossAt p k) x + p .«degree_across»
 
     abbrev c : ℕ
     c = cellNumber p (at k y x)
@@ -65,7 +65,7 @@ module _ (p : Plan) (range : InRange p) (values : List ℕ) (k : ℕ) (l : k < p
     place : cellPlace p c ≡ at k y x
     place = cell-place-number p range (at k y x) inside
 
-    top : windowAt part FW FH (p .across) (p .up) j i ≤ 2
+    top : windowAt part FW FH (p .«degree_across») (p .«degree_up») j i ≤ 2
     unfolding windowAt
     top = least-top 2 _ _
 
@@ -73,9 +73,9 @@ module _ (p : Plan) (range : InRange p) (values : List ℕ) (k : ℕ) (l : k < p
     value f = cond (supported p f c) (getD values f 0) 2
 
     abbrev row-least : ℕ → ℕ
-    row-least r = least 2 (p .across + 1) (back FW i (λ s. getD part (r * FW + s) 0))
+    row-least r = least 2 (p .«degree_across» + 1) (back FW i (λ s. getD part (r * FW + s) 0))
 
-    value-le : (f : ℕ) → f < functionTotal p → T (supported p f c) → windowAt part FW FH (p .across) (p .up) j i ≤ getD values f 0
+    value-le : (f : ℕ) → f < functionTotal p → T (supported p f c) → windowAt part FW FH (p .«degree_across») (p .«degree_up») j i ≤ getD values f 0
     unfolding windowAt number
     value-le f m t =
         let u = rw place at (supported-under p range f c b t) in
@@ -87,12 +87,12 @@ module _ (p : Plan) (range : InRange p) (values : List ℕ) (k : ℕ) (l : k < p
         let v : getD part (functionPlace p f .row * FW + functionPlace p f .column) 0 ≡ getD values f 0 = part-at from values _ ∙ ap (λ z. getD values z 0) (omega arith) in
         let rows = u .rows in
         let columns = u .columns in
-        rw (← v) (le-trans (back-le FH (p .up) j row-least (functionPlace p f .row) r (omega (arith, rows .to)) (omega (arith, rows .from)))
-        (back-le FW (p .across) i (λ z. getD part (functionPlace p f .row * FW + z) 0) (functionPlace p f .column) s (omega (arith, columns .to)) (omega (arith, columns .from))))
+        rw (← v) (le-trans (back-le FH (p .«degree_up») j row-least (functionPlace p f .row) r (omega (arith, rows .to)) (omega (arith, rows .from)))
+        (back-le FW (p .«degree_across») i (λ z. getD part (functionPlace p f .row * FW + z) 0) (functionPlace p f .column) s (omega (arith, columns .to)) (omega (arith, columns .from))))
 
-    value-ge : leastValue p values c ≤ windowAt part FW FH (p .across) (p .up) j i
+    value-ge : leastValue p values c ≤ windowAt part FW FH (p .«degree_across») (p .«degree_up») j i
     unfolding windowAt leastValue number
-    value-ge = back-ge FH (p .up) j row-least (least 2 (functionTotal p) value) (least-top 2 _ _) (λ r ra rb rc. back-ge FW (p .across) i (λ s. getD part (r * FW + s) 0) (least 2 (functionTotal p) value) (least-top 2 _ _) (λ s sa sb sc.
+    value-ge = back-ge FH (p .«degree_up») j row-least (least 2 (functionTotal p) value) (least-top 2 _ _) (λ r ra rb rc. back-ge FW (p .«degree_across») i (λ s. getD part (r * FW + s) 0) (least 2 (functionTotal p) value) (least-top 2 _ _) (λ s sa sb sc.
         let n : FunctionInside p (at k r s) = record { level< = l; row< = ra; column< = sa } in
         let f : ℕ = functionNumber p (at k r s) in
         let m = function-number-lt p range (at k r s) n in
@@ -102,7 +102,7 @@ module _ (p : Plan) (range : InRange p) (values : List ℕ) (k : ℕ) (l : k < p
         let w : cond (supported p (functionNumber p (at k r s)) c) (getD values (functionNumber p (at k r s)) 0) 2 ≡ getD values (functionNumber p (at k r s)) 0 = rw (T-true (supported p (functionNumber p (at k r s)) c) t) in
         rw v (rw w at (least-le 2 (functionTotal p) value (functionNumber p (at k r s)) m))))
 
-    value-is : windowAt part FW FH (p .across) (p .up) j i ≡ leastValue p values c
+    value-is : windowAt part FW FH (p .«degree_across») (p .«degree_up») j i ≡ leastValue p values c
     unfolding leastValue
     value-is = le-antisymm
         (least-ge 2 (functionTotal p) _ _ top (λ f m. cases (supported p f c)
@@ -112,18 +112,18 @@ module _ (p : Plan) (range : InRange p) (values : List ℕ) (k : ℕ) (l : k < p
 
   -- ---- the table
 
-  columns-are : FW + p .across ≡ wide p k (2 * p .across)
+  columns-are : FW + p .«degree_across» ≡ wide p k (2 * p .«degree_across»)
   columns-are = omega (arith, across-firsts p k)
 
-  rows-are : FH + p .up ≡ high p k (2 * p .up)
+  rows-are : FH + p .«degree_up» ≡ high p k (2 * p .«degree_up»)
   rows-are = omega (arith, up-firsts p k)
 
   pub values-in : {columns rows here n m : ℕ} → columns ≡ FW → rows ≡ FH → here ≡ from → length values ≡ functionTotal p → NearRoom p m → NearRoom p n
-      → LevelIn (length values - here) m n columns rows (p .across) (p .up) × (here ≤ length values)
+      → LevelIn (length values - here) m n columns rows (p .«degree_across») (p .«degree_up») × (here ≤ length values)
   values-in {columns} {rows} {here} {n} {m} ec er eh s x y =
       let o = offset-step (functionColumnsAt p) (functionRowsAt p) k (p .levels) l in
-      let a : (FH + p .up) * (FW + p .across) ≤ m = rw (columns-are, rows-are) (x .enough k l) in
-      let b : (FH + p .up) * (FW + p .across) ≤ n = rw (columns-are, rows-are) (y .enough k l) in
+      let a : (FH + p .«degree_up») * (FW + p .«degree_across») ≤ m = rw (columns-are, rows-are) (x .enough k l) in
+      let b : (FH + p .«degree_up») * (FW + p .«degree_across») ≤ n = rw (columns-are, rows-are) (y .enough k l) in
       let ca = across-in p range k l .cells≥ in
       let ra = up-in p range k l .cells≥ in
       rw (ec, er, eh) (
@@ -131,7 +131,7 @@ module _ (p : Plan) (range : InRange p) (values : List ℕ) (k : ℕ) (l : k < p
           columns≥ = omega arith;
           rows≥ = omega arith;
           from≤ = omega arith;
-          scratch≤ = omega (arith, mul-le-mul-right (FW + p .across) (more FH (p .up)));
+          scratch≤ = omega (arith, mul-le-mul-right (FW + p .«degree_across») (more FH (p .«degree_up»)));
           out≤ = b;
         },
         omega arith,
@@ -141,22 +141,22 @@ module _ (p : Plan) (range : InRange p) (values : List ℕ) (k : ℕ) (l : k < p
       more a b = omega arith
 
   pub value-table : {columns rows here : ℕ} (found start : List ℕ) → columns ≡ FW → rows ≡ FH → here ≡ from → NearRoom p (length start)
-      → found ≡ filled 0 ((rows + p .up) * (columns + p .across)) (windowLeast (midOf here (length values - here) values) columns rows (p .across) (p .up)) start
+      → found ≡ filled 0 ((rows + p .«degree_up») * (columns + p .«degree_across»)) (windowLeast (midOf here (length values - here) values) columns rows (p .«degree_across») (p .«degree_up»)) start
       → ValueTable p values found k
   unfolding filled windowLeast
   value-table found start ec er eh room e =
       let q = rw (ec, er, eh) at e in
       let room′ = room .enough k l in
-      let size : (FH + p .up) * (FW + p .across) ≤ length start = rw (columns-are, rows-are) room′ in
+      let size : (FH + p .«degree_up») * (FW + p .«degree_across») ≤ length start = rw (columns-are, rows-are) room′ in
       record {
         long = rw (ap length q ∙ filled-length 0 _ _ start) room′;
         made = λ y x yl xl.
-            let m : i y x yl xl < FW + p .across = omega (arith, across-firsts p k, first-lt (acrossAt p k) x xl) in
-            let n : j y x yl xl < FH + p .up = omega (arith, up-firsts p k, first-lt (upAt p k) y yl) in
-            let t : j y x yl xl * (FW + p .across) + i y x yl xl < (FH + p .up) * (FW + p .across) = omega (arith, mul-le-mul-right (FW + p .across) n) in
+            let m : i y x yl xl < FW + p .«degree_across» = omega (arith, across-firsts p k, first-lt (acrossAt p k) x xl) in
+            let n : j y x yl xl < FH + p .«degree_up» = omega (arith, up-firsts p k, first-lt (upAt p k) y yl) in
+            let t : j y x yl xl * (FW + p .«degree_across») + i y x yl xl < (FH + p .«degree_up») * (FW + p .«degree_across») = omega (arith, mul-le-mul-right (FW + p .«degree_across») n) in
             ap (λ w. getD found (j y x yl xl * w + i y x yl xl) 0) (sym columns-are)
-            ∙ (ap (λ z. getD z (j y x yl xl * (FW + p .across) + i y x yl xl) 0) q
-            ∙ (mapped-at _ start (j y x yl xl * (FW + p .across) + i y x yl xl) (omega arith)
-            ∙ rw (run-in 0 ((FH + p .up) * (FW + p .across)) (j y x yl xl * (FW + p .across) + i y x yl xl) (omega arith) (omega arith), digits-div (j y x yl xl) m, digits-mod (j y x yl xl) m)
+            ∙ (ap (λ z. getD z (j y x yl xl * (FW + p .«degree_across») + i y x yl xl) 0) q
+            ∙ (mapped-at _ start (j y x yl xl * (FW + p .«degree_across») + i y x yl xl) (omega arith)
+            ∙ rw (run-in 0 ((FH + p .«degree_up») * (FW + p .«degree_across»)) (j y x yl xl * (FW + p .«degree_across») + i y x yl xl) (omega arith) (omega arith), digits-div (j y x yl xl) m, digits-mod (j y x yl xl) m)
             (value-is y x yl xl)));
       }

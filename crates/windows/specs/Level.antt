@@ -44,7 +44,7 @@ pub record LevelRoom (p : Plan) (k size room place across up : ℕ) : Type 0 whe
 -- n bytes are enough for the table of any level with windows of twice the degrees, and for that of its functions with windows of the
 -- degrees
 pub record NearRoom (p : Plan) (n : ℕ) : Type 0 where
-  pub enough : (k : ℕ) → k < p .levels → high p k (2 * p .up) * wide p k (2 * p .across) ≤ n
+  pub enough : (k : ℕ) → k < p .levels → high p k (2 * p .«degree_up») * wide p k (2 * p .«degree_across») ≤ n
 
 -- ---- the functions over a cell
 
@@ -57,6 +57,6 @@ abbrev pub valueAt : Side → Side → ℕ → ℕ → ℕ
 valueAt across up y x = (firstOver up y + up .degree) * (firsts across + 2 * across .degree) + (firstOver across x + across .degree)
 
 pub record ValueTable (p : Plan) (values table : List ℕ) (k : ℕ) : Type 0 where
-  pub long : high p k (2 * p .up) * wide p k (2 * p .across) ≤ length table
+  pub long : high p k (2 * p .«degree_up») * wide p k (2 * p .«degree_across») ≤ length table
   pub made : (y x : ℕ) → y < rowsAt p k → x < columnsAt p k
       → getD table (valueAt (acrossAt p k) (upAt p k) y x) 0 ≡ leastValue p values (cellNumber p (record { level = k; row = y; column = x }))

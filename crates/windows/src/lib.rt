@@ -119,7 +119,7 @@ pub fn functions(plan: Plan, values: &[u8], level: u32, scratch: &mut [u8], out:
     let columns = plan.function_columns_at(level) as usize;
     let rows = plan.function_rows_at(level) as usize;
     let here = plan.function_offset(level) as usize;
-    let across = plan.across as usize;
-    let up = plan.up as usize;
+    let across = plan.degree_across as usize;
+    let up = plan.degree_up as usize;
     windows(&values[here..], scratch, out, columns, rows, across, up);
 }

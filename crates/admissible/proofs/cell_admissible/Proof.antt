@@ -67,8 +67,8 @@ column-is c = rw (← c .before .across-at .ensures) (c .first-over2 .ensures)
 
 -- the byte lies in the table
 fits : (c : tie.After-first-over2) → let a = c .before .before .before .before .before .before .before .before .before .before in
-    let row = c .before .before .before .first-over .result + a .args .plan .up in
-    (row * a .args .width + (c .first-over2 .result + a .args .plan .across) < length (a .args .near .now)) × (row * a .args .width < length (a .args .near .now))
+    let row = c .before .before .before .first-over .result + a .args .plan .«degree_up» in
+    (row * a .args .width + (c .first-over2 .result + a .args .plan .«degree_across») < length (a .args .near .now)) × (row * a .args .width < length (a .args .near .now))
 fits c =
     let o = c .before .before .before .before .before in
     let a = o .before .before .before .before .before in

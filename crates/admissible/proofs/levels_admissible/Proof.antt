@@ -9,7 +9,7 @@ use Rattle.facts.specs.Ranges.{everyFrom}
 use Rattle.grid.specs.Plan.{columnsAt, rowsAt, cellOffset}
 use Rattle.mesh.specs.Mesh.{isAdmissible}
 use Rattle.admissible.specs.Near.{cellAdmissible}
-use Rattle.cells.proofs.Levels.{levels-none, levels-more, levels-stop, levels-all}
+use Rattle.grid.proofs.Levels.{levels-none, levels-more, levels-stop, levels-all}
 use Rattle.admissible.proofs.levels_admissible.Statement.{statement}
 use Rattle.admissible.proofs.levels_admissible.Tie as tie
 

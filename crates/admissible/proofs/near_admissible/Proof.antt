@@ -52,7 +52,7 @@ rows-admissible-requires c κs =
           s .pre .1 .1 .0,
           (
             near-table (s .args .plan) (s .args .cells .now) (s .pre .0) _ _ (s .args .near .now) (omega (arith, s .pre .1 .1 .0)) (s .pre .1 .1 .1 .0) (c .before .before .before .before .before .before .before .level .ensures),
-            ap (λ z. z + 2 * s .args .plan .across) (c .before .firsts .ensures ∙ ap firsts (c .before .before .across-at .ensures)),
+            ap (λ z. z + 2 * s .args .plan .«degree_across») (c .before .firsts .ensures ∙ ap firsts (c .before .before .across-at .ensures)),
           ),
         ),
       ),

@@ -9,8 +9,8 @@ use Rattle.facts.specs.Ranges.{everyFrom}
 use Rattle.grid.specs.Numbering.{number}
 use Rattle.grid.specs.Plan.{columnsAt, rowsAt}
 use Rattle.admissible.specs.Near.{cellAdmissible}
-use Rattle.cells.proofs.Levels.{row-within}
-use Rattle.cells.proofs.Rows.{next-passes, next-fails}
+use Rattle.grid.proofs.Levels.{row-within}
+use Rattle.facts.proofs.Rows.{next-passes, next-fails}
 use Rattle.admissible.proofs.row_admissible.Statement.{statement}
 use Rattle.admissible.proofs.row_admissible.Tie as tie
 

@@ -9,7 +9,8 @@ use Rattle.facts.proofs.Ranges.{from-none}
 use Rattle.facts.specs.Ranges.{everyFrom}
 use Rattle.grid.specs.Plan.{columnsAt, rowsAt, cellOffset}
 use Rattle.admissible.specs.Near.{cellAdmissible}
-use Rattle.cells.proofs.Levels.{rows-passed, rows-failed, row-within}
+use Rattle.facts.proofs.Rows.{rows-passed, rows-failed}
+use Rattle.grid.proofs.Levels.{row-within}
 use Rattle.admissible.proofs.rows_admissible.Statement.{statement}
 use Rattle.admissible.proofs.rows_admissible.Tie as tie
 

@@ -4,15 +4,16 @@ use mathlib.Core.List.{List}
 use Prim.Native.Nat.{ℕ}
 use native.Mathlib.Omega.{arith}
 use Rattle.mesh.specs.Mesh.{check}
-use Rattle.refine.specs.Calls.{smallest, base, settle}
-use Rattle.walk.specs.Walk.{flagged}
-use Rattle.walk.specs.Ready.{Ready}
+use Rattle.outcomes.specs.Calls.{smallest, base, settle}
+use Rattle.closure.specs.Walk.{flagged}
+use Rattle.closure.specs.Ready.{Ready}
 use Rattle.calls.specs.Parts.{directionOf, byOf}
 use Rattle.calls.proofs.Outcomes.{range-of, small-of, cells-sized, functions-sized, functions-small, check-refused, mark-refused, ready, ready-are, new-mesh, new-sizes, settled}
-use Rattle.calls.proofs.Room.{zeros, part-length}
+use Rattle.facts.proofs.Zeros.{zeros, part-length}
 use borrow.Author.Needs.{needs}
 use Rattle.calls.proofs.change.Statement.{statement}
 use Rattle.calls.proofs.change.Tie as tie
+use Rattle.grid.specs.Bounds.{mostCells, mostFunctions}
 
 check-requires : tie.Need-check-requires
 check-requires c κs = search needs
@@ -50,19 +51,19 @@ array-borrow-prefix-flag-room : tie.Need-array-borrow-prefix-flag-room
 array-borrow-prefix-flag-room c = omega (arith, small-of _ _ _ (passes (c .before .before)))
 
 slice-aggregate-flags : tie.Need-slice-aggregate-flags
-slice-aggregate-flags c = zeros 21845 (c .before .before .cell-total .result) (omega (arith, small-of _ _ _ (passes (c .before .before .before))))
+slice-aggregate-flags c = zeros mostCells (c .before .before .cell-total .result) (omega (arith, small-of _ _ _ (passes (c .before .before .before))))
 
 array-borrow-prefix-cell-room : tie.Need-array-borrow-prefix-cell-room
 array-borrow-prefix-cell-room c = omega (arith, small-of _ _ _ (passes (c .before .before .before)))
 
 slice-aggregate-new-cells : tie.Need-slice-aggregate-new-cells
-slice-aggregate-new-cells c = zeros 21845 (c .before .before .before .cell-total .result) (omega (arith, small-of _ _ _ (passes (c .before .before .before .before))))
+slice-aggregate-new-cells c = zeros mostCells (c .before .before .before .cell-total .result) (omega (arith, small-of _ _ _ (passes (c .before .before .before .before))))
 
 array-borrow-prefix-function-room : tie.Need-array-borrow-prefix-function-room
 array-borrow-prefix-function-room c = omega (arith, functions-small _ _ _ (passes (c .before .before .before .before)))
 
 slice-aggregate-new-functions : tie.Need-slice-aggregate-new-functions
-slice-aggregate-new-functions c = zeros 26220 (c .before .before .before .function-total .result) (omega (arith, functions-small _ _ _ (passes (c .before .before .before .before .before))))
+slice-aggregate-new-functions c = zeros mostFunctions (c .before .before .before .function-total .result) (omega (arith, functions-small _ _ _ (passes (c .before .before .before .before .before))))
 
 flag-marks-requires : tie.Need-flag-marks-requires
 flag-marks-requires c κs =
@@ -70,9 +71,9 @@ flag-marks-requires c κs =
     let t = c .before .before .before .before .before .before .before .before .before .cell-total .ensures in (
       k,
       record {
-        flags-are = part-length 21845 _ t (small-of _ _ _ k);
-        over-are = part-length 21845 _ t (small-of _ _ _ k);
-        values-are = part-length 26220 _ (c .before .before .before .before .before .before .before .before .function-total .ensures) (functions-small _ _ _ k);
+        flags-are = part-length mostCells _ t (small-of _ _ _ k);
+        over-are = part-length mostCells _ t (small-of _ _ _ k);
+        values-are = part-length mostFunctions _ (c .before .before .before .before .before .before .before .before .function-total .ensures) (functions-small _ _ _ k);
       },
     )
 
@@ -91,7 +92,7 @@ returns-2 c = let a = c .before .before .before .before .before .before .before 
 copy-bytes-requires : tie.Need-copy-bytes-requires
 copy-bytes-requires c κs =
     let k = passes (c .before .before .before .before .before .before .before .before .before .before .before .before .before .before .before .before .before .before .before .before) in
-    c .before .before .before .before .before .before .before .before .before .flag-marks .kept .1 .1 .1 .1 .1 .1 .1 .0 ∙ part-length 21845 _ (c .before .before .before .before .before .before .before .before .before .before .before .before .before .before .before .before .before .before .before .cell-total .ensures) (small-of _ _ _ k) ∙ sym (cells-sized _ _ _ k)
+    c .before .before .before .before .before .before .before .before .before .flag-marks .kept .1 .1 .1 .1 .1 .1 .1 .0 ∙ part-length mostCells _ (c .before .before .before .before .before .before .before .before .before .before .before .before .before .before .before .before .before .before .before .cell-total .ensures) (small-of _ _ _ k) ∙ sym (cells-sized _ _ _ k)
 
 -- the walk may go
 go : (c : tie.Else2) → let a = c .before .before .before .before .before .before .before .before .before .before .before .before .before .before .before .before .before .before .before .before .before .before .before .before .before .before .before .args in Ready (directionOf (a .direction)) (a .plan) (a .cells .now) (c .before .before .before .before .before .before .before .flag-marks .last .1 .1 .1 .1 .1 .1 .0)
@@ -110,7 +111,7 @@ write-labels-requires : tie.Need-write-labels-requires
 write-labels-requires c κs =
     let k = passes (c .before .before .before .before .before .before .before .before .before .before .before .before .before .before .before .before .before .before .before .before .before .before .before .before .before .before .before .before .before .before .before) in
     let a = c .before .before .before .before .before .before .before .before .before .before .before .before .before .before .before .before .before .before .before .before .before .before .before .before .before .before .before .before .before .before .before .before .before .before .before .before .before .before .before .before .args in
-    (new-mesh (directionOf (a .direction)) (a .plan) _ _ (go (c .before .before .before .before .before .before .before .before .before .before .before .before .before)) _ (turned (c .before .before .before .before .before)), (omega (arith, functions-sized _ _ _ k, c .before .before .before .before .before .before .before .before .before .before .before .before .before .before .before .before .before .before .before .before .flag-marks .kept .1 .1 .1 .1 .1 .1 .1 .1 .0 ∙ part-length 26220 _ (c .before .before .before .before .before .before .before .before .before .before .before .before .before .before .before .before .before .before .before .before .before .before .before .before .before .before .before .before .before .function-total .ensures) (functions-small _ _ _ k)), small-of _ _ _ k))
+    (new-mesh (directionOf (a .direction)) (a .plan) _ _ (go (c .before .before .before .before .before .before .before .before .before .before .before .before .before)) _ (turned (c .before .before .before .before .before)), (omega (arith, functions-sized _ _ _ k, c .before .before .before .before .before .before .before .before .before .before .before .before .before .before .before .before .before .before .before .before .flag-marks .kept .1 .1 .1 .1 .1 .1 .1 .1 .0 ∙ part-length mostFunctions _ (c .before .before .before .before .before .before .before .before .before .before .before .before .before .before .before .before .before .before .before .before .before .before .before .before .before .before .before .before .before .function-total .ensures) (functions-small _ _ _ k)), small-of _ _ _ k))
 
 settle-requires : tie.Need-settle-requires
 settle-requires c κs =

@@ -6,15 +6,15 @@ use Rattle.facts.specs.Numbers.{first, tabulate}
 use Rattle.facts.proofs.Numbers.{length-tabulate}
 use Rattle.grid.specs.Plan.{functionTotal}
 use Rattle.marks.specs.Marks.{weighed, commonAt}
-use Rattle.refine.specs.Calls.{cells, functions, markRefusal}
-use Rattle.calls.specs.Parts.{directionOf, byOf, Kinds, Bytes}
+use Rattle.outcomes.specs.Calls.{cells, functions, markRefusal}
+use Rattle.calls.specs.Parts.{directionOf, byOf, Eligible, Bytes}
 use Rattle.calls.proofs.Outcomes.{range-of, small-of, cells-sized, functions-sized, judged-is, marks-inside, inside-are, flags-are, cells-flags, functions-flags}
 use borrow.Author.Needs.{needs}
 use Rattle.calls.proofs.flag_marks.Statement.{statement}
 use Rattle.calls.proofs.flag_marks.Tie as tie
 
-cell-kinds-requires : tie.Need-cell-kinds-requires
-cell-kinds-requires c κs = let s = c .before .before .before .before .before .before .before in (range-of _ _ _ (s .pre .0), (cells-sized _ _ _ (s .pre .0), s .pre .1 .flags-are))
+eligible-cells-requires : tie.Need-eligible-cells-requires
+eligible-cells-requires c κs = let s = c .before .before .before .before .before .before .before in (range-of _ _ _ (s .pre .0), (cells-sized _ _ _ (s .pre .0), s .pre .1 .flags-are))
 
 enum-told : tie.Need-enum-told
 enum-told c = search needs
@@ -26,13 +26,13 @@ same-length : tie.Need-same-length
 same-length c = search needs
 
 -- the cells that may be marked
-kinds : (c : tie.After-cell-kinds) → let a = c .before .before .before .before .before .before .before .before .args in Kinds (directionOf (a .direction)) cells (a .plan) (a .cells .now) (a .functions .now) (c .cell-kinds .result) (c .cell-kinds .last .1 .1 .1 .0)
+kinds : (c : tie.After-eligible-cells) → let a = c .before .before .before .before .before .before .before .before .args in Eligible (directionOf (a .direction)) cells (a .plan) (a .cells .now) (a .functions .now) (c .eligible-cells .result) (c .eligible-cells .last .1 .1 .1 .0)
 kinds c =
-    c .cell-kinds .ensures .0 (c .before .before .before .before .before .before .before .before .args .functions .now)
+    c .eligible-cells .ensures .0 (c .before .before .before .before .before .before .before .before .args .functions .now)
 
-bytes : (c : tie.After-cell-kinds) → let a = c .before .before .before .before .before .before .before .before .args in Bytes (directionOf (a .direction)) (a .plan) (c .cell-kinds .last .1 .1 .1 .0)
+bytes : (c : tie.After-eligible-cells) → let a = c .before .before .before .before .before .before .before .before .args in Bytes (directionOf (a .direction)) (a .plan) (c .eligible-cells .last .1 .1 .1 .0)
 bytes c =
-    c .cell-kinds .ensures .1
+    c .eligible-cells .ensures .1
 
 -- what marks that are cells are judged to be
 judged : (c : tie.After-judge) → let a = c .before .before .before .before .before .before .before .before .before .before .before .before .before .before .args in c .judge .result ≡ first (markRefusal (directionOf (a .direction)) cells (a .plan) (a .cells .now) (a .functions .now)) (a .marks .now)
@@ -58,8 +58,8 @@ weigh-requires c κs =
 enum-told-2 : tie.Need-enum-told-2
 enum-told-2 c = search needs
 
-function-kinds-requires : tie.Need-function-kinds-requires
-function-kinds-requires c κs = let s = c .before .before .before .before .before .before .before .before .before .before .before .before .before .before in ((range-of _ _ _ (s .pre .0), small-of _ _ _ (s .pre .0)), (functions-sized _ _ _ (s .pre .0), bytes (c .before .before .before .before .before .before), s .pre .1 .values-are))
+eligible-functions-requires : tie.Need-eligible-functions-requires
+eligible-functions-requires c κs = let s = c .before .before .before .before .before .before .before .before .before .before .before .before .before .before in ((range-of _ _ _ (s .pre .0), small-of _ _ _ (s .pre .0)), (functions-sized _ _ _ (s .pre .0), bytes (c .before .before .before .before .before .before), s .pre .1 .values-are))
 
 judge-requires-2 : tie.Need-judge-requires-2
 judge-requires-2 c κs = search needs
@@ -71,9 +71,9 @@ same-length-3 : tie.Need-same-length-3
 same-length-3 c = search needs
 
 -- the functions that may be marked
-kinds-2 : (c : tie.After-function-kinds) → let a = c .before .before .before .before .before .before .before .before .before .before .before .before .before .before .before .args in Kinds (directionOf (a .direction)) functions (a .plan) (a .cells .now) (a .functions .now) (c .function-kinds .result) (c .function-kinds .last .1 .1 .1 .1 .0)
+kinds-2 : (c : tie.After-eligible-functions) → let a = c .before .before .before .before .before .before .before .before .before .before .before .before .before .before .before .args in Eligible (directionOf (a .direction)) functions (a .plan) (a .cells .now) (a .functions .now) (c .eligible-functions .result) (c .eligible-functions .last .1 .1 .1 .1 .0)
 kinds-2 c =
-    c .function-kinds .ensures (c .before .before .before .before .before .before .before .before .before .before .before .before .before .before .before .args .cells .now) _ (kinds (c .before .before .before .before .before .before .before))
+    c .eligible-functions .ensures (c .before .before .before .before .before .before .before .before .before .before .before .before .before .before .before .args .cells .now) _ (kinds (c .before .before .before .before .before .before .before))
 
 judged-2 : (c : tie.After-judge2) → let a = c .before .before .before .before .before .before .before .before .before .before .before .before .before .before .before .before .before .before .before .args in c .judge2 .result ≡ first (markRefusal (directionOf (a .direction)) functions (a .plan) (a .cells .now) (a .functions .now)) (a .marks .now)
 judged-2 c =
@@ -131,7 +131,7 @@ returns-4 c =
     let a = s .args in
     let K = kinds (c .before .before .before .before .before .before .before .before .before .before .before .before .before .before .before .before .before .before .before .before .before .before .before .before .before .before) in
     let o = c .before .before .before .before .before .before .before .cover .ensures in
-    let e = c .before .before .keep .ensures ∙ ap (λ (n : ℕ). tabulate n (commonAt (c .before .before .before .before .before .before .before .before .before .before .before .before .before .before .before .before .before .before .before .before .before .before .before .before .before .before .cell-kinds .last .1 .1 .1 .0) (c .before .before .before .before .before .before .before .cover .last .1 .1 .0))) (K .sized) in
+    let e = c .before .before .keep .ensures ∙ ap (λ (n : ℕ). tabulate n (commonAt (c .before .before .before .before .before .before .before .before .before .before .before .before .before .before .before .before .before .before .before .before .before .before .before .before .before .before .eligible-cells .last .1 .1 .1 .0) (c .before .before .before .before .before .before .before .cover .last .1 .1 .0))) (K .sized) in
     flags-are (ap byOf (c .before .before .before .before .before .before .before .before .before .before .before .before .before .before .before .before .before .before .before .before .before .before .enum-told2 .given .1))
     (record { number = sym (fine-2 (c .before .before .before .before .before .before .before .before .before .before .before .before .before .before)); sized = ap length e ∙ length-tabulate _ _; says = λ z. functions-flags (directionOf (a .direction)) (a .plan) _ _ _ _ _ _ _ (s .pre .0) K (weights (c .before .before .before .before .before .before .before .before .before .before .before .before)) o e })
 
@@ -139,14 +139,14 @@ pub flag-marks-spec : {M : Type 1} → statement M
 flag-marks-spec =
     tie.close
     (tie.spec
-    cell-kinds-requires
+    eligible-cells-requires
     enum-told
     judge-requires
     same-length
     returns
     weigh-requires
     enum-told-2
-    function-kinds-requires
+    eligible-functions-requires
     judge-requires-2
     same-length-2
     same-length-3

@@ -5,8 +5,8 @@ use Rattle.calls.proofs.turn.Statement.{statement}
 use Rattle.calls.proofs.turn.Tie as tie
 use Rattle.calls.proofs.turn.Reads as reads
 use Rattle.calls.proofs.turn.Lts as lts
-use Rattle.walk.proofs.coarsen_marked.Reads as coarsen-marked-reads
-use Rattle.walk.proofs.refine_marked.Reads as refine-marked-reads
+use Rattle.closure.proofs.coarsen_marked.Reads as coarsen-marked-reads
+use Rattle.closure.proofs.refine_marked.Reads as refine-marked-reads
 
 -- src/lib.rt:42:56
 enum-told : tie.Need-enum-told

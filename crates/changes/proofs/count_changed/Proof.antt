@@ -5,7 +5,7 @@ use Prim.Native.Nat.{ℕ, _+_, _-_, _≤_}
 use native.Mathlib.Omega.{arith}
 use lib.ListN.{length}
 use borrow.Author.Needs.{needs}
-use Rattle.refine.specs.Calls.{changed}
+use Rattle.outcomes.specs.Calls.{changed}
 use Rattle.changes.proofs.Changes.{changed-none, changed-no, changed-longer}
 use Rattle.changes.proofs.count_changed.Statement.{statement}
 use Rattle.changes.proofs.count_changed.Tie as tie

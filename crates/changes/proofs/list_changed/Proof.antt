@@ -7,7 +7,7 @@ use Prim.Native.Nat.{ℕ, _+_, _-_, _≤_, _<_}
 use native.Mathlib.Omega.{arith}
 use lib.ListN.{length, drop, length-set}
 use borrow.Author.Needs.{needs}
-use Rattle.refine.specs.Calls.{changed, written}
+use Rattle.outcomes.specs.Calls.{changed, written}
 use Rattle.changes.proofs.Changes.{changed-none, changed-no, changed-longer, changed-le, changed-write}
 use Rattle.changes.proofs.list_changed.Statement.{statement}
 use Rattle.changes.proofs.list_changed.Tie as tie

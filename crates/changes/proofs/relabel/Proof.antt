@@ -3,7 +3,7 @@ use mathlib.Core.Path.{ap, _∙_}
 use mathlib.Core.List.{List}
 use Prim.Native.Nat.{ℕ}
 use lib.ListN.{length}
-use Rattle.refine.specs.Calls.{changed, written}
+use Rattle.outcomes.specs.Calls.{changed, written}
 use borrow.Author.Needs.{needs}
 use Rattle.changes.proofs.relabel.Statement.{statement}
 use Rattle.changes.proofs.relabel.Tie as tie

@@ -5,7 +5,7 @@ use mathlib.Core.List.{List}
 use Prim.Native.Nat.{ℕ}
 use lib.ListN.{length}
 use Rattle.mesh.specs.Mesh.{labels}
-use Rattle.refine.specs.Calls.{changed, written}
+use Rattle.outcomes.specs.Calls.{changed, written}
 use Rattle.changes.proofs.Changes.{Counted, counts-small, refuses-10, refuses-11, accepts}
 use borrow.Author.Needs.{needs}
 use Rattle.changes.proofs.settle.Statement.{statement}

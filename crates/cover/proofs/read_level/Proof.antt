@@ -11,7 +11,7 @@ use Rattle.facts.proofs.Ranges.{mid-len}
 use Rattle.grid.specs.Side.{firstOver, firsts}
 use Rattle.grid.proofs.Sides.{first-lt}
 use Rattle.cover.specs.Level.{levelRead}
-use Rattle.cover.proofs.Families.{row-ends}
+use Rattle.facts.proofs.Rows.{row-ends}
 use Rattle.cover.proofs.Levels.{read-row}
 use Rattle.cover.proofs.read_level.Statement.{statement}
 use Rattle.cover.proofs.read_level.Tie as tie

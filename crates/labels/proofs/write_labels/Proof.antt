@@ -3,13 +3,14 @@ use native.Mathlib.Nat.{le-of-eq}
 use mathlib.Core.Path.{sym}
 use native.Mathlib.Omega.{arith}
 use Rattle.grid.proofs.Totals.{functions-bound}
-use Rattle.labels.proofs.Room.{zeros, part-length}
+use Rattle.facts.proofs.Zeros.{zeros, part-length}
 use Rattle.labels.proofs.write_labels.Statement.{statement}
 use Rattle.labels.proofs.write_labels.Tie as tie
 use Rattle.labels.proofs.write_labels.Reads as reads
 use Rattle.labels.proofs.write_labels.Lts as lts
 use Rattle.grid.proofs.Plan.function_total.Reads as function-total-reads
 use Rattle.labels.proofs.write_levels.Reads as write-levels-reads
+use Rattle.grid.specs.Bounds.{mostFunctions}
 
 -- src/lib.rt:56:17
 function-total-requires : tie.Need-function-total-requires
@@ -25,11 +26,11 @@ array-borrow-prefix-scratch c = let s = c .before .before .before .before in ome
 
 -- src/lib.rt:58:36
 slice-aggregate-write-levels : tie.Need-slice-aggregate-write-levels
-slice-aggregate-write-levels c = let s = c .before .before .before .before .before in zeros 26220 (c .before .before .function-total .result) (omega (arith, functions-bound _ (s .pre .0 .sized .range) (s .pre .1 .1)))
+slice-aggregate-write-levels c = let s = c .before .before .before .before .before in zeros mostFunctions (c .before .before .function-total .result) (omega (arith, functions-bound _ (s .pre .0 .sized .range) (s .pre .1 .1)))
 
 -- src/lib.rt:58:5
 write-levels-requires : tie.Need-write-levels-requires
-write-levels-requires c κs = let s = c .before .before .before .before .before in (s .pre .0, (s .pre .1 .0, le-of-eq (sym (part-length 26220 _ (c .before .before .function-total .ensures) (functions-bound _ (s .pre .0 .sized .range) (s .pre .1 .1))))))
+write-levels-requires c κs = let s = c .before .before .before .before .before in (s .pre .0, (s .pre .1 .0, le-of-eq (sym (part-length mostFunctions _ (c .before .before .function-total .ensures) (functions-bound _ (s .pre .0 .sized .range) (s .pre .1 .1))))))
 
 -- src/lib.rt:51:1
 same-length : tie.Need-same-length

@@ -23,7 +23,7 @@ cast-offset c = search needs
 
 -- the level lies in the tables
 room : (c : tie.After-function-offset) → let a = c .before .before .before .before .before .before .args in
-    LevelRoom (a .plan) (a .level) (length (a .cells .now)) (length (a .scratch .now)) (length (a .out .now) - c .function-offset .result) (a .plan .across) (a .plan .up)
+    LevelRoom (a .plan) (a .level) (length (a .cells .now)) (length (a .scratch .now)) (length (a .out .now) - c .function-offset .result) (a .plan .«degree_across») (a .plan .«degree_up»)
     × (c .function-offset .result ≤ length (a .out .now))
 room c =
     let s = c .before .before .before .before .before .before in

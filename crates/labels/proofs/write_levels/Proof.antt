@@ -9,7 +9,7 @@ use Rattle.facts.proofs.Ranges.{written-none, written-more}
 use Rattle.facts.specs.Ranges.{Written}
 use Rattle.grid.specs.Plan.{functionColumnsAt, functionRowsAt, functionOffset, functionTotal}
 use Rattle.mesh.specs.Mesh.{labelOf, labels}
-use Rattle.cells.proofs.Levels.{offset-zero}
+use Rattle.grid.proofs.Levels.{offset-zero}
 use Rattle.labels.proofs.write_levels.Statement.{statement}
 use Rattle.labels.proofs.write_levels.Tie as tie
 

@@ -5,13 +5,13 @@ use Prim.Native.Nat.{ℕ, _-_, _≤_}
 use native.Mathlib.Omega.{arith}
 use lib.ListN.{length, getD, take, set, length-set}
 use borrow.Author.Needs.{needs}
-use Rattle.marks.specs.Marks.{flagged}
+use Rattle.marks.specs.Marks.{withMarks}
 use Rattle.marks.proofs.Marks.{flagged-none, flagged-more, flagged-all, mark-inside}
 use Rattle.marks.proofs.flag.Statement.{statement}
 use Rattle.marks.proofs.flag.Tie as tie
 
 abbrev Inv-loop : tie.InvT-loop
-Inv-loop marks out₀ k₀ out k = (out ≡ flagged (length out₀) (take k marks) out₀) × (length out ≡ length out₀) × (k ≤ length marks)
+Inv-loop marks out₀ k₀ out k = (out ≡ withMarks (length out₀) (take k marks) out₀) × (length out ≡ length out₀) × (k ≤ length marks)
 
 abbrev μ-loop : tie.MeasureT-loop
 μ-loop marks out₀ k₀ out k = length marks - k

@@ -4,7 +4,7 @@ use Prim.Native.Nat.{ℕ}
 use native.Mathlib.Omega.{arith}
 use lib.ListN.{length}
 use Rattle.facts.proofs.Numbers.{length-tabulate}
-use Rattle.marks.specs.Marks.{flagged}
+use Rattle.marks.specs.Marks.{withMarks}
 use Rattle.marks.proofs.Marks.{weighed-is}
 use borrow.Author.Needs.{needs}
 use Rattle.marks.proofs.weigh.Statement.{statement}
@@ -27,7 +27,7 @@ returns : tie.Need-returns
 returns c =
     let a = c .before .before .before .before .before .before .before .before .before .before .before .args in
     c .before .before .flag .ensures
-    ∙ ap (λ (n : ℕ). flagged n (a .marks .now) (c .before .before .before .before .before .before .unmarked .last .1 .0)) (sized (c .before .before .before .before .before .before))
+    ∙ ap (λ (n : ℕ). withMarks n (a .marks .now) (c .before .before .before .before .before .before .unmarked .last .1 .0)) (sized (c .before .before .before .before .before .before))
     ∙ weighed-is (length (a .out .now)) (a .marks .now) (a .table .now) _ (c .before .before .before .before .before .before .unmarked .ensures)
 
 pub weigh-spec : {M : Type 1} → statement M

@@ -2,7 +2,7 @@
 use mathlib.Core.Path.{ap}
 use native.Mathlib.Omega.{arith}
 use lib.ListN.{length-take}
-use Rattle.refine.specs.Calls.{Outcome}
+use Rattle.outcomes.specs.Calls.{Outcome}
 use Rattle.script.specs.Session.{shown}
 use Rattle.script.proofs.Replies.{said-as}
 use borrow.Author.Needs.{needs}

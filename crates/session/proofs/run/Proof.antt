@@ -3,7 +3,7 @@ use mathlib.Core.Path.{_≡_, refl, _∙_}
 use Prim.Native.Nat.{_-_, _≤_, _<_}
 use native.Mathlib.Omega.{arith}
 use lib.ListN.{length}
-use Rattle.script.specs.Steps.{held, Sized}
+use Rattle.script.specs.Steps.{held, HandSized}
 use Rattle.session.specs.Program.{Left}
 use Rattle.session.proofs.Turns.{starts, due, turn, ends}
 use borrow.Author.Needs.{needs}
@@ -12,7 +12,7 @@ use Rattle.session.proofs.run.Tie as tie
 
 abbrev Inv-loop : tie.InvT-loop
 Inv-loop input numbers₀ cells₀ functions₀ cell-list₀ function-list₀ out₀ hand₀ at₀ n₀ numbers cells functions cell-list function-list out hand at n =
-    Sized hand × Left input n at (held hand cells functions) × (n ≤ at) × (length numbers ≡ length numbers₀) × (length cells ≡ length cells₀)
+    HandSized hand × Left input n at (held hand cells functions) × (n ≤ at) × (length numbers ≡ length numbers₀) × (length cells ≡ length cells₀)
     × (length functions ≡ length functions₀) × (length cell-list ≡ length cell-list₀) × (length function-list ≡ length function-list₀) × (length out ≡ length out₀)
 
 abbrev μ-loop : tie.MeasureT-loop

@@ -36,7 +36,7 @@ cast-up c = search needs
 
 -- the level lies in the tables
 room : (c : tie.After-struct-known2) → let a = c .before .before .before .before .before .before .before .before .args in
-    LevelIn (length (a .values .now) - c .before .before .function-offset .result) (length (a .scratch .now)) (length (a .out .now)) (c .before .before .before .before .function-columns-at .result) (c .before .before .before .function-rows-at .result) (a .plan .across) (a .plan .up)
+    LevelIn (length (a .values .now) - c .before .before .function-offset .result) (length (a .scratch .now)) (length (a .out .now)) (c .before .before .before .before .function-columns-at .result) (c .before .before .before .function-rows-at .result) (a .plan .«degree_across») (a .plan .«degree_up»)
     × (c .before .before .function-offset .result ≤ length (a .values .now))
 room c =
     let s = c .before .before .before .before .before .before .before .before in

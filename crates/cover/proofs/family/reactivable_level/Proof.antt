@@ -7,7 +7,8 @@ use Rattle.facts.specs.Mapped.{filled}
 use Rattle.facts.proofs.Mapped.{filled-none, fill-length, fill-part}
 use Rattle.facts.proofs.Ranges.{mid-len}
 use Rattle.cover.specs.Level.{levelReactivable}
-use Rattle.cover.proofs.Families.{row-ends, level-row}
+use Rattle.facts.proofs.Rows.{row-ends}
+use Rattle.cover.proofs.Families.{level-row}
 use Rattle.cover.proofs.family.reactivable_level.Statement.{statement}
 use Rattle.cover.proofs.family.reactivable_level.Tie as tie
 

@@ -5,7 +5,8 @@ use native.Mathlib.Omega.{arith}
 use borrow.Author.Needs.{needs}
 use Rattle.grid.specs.Plan.{widened, columnsAt, rowsAt}
 use Rattle.grid.specs.Numbering.{offset}
-use Rattle.grid.proofs.Small.{offset-small, offset-more, offset-none}
+use Rattle.grid.proofs.Small.{offset-small}
+use Rattle.grid.proofs.Levels.{offset-zero, offset-next}
 use Rattle.grid.proofs.Plan.offset.Statement.{statement}
 use Rattle.grid.proofs.Plan.offset.Tie as tie
 
@@ -16,7 +17,7 @@ abbrev μ-loop : tie.MeasureT-loop
 μ-loop self across up level sum₀ k₀ sum k = level - k
 
 loop-holds : tie.Need-loop-holds Inv-loop μ-loop
-loop-holds c = (search needs, sym (offset-none (c .args .self) (c .pre .0) (c .args .across) (c .args .up) (c .pre .1 .0)))
+loop-holds c = (search needs, sym (offset-zero (widened (columnsAt (c .args .self)) (c .args .across)) (widened (rowsAt (c .args .self)) (c .args .up))))
 
 area-requires : tie.Need-area-requires Inv-loop μ-loop
 area-requires c κs = search needs
@@ -25,7 +26,7 @@ area-requires c κs = search needs
 turn : (c : tie.After-area Inv-loop μ-loop) → let d = c .before .before in let a = d .before .args in let o = offset (widened (columnsAt (a .self)) (a .across)) (widened (rowsAt (a .self)) (a .up)) in (d .loop .sum + c .area .result ≡ o (d .loop .k + 1)) × (o (d .loop .k + 1) ≤ 4210704 * (d .loop .k + 1))
 turn c =
     let d = c .before .before in let s = d .before in let a = s .args in (
-      rw (d .loop .inv .1, c .area .ensures) (sym (offset-more (a .self) (s .pre .0) (a .across) (a .up) (s .pre .1 .0) (d .loop .k))),
+      rw (d .loop .inv .1, c .area .ensures) (sym (offset-next (widened (columnsAt (a .self)) (a .across)) (widened (rowsAt (a .self)) (a .up)) (d .loop .k))),
       offset-small (a .self) (s .pre .0) (a .across) (a .up) (s .pre .1 .0) (d .loop .k + 1) (omega arith),
     )
 

@@ -7,7 +7,8 @@ use borrow.Author.Needs.{needs}
 use Rattle.grid.specs.Plan.{widened, columnsAt, rowsAt}
 use Rattle.grid.specs.Numbering.{offset}
 use Rattle.grid.proofs.Numbering.{place-rest, place-next}
-use Rattle.grid.proofs.Small.{offset-more, offset-none, columns-pos}
+use Rattle.grid.proofs.Small.{columns-pos}
+use Rattle.grid.proofs.Levels.{offset-zero, offset-next}
 use Rattle.grid.proofs.Plan.place_of.Statement.{statement}
 use Rattle.grid.proofs.Plan.place_of.Tie as tie
 
@@ -26,7 +27,7 @@ area-requires c κs = search needs
 loop-holds : tie.Need-loop-holds Inv-loop μ-loop
 loop-holds c =
     let s = c .before in
-    (search needs, omega (arith, offset-none (s .args .self) (s .pre .0) (s .args .across) (s .args .up) (s .pre .1 .0)), c .area .ensures)
+    (search needs, omega (arith, offset-zero (widened (columnsAt (s .args .self)) (s .args .across)) (widened (rowsAt (s .args .self)) (s .args .up))), c .area .ensures)
 
 -- a level that does not have the number is not the last
 turn : (c : tie.In-loop Inv-loop μ-loop) → c .before .loop .level + 1 < c .before .before .before .args .self .levels
@@ -46,7 +47,7 @@ loop-less c = omega arith
 loop-again : tie.Need-loop-again Inv-loop μ-loop
 loop-again c =
     let s = c .before .before .before .before in
-    (turn (c .before), omega (arith, offset-more (s .args .self) (s .pre .0) (s .args .across) (s .args .up) (s .pre .1 .0) (c .before .before .loop .level)), c .area2 .ensures)
+    (turn (c .before), omega (arith, offset-next (widened (columnsAt (s .args .self)) (s .args .across)) (widened (rowsAt (s .args .self)) (s .args .up)) (c .before .before .loop .level)), c .area2 .ensures)
 
 wide-requires : tie.Need-wide-requires Inv-loop μ-loop
 wide-requires c κs = search needs

@@ -1,0 +1,10 @@
+-- The largest tables: what document 01 allows, and what follows from it. Definitions only.
+use Prim.Native.Nat.{ℕ}
+
+-- "T is at most 21,845"
+abbrev pub mostCells : ℕ
+mostCells = 21845
+
+-- the most functions of a plan with at most so many cells: proved, and reached, in proofs/Totals.antt
+abbrev pub mostFunctions : ℕ
+mostFunctions = 26220
