@@ -44,7 +44,7 @@ offset-first w h = refl
 
 -- a level's numbers are among those of all levels
 pub offset-in : (w h : ℕ → ℕ) (L k : ℕ) → k < L → offset w h k + h k * w k ≤ offset w h L
-offset-in w h L k l = numbering.offset-step w h k L l
+offset-in w h L k l = numbering.level-ends w h k L l
 
 twice : (b k : ℕ) → grown 2 b (suc k) ≡ 2 * grown 2 b k
 unfolding grown

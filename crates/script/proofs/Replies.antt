@@ -16,7 +16,7 @@ use types.Run.{OneOf}
 use denote.Enum.Declared.{tagOf}
 use Rattle.grid.specs.Range.{InRange}
 use Rattle.grid.specs.Plan.{inRange, ratio, grown, columnsAt, rowsAt, tooLarge, cellTotal, functionTotal}
-use Rattle.grid.proofs.Numbering.{offset-step}
+use Rattle.grid.proofs.Numbering.{level-ends}
 use Rattle.mesh.specs.Mesh.{refusal3, Opened, freshCells, freshFunctions, openMesh}
 use Rattle.outcomes.specs.Calls.{Direction, coarsen, By, cells, functions, changed, written, Outcome, refused, settle, refusal, outcome}
 use Rattle.lines.specs.declared.Kind.{Kind}
@@ -92,7 +92,7 @@ grown-some b h = omega arith
 cells-some : (p : Plan) → InRange p → 1 ≤ cellTotal p
 unfolding ratio
 cells-some p r =
-    omega (arith, offset-step (columnsAt p) (rowsAt p) 0 (p .levels) (r .levels≥), mul-le-mul (grown-some (p .rows) (r .rows≥)) (grown-some (p .columns) (r .columns≥)))
+    omega (arith, level-ends (columnsAt p) (rowsAt p) 0 (p .levels) (r .levels≥), mul-le-mul (grown-some (p .rows) (r .rows≥)) (grown-some (p .columns) (r .columns≥)))
 
 -- ---- a call: what it makes of the tables and prints does not hang on what the lent lists held
 

@@ -18,7 +18,7 @@ use Rattle.grid.specs.declared.Side.{Side}
 use Rattle.grid.specs.Numbering.{number}
 use Rattle.grid.specs.Plan.{columnsAt, rowsAt, cellOffset, cellTotal, cellNumber, acrossAt, upAt}
 use Rattle.grid.specs.Side.{functions, firstOver, firsts}
-use Rattle.grid.proofs.Numbering.{offset-step}
+use Rattle.grid.proofs.Numbering.{level-ends}
 use Rattle.grid.proofs.Sides.{across-in, up-in}
 use Rattle.windows.specs.Windows.{back, windowAt, windowLeast, LevelIn}
 use Rattle.windows.specs.Level.{leastOver, leastUnder, levelLeast, wide, high, LevelRoom}
@@ -106,7 +106,7 @@ module _ (p : Plan) (cells : List ℕ) (k across up : ℕ) where
 
     pub level-in : {room place : ℕ} → LevelRoom p k (length cells) room place across up → LevelIn (length cells - here) room place columns rows across up × (here ≤ length cells)
     level-in {room} {place} l =
-        let e = offset-step (columnsAt p) (rowsAt p) k (p .levels) (l .level<) in
+        let e = level-ends (columnsAt p) (rowsAt p) k (p .levels) (l .level<) in
         let a = l .cells≤ in
         let o = rw (firsts-across, firsts-up) at (l .out≤) in
         let s = rw (firsts-across, firsts-up) at (l .scratch≤) in

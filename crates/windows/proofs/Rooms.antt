@@ -14,7 +14,7 @@ use Rattle.grid.specs.declared.Plan.{Plan}
 use Rattle.grid.specs.Plan.{ratio, grown, columnsAt, rowsAt, cellTotal}
 use Rattle.grid.specs.Side.{functions, firsts}
 use Rattle.grid.specs.Range.{InRange}
-use Rattle.grid.proofs.Numbering.{offset-step}
+use Rattle.grid.proofs.Numbering.{level-ends}
 use Rattle.windows.specs.Level.{wide, high, NearRoom}
 use Rattle.grid.specs.Bounds.{mostCells, mostFunctions}
 
@@ -40,7 +40,7 @@ pub near-room : (p : Plan) → InRange p → cellTotal p ≤ mostCells → NearR
 unfolding ratio firsts functions
 near-room p r s = record {
   enough = λ k l.
-      let e = offset-step (columnsAt p) (rowsAt p) k (p .levels) l in
+      let e = level-ends (columnsAt p) (rowsAt p) k (p .levels) l in
       let t = every-e 17 (tried k (p .columns)) (every-e 17 (triedRow k) (every-e 8 triedLevel all-tried k (omega arith)) (p .columns) (omega arith)) (p .rows) (omega arith) in
       let m : high p k (2 * p .«degree_up») ≤ rowsAt p k + 8 = omega arith in
       let n : wide p k (2 * p .«degree_across») ≤ columnsAt p k + 8 = omega arith in

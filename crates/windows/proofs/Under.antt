@@ -19,7 +19,7 @@ use Rattle.grid.specs.Side.{firstOver}
 use Rattle.grid.specs.Spans.{ancestorOf}
 use Rattle.grid.proofs.Laws.{cell-inside, cell-number-lt, cell-number-place, cell-place-number, function-inside, near-in}
 use Rattle.grid.proofs.Spans.{ancestor-in}
-use Rattle.grid.proofs.Numbering.{offset-step, place-rest}
+use Rattle.grid.proofs.Numbering.{level-ends, place-rest}
 use Rattle.grid.proofs.Sides.{across-firsts, up-firsts}
 use Rattle.grid.proofs.First.{supported-under, under-supported, near-around, around-near}
 use Rattle.windows.specs.Level.{leastUnder, levelLeast, wide, high}
@@ -77,7 +77,7 @@ module _ (p : Plan) (range : InRange p) (cells : List ℕ) where
     part-size = rw (across-firsts p k, up-firsts p k)
 
     pub part-ends : functionOffset p k + functionRowsAt p k * functionColumnsAt p k ≤ functionTotal p
-    part-ends = offset-step (functionColumnsAt p) (functionRowsAt p) k (p .levels) l
+    part-ends = level-ends (functionColumnsAt p) (functionRowsAt p) k (p .levels) l
 
     pub level-support : (j : ℕ) (m : j < functionRowsAt p k * functionColumnsAt p k)
         → levelLeast p cells k (p .«degree_across») (p .«degree_up») j ≡ least-support (functionOffset p k + j) (omega (arith, part-ends))

@@ -21,7 +21,7 @@ use Rattle.grid.specs.Plan.{columnsAt, rowsAt, functionColumnsAt, functionRowsA
 use Rattle.grid.specs.Range.{InRange}
 use Rattle.grid.specs.Side.{firstOver, firsts}
 use Rattle.grid.proofs.Laws.{cell-number-lt, cell-place-number, function-inside, function-number-lt, function-number-place, function-place-number}
-use Rattle.grid.proofs.Numbering.{offset-step}
+use Rattle.grid.proofs.Numbering.{level-ends}
 use Rattle.grid.proofs.Sides.{across-in, up-in, across-firsts, up-firsts, first-lt}
 use Rattle.grid.proofs.First.{supported-under, under-supported}
 use Rattle.windows.specs.Windows.{back, windowAt, windowLeast, LevelIn}
@@ -121,7 +121,7 @@ module _ (p : Plan) (range : InRange p) (values : List ℕ) (k : ℕ) (l : k < p
   pub values-in : {columns rows here n m : ℕ} → columns ≡ FW → rows ≡ FH → here ≡ from → length values ≡ functionTotal p → NearRoom p m → NearRoom p n
       → LevelIn (length values - here) m n columns rows (p .«degree_across») (p .«degree_up») × (here ≤ length values)
   values-in {columns} {rows} {here} {n} {m} ec er eh s x y =
-      let o = offset-step (functionColumnsAt p) (functionRowsAt p) k (p .levels) l in
+      let o = level-ends (functionColumnsAt p) (functionRowsAt p) k (p .levels) l in
       let a : (FH + p .«degree_up») * (FW + p .«degree_across») ≤ m = rw (columns-are, rows-are) (x .enough k l) in
       let b : (FH + p .«degree_up») * (FW + p .«degree_across») ≤ n = rw (columns-are, rows-are) (y .enough k l) in
       let ca = across-in p range k l .cells≥ in
