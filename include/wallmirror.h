@@ -35,6 +35,9 @@ extern "C" {
 #define WALLMIRROR_MAX_CELLS 21845
 #define WALLMIRROR_MAX_FUNCTIONS 26220
 
+/* The most stack that any call takes, in bytes: what a thread must have left when it calls. */
+#define WALLMIRROR_STACK_BYTES 131072
+
 /* The plan of a mesh, passed by value. */
 typedef struct WallmirrorPlan {
     uint32_t columns;             /* of level 0, 1 to 16 */

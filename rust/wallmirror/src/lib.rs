@@ -80,6 +80,11 @@ pub const MAX_CELLS: usize = 21_845;
 /// The most functions that a mesh of at most [`MAX_CELLS`] cells has.
 pub const MAX_FUNCTIONS: usize = 26_220;
 
+/// The most stack that any call takes, in bytes: what a thread must have left when it calls. The
+/// library allocates nothing, so whatever it needs beside the tables and lists is there. A thread
+/// itself needs some more: with 16 KiB added, [`std::thread::Builder::stack_size`] is large enough.
+pub const STACK_BYTES: usize = 131_072;
+
 impl Plan {
     /// The length of the cell table, and the most entries that a cell list needs. `None` for a plan
     /// that is out of range or has more than [`MAX_CELLS`] cells.
@@ -448,6 +453,18 @@ mod tests {
         let documentation = include_str!("../../../README.md");
         let example = include_str!("../../../examples/c/refine.c");
         assert!(documentation.contains(example));
+    }
+
+    #[test]
+    fn the_header_has_the_same_numbers() {
+        let header = include_str!("../../../include/wallmirror.h");
+        for (name, number) in [
+            ("MAX_CELLS", MAX_CELLS),
+            ("MAX_FUNCTIONS", MAX_FUNCTIONS),
+            ("STACK_BYTES", STACK_BYTES),
+        ] {
+            assert!(header.contains(&format!("#define WALLMIRROR_{name} {number}\n")), "{name}");
+        }
     }
 
     #[test]
