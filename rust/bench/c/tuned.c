@@ -61,8 +61,8 @@ static void overlay(uint8_t *restrict out, const uint8_t *restrict from, size_t 
 }
 
 /*
- * out[i] = the least of from[i], from[i - step], .., `count` of them, at least 2. What would lie before
- * the first entry counts for nothing. Each pass doubles what an entry stands for.
+ * out[i] = the least of from[i], from[i - step], .., `count` of them, at least 2. What would lie
+ * before the first entry counts for nothing. Each pass doubles what an entry stands for.
  */
 static void least_of(const uint8_t *from, uint8_t *spare, uint8_t *out, size_t n, size_t step,
                      size_t count)
@@ -80,10 +80,10 @@ static void least_of(const uint8_t *from, uint8_t *spare, uint8_t *out, size_t n
 }
 
 /*
- * The least bytes of the windows of a level. Entry (j, i) of out, with columns + pad to a row, is the
- * least of rows j - up to j and columns i - across to i, as far as there are such; out has rows + up
- * rows. A row of windows wider than columns + pad spoils the first across - pad entries of the next,
- * which are then not to be read. spare has the room of out.
+ * The least bytes of the windows of a level. Entry (j, i) of out, with columns + pad to a row, is
+ * the least of rows j - up to j and columns i - across to i, as far as there are such; out has rows
+ * + up rows. A row of windows wider than columns + pad spoils the first across - pad entries of the
+ * next, which are then not to be read. spare has the room of out.
  */
 static void windows(const uint8_t *from, size_t columns, size_t rows, size_t pad, size_t across,
                     size_t up, uint8_t *spare, uint8_t *out)
@@ -99,8 +99,8 @@ static void windows(const uint8_t *from, size_t columns, size_t rows, size_t pad
 }
 
 /*
- * Entry (row + up, column + across) of out, with columns + across to a row, is the least byte of the
- * cells that differ by at most the degrees.
+ * Entry (row + up, column + across) of out, with columns + across to a row, is the least byte of
+ * the cells that differ by at most the degrees.
  */
 static void neighbourhoods(const struct layout *at, uint32_t level, const uint8_t *from,
                            uint8_t *out)
@@ -330,8 +330,8 @@ static void write_needed(const struct layout *at, uint32_t level, const uint8_t 
 }
 
 /*
- * Flags what the flagged cells need and is not refined. Needs lead to coarser levels alone, so the finest
- * goes first. The cells needed are present: the parent of one that needs them is refined.
+ * Flags what the flagged cells need and is not refined. Needs lead to coarser levels alone, so the
+ * finest goes first. The cells needed are present: the parent of one that needs them is refined.
  */
 static void flag_needed(const struct layout *at, const uint8_t *cells, uint8_t *flags)
 {

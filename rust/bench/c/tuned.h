@@ -1,6 +1,6 @@
 /*
- * The calls of wallmirror.h, written in C for speed and without proofs: what the benchmark holds the
- * library's times to. The types and the meaning of every argument are those of wallmirror.h.
+ * The calls of wallmirror.h, written in C for speed and without proofs: what the benchmark holds
+ * the library's times to. The types and the meaning of every argument are those of wallmirror.h.
  */
 #ifndef TUNED_H
 #define TUNED_H

@@ -1,9 +1,9 @@
-//! Prints, for meshes near the largest, what each call takes: the library, the tuned C version beside it
-//! (`c/tuned.c`), the model, and how often both tables could be read meanwhile. Run it in release mode:
-//! `cargo run --release --offline -p bench`.
+//! Prints, for meshes near the largest, what each call takes: the library, the tuned C version
+//! beside it (`c/tuned.c`), the model, and how often both tables could be read meanwhile. Run it in
+//! release mode: `cargo run --release --offline -p bench`.
 //!
-//! The times are the least of many rounds. Library, C and reading take turns, so that a ratio compares
-//! what ran under the same conditions.
+//! The times are the least of many rounds. Library, C and reading take turns, so that a ratio
+//! compares what ran under the same conditions.
 
 mod versions;
 

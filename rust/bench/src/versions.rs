@@ -178,8 +178,8 @@ impl Buffers {
     }
 }
 
-/// Runs both versions from the same buffers and sees that they leave the same. Answers the number and
-/// how many cells changed.
+/// Runs both versions from the same buffers and sees that they leave the same. Answers the number
+/// and how many cells changed.
 pub fn agree(call: Call, before: &Buffers, marks: &[u32]) -> (u32, u32) {
     let (mut library, mut tuned) = (before.clone(), before.clone());
     library.run(&LIBRARY, call, marks);
@@ -196,7 +196,8 @@ mod tests {
     use super::*;
     use differential::{random_plan, random_refined, Random};
 
-    /// Random meshes, some with a wrong byte or another class, and random marks, some of them wrong.
+    /// Random meshes, some with a wrong byte or another class, and random marks, some of them
+    /// wrong.
     #[test]
     fn tuned_is_as_the_library() {
         let mut random = Random::new(600);

@@ -1,7 +1,7 @@
 //! The built session program, started on inputs of all kinds, against the model's session.
 //!
-//! `WALLMIRROR_SESSION`, an absolute path, names the program; without it the tests take the one that
-//! `rt check session` leaves in this repository.
+//! `WALLMIRROR_SESSION`, an absolute path, names the program; without it the tests take the one
+//! that `rt check session` leaves in this repository.
 
 use differential::{plan, Kind, Random, Tables};
 use model::session::{answer, session, Wall, INPUT_BYTES, LINE_MARKS, WALL_CELLS};
@@ -190,7 +190,8 @@ fn walls_refused_or_large() {
     expect("split\njoin 0\nfsplit 1\nfjoin\n", "?\n?\n?\n?\n");
 }
 
-/// An input of `before`, then as many empty lines as make it `INPUT_BYTES - left` long, then `last`.
+/// An input of `before`, then as many empty lines as make it `INPUT_BYTES - left` long, then
+/// `last`.
 fn filled(before: &str, left: usize, last: &str) -> String {
     let empty = INPUT_BYTES - left - before.len();
     format!("{before}{}{last}", "\n".repeat(empty))
@@ -329,7 +330,7 @@ fn padded(random: &mut Random, number: u32) -> String {
 }
 
 fn random_plan(random: &mut Random) -> [u32; 6] {
-    let (columns, rows) = (random.below(4) as u32 + 1, random.below(4) as u32 + 1);
+    let (columns, rows) = (random.below(3) as u32 + 1, random.below(3) as u32 + 1);
     let (p, q) = (random.below(4) as u32 + 1, random.below(4) as u32 + 1);
     let levels = random.below(4) as u32 + 1;
     [columns, rows, levels, p, q, random.pick(&[0, 0, 2, 3, 4, 8])]
@@ -404,9 +405,9 @@ fn beginning(answer: &str) -> &str {
 fn random_sessions() {
     let mut random = Random::new(500);
     let mut seen = std::collections::BTreeMap::<String, usize>::new();
-    for turn in 0..400 {
-        // Every fortieth is longer than what is read.
-        let length = if turn % 40 == 0 { INPUT_BYTES + 500 } else { 20 + random.below(1200) };
+    for turn in 0..240 {
+        // Every thirtieth is longer than what is read.
+        let length = if turn % 30 == 0 { INPUT_BYTES + 500 } else { 20 + random.below(1200) };
         let input = random_session(&mut random, length);
         let output = String::from_utf8(run(&input)).expect("text");
         for line in output.lines() {

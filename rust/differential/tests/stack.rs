@@ -8,8 +8,8 @@ use std::collections::BTreeMap;
 use std::ffi::c_void;
 use wallmirror::{ffi, STACK_BYTES};
 
-/// What a thread needs for itself: its start in the C library and in Rust, its thread-local data, and
-/// the page at the end of its stack that must not be touched. A closure of a test is in it too.
+/// What a thread needs for itself: its start in the C library and in Rust, its thread-local data,
+/// and the page at the end of its stack that must not be touched. A closure of a test is in it too.
 const THREAD_BYTES: usize = 16 * 1024;
 
 /// A call of the library, ready to run, which answers its number.
@@ -115,8 +115,8 @@ impl Stack {
         unsafe { std::slice::from_raw_parts_mut(self.mapped.add(PAGE), self.size) }
     }
 
-    /// Runs the call on this stack: its number, and how many bytes it took together with the frames of
-    /// this test below it (some hundred bytes).
+    /// Runs the call on this stack: its number, and how many bytes it took together with the frames
+    /// of this test below it (some hundred bytes).
     fn run(&mut self, call: Ready) -> (u32, usize) {
         self.bytes().fill(PAINT);
         let mut work = Work { call, number: u32::MAX };
