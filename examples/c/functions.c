@@ -1,7 +1,7 @@
 /*
- * Marks functions by their places. A function of level 1 is refined, then the call is taken back by
- * its own function list, which class 0 allows on an opened mesh. The output is to be that of
- * functions.expected.
+ * Marks functions by their places: one of level 0 and then one of level 1 is refined. Both calls are
+ * taken back by their own function lists, last first, which class 0 allows from an opened mesh on.
+ * The output is to be that of functions.expected.
  */
 #include <stdio.h>
 
@@ -42,15 +42,16 @@ static WallmirrorAnswer run(Call *call, const char *name, const uint32_t *marks,
 
 int main(void)
 {
-    uint32_t marks[2], kept[2][100], kept_len[2], i, call;
+    static uint32_t kept[2][WALLMIRROR_MAX_FUNCTIONS];
+    uint32_t marks[2], kept_len[2], i, call;
     WallmirrorAnswer answer;
     t = wallmirror_cells_len(plan);
     f = wallmirror_functions_len(plan);
     if (wallmirror_open(plan, cells, t, functions, f) != WALLMIRROR_ACCEPTED)
         return 1;
 
-    /* Function 2 of row 1 on level 0 covers columns 0 to 2 and rows 0 to 1: the whole grid. On level 1,
-     * function 3 of row 2 covers columns 1 to 3 and rows 1 to 2. */
+    /* Function 2 of row 1 on level 0 covers columns 0 to 2 and rows 0 to 1, the whole grid; function
+     * 3 of row 2 on level 1 covers columns 1 to 3 and rows 1 to 2. */
     marks[0] = function_at(0, 1, 2);
     marks[1] = function_at(1, 2, 3);
     for (call = 0; call < 2; call++) {

@@ -215,7 +215,7 @@ fn time(call: Call, tables: &Tables, marks: &[u32], place: String) -> Row {
         timed(|| buffers.run(version, call, marks))
     };
     let [mut library, mut tuned, mut read] = [Duration::MAX; 3];
-    repeat(Duration::from_millis(150), 400, || {
+    repeat(Duration::from_millis(300), 1000, || {
         library = library.min(of_version(&LIBRARY));
         tuned = tuned.min(of_version(&TUNED));
         // Several times, since the first finds the tables pushed out of the nearest cache.
