@@ -91,14 +91,7 @@ fn count_changed(old: &[u8], new: &[u8]) -> usize
 }
 
 // The numbers of a block that changed, byte by byte, behind the n that are listed; the entries past them stay. Answers how many are listed then.
-fn list_bytes(
-    old: &[u8],
-    new: &[u8],
-    list: &mut [u32],
-    n: usize,
-    from: usize,
-    to: usize,
-) -> usize
+fn list_bytes(old: &[u8], new: &[u8], list: &mut [u32], n: usize, from: usize, to: usize) -> usize
     requires { ⌜ ListRoom (now old) (now new) (now list) ⌝ }
     requires { ⌜ Block (now old) (now new) from to ⌝ }
     requires { ⌜ ListedTo from (now old) (now new) n (now list) ⌝ }
@@ -118,14 +111,7 @@ fn list_bytes(
 }
 
 // The same; a block of equal bytes has none.
-fn list_block(
-    old: &[u8],
-    new: &[u8],
-    list: &mut [u32],
-    n: usize,
-    from: usize,
-    to: usize,
-) -> usize
+fn list_block(old: &[u8], new: &[u8], list: &mut [u32], n: usize, from: usize, to: usize) -> usize
     requires { ⌜ ListRoom (now old) (now new) (now list) ⌝ }
     requires { ⌜ Block (now old) (now new) from to ⌝ }
     requires { ⌜ ListedTo from (now old) (now new) n (now list) ⌝ }
