@@ -1,22 +1,20 @@
--- `labels::same` meets its contract. The invariant: the bytes so far. Assumes nothing.
-use mathlib.Core.Path.{_≡_, refl, sym, ap, _∙_}
-use mathlib.Core.Bool.{_&&_}
+-- `compare::same` meets its contract. The invariant: the bytes so far. Assumes nothing.
+use mathlib.Core.Path.{_≡_}
 use Prim.Native.Nat.{_-_, _≤_}
 use native.Mathlib.Omega.{arith}
-use lib.ListN.{length}
-use Rattle.labels.specs.Least.{agree}
-use Rattle.labels.proofs.SupportLaws.{agree-none, agree-next}
-use Rattle.labels.proofs.same.Statement.{statement}
-use Rattle.labels.proofs.same.Tie as tie
+use Rattle.compare.specs.Agree.{agree}
+use Rattle.compare.proofs.Agree.{agree-none, agree-next}
+use Rattle.compare.proofs.same.Statement.{statement}
+use Rattle.compare.proofs.same.Tie as tie
 
 abbrev Inv-loop : tie.InvT-loop
-Inv-loop a b ok₀ i₀ ok i = (i ≤ length a) × (ok ≡ agree i a b)
+Inv-loop a b from to ok₀ i₀ ok i = (from ≤ i) × (i ≤ to) × (ok ≡ agree from i a b)
 
 abbrev μ-loop : tie.MeasureT-loop
-μ-loop a b ok₀ i₀ ok i = length a - i
+μ-loop a b from to ok₀ i₀ ok i = to - i
 
 loop-holds : tie.Need-loop-holds Inv-loop μ-loop
-loop-holds c = (omega arith, agree-none _ _)
+loop-holds c = (omega arith, omega arith, agree-none _ _ _)
 
 shared-slice-read-ok : tie.Need-shared-slice-read-ok Inv-loop μ-loop
 shared-slice-read-ok c = omega arith
@@ -31,10 +29,10 @@ loop-less : tie.Need-loop-less Inv-loop μ-loop
 loop-less c = omega arith
 
 loop-again : tie.Need-loop-again Inv-loop μ-loop
-loop-again c = (omega arith, agree-next _ _ _ _ (c .before .before .before .loop .inv .1))
+loop-again c = let v = c .before .before .before .loop .inv in (omega arith, omega arith, agree-next _ _ _ _ _ (v .0) (v .2))
 
 returns : tie.Need-returns Inv-loop μ-loop
-returns c = let q : c .before .loop .i ≡ length (c .before .before .args .a .now) = omega arith in rw q at (c .before .loop .inv .1)
+returns c = let q : c .before .loop .i ≡ c .before .before .args .to = omega arith in rw q at (c .before .loop .inv .2)
 
 pub same-spec : {M : Type 1} → statement M
 same-spec =
