@@ -6,7 +6,7 @@ use Prim.Native.Nat.{ℕ, _+_, _*_, _≤_, _<_}
 use native.Mathlib.Nat.{eq-or-lt-of-le, le-of-eq}
 use native.Mathlib.Omega.{arith}
 use lib.Arith.{digits-lt}
-use lib.Dec.{T, ltb, ltb→lt, nltb→le}
+use lib.Dec.{ltb, ltb→lt, nltb→le}
 use Rattle.facts.specs.Ranges.{everyFrom}
 use Rattle.facts.proofs.Tests.{and-i, and-l, and-r, cases, same, T-true, true-T}
 use Rattle.facts.proofs.Ranges.{from-i, from-e, from-none, from-one, from-more}

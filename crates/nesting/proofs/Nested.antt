@@ -1,6 +1,6 @@
 -- Each cell fits its parent just where the table is a mesh. Assumes nothing.
 use mathlib.Core.Path.{_≡_, refl, sym, ap, _∙_, subst}
-use mathlib.Core.Bool.{Bool, true, false, not, _&&_, _||_, cond}
+use mathlib.Core.Bool.{Bool, true, false, not, _&&_, _||_}
 use mathlib.Core.List.{List}
 use Prim.Native.Nat.{ℕ, zero, suc, _+_, _≤_, _<_}
 use native.Mathlib.Omega.{arith}
@@ -9,10 +9,10 @@ use lib.ListN.{getD}
 use borrow.Author.Tests.{ne-eqb}
 use Rattle.facts.specs.Bounded.{every}
 use Rattle.facts.specs.Ranges.{everyFrom}
-use Rattle.facts.proofs.Tests.{and-i, and-l, and-r, or-l, cases, same, differ, positive, eqb-of, not-i, not-e, T-true, T-false}
+use Rattle.facts.proofs.Tests.{and-r, or-l, cases, same, differ, positive, eqb-of, not-e, T-true, T-false}
 use Rattle.facts.proofs.Bounded.{every-i, every-e}
 use Rattle.grid.specs.declared.Plan.{Plan}
-use Rattle.grid.specs.Plan.{ratio, cellOffset, cellTotal, cellLevel, lastLevel, parent, child}
+use Rattle.grid.specs.Plan.{cellOffset, cellTotal, cellLevel, lastLevel, parent, child}
 use Rattle.grid.specs.Range.{InRange}
 use Rattle.grid.proofs.Laws.{cell-inside, cell-number-place, parent-lt, parent-level, is-child, child-lt, child-level, parent-of-child}
 use Rattle.mesh.specs.Mesh.{absent, refined, cellFits, isMesh}

@@ -12,7 +12,7 @@ use Rattle.facts.specs.Bounded.{implies}
 use Rattle.facts.specs.Numbers.{tabulate}
 use Rattle.facts.specs.Ranges.{everyFrom}
 use Rattle.facts.specs.Mapped.{mapped}
-use Rattle.facts.proofs.Tests.{cases, same, differ, eqb-of, not-i, not-e, T-true, implies-i, implies-e}
+use Rattle.facts.proofs.Tests.{cases, same, differ, eqb-of, not-i, T-true, implies-i, implies-e}
 use Rattle.facts.proofs.Ranges.{from-i, from-e, from-none, from-one}
 use Rattle.facts.proofs.Numbers.{length-tabulate, getD-tabulate, tabulate-is}
 use Rattle.facts.proofs.Mapped.{mapped-length, mapped-at, mapped-is, mapped-more}

@@ -1,9 +1,9 @@
 -- A row of cells and the row of their parents: their numbers. Assumes nothing.
-use mathlib.Core.Path.{_≡_, refl, ap, _∙_}
+use mathlib.Core.Path.{_≡_, refl, ap, subst, _∙_}
 use mathlib.Core.Bool.{Bool, _&&_}
 use mathlib.Core.List.{List}
-use Prim.Native.Nat.{ℕ, pred, _+_, _-_, _*_, _^_, _≤_, _<_}
-use native.Mathlib.Nat.{pow-suc, pow-zero}
+use Prim.Native.Nat.{ℕ, _+_, _-_, _*_, _^_, _≤_, _<_}
+use native.Mathlib.Nat.{le-refl, pow-suc, pow-zero}
 use native.Mathlib.Numerals.{add-one}
 use native.Mathlib.Omega.{arith}
 use lib.ListN.{getD}
@@ -12,10 +12,11 @@ use borrow.Author.Tests.{ne-eqb}
 use Rattle.facts.specs.Ranges.{everyFrom}
 use Rattle.grid.specs.declared.Plan.{Plan}
 use Rattle.grid.specs.declared.Place.{Place}
-use Rattle.grid.specs.Numbering.{number}
-use Rattle.grid.specs.Plan.{ratio, columnsAt, rowsAt, cellOffset, cellTotal, cellPlace, cellNumber, cellLevel, CellInside, above, parent, ancestor}
+use Rattle.grid.specs.Numbering.{offset, number}
+use Rattle.grid.specs.Plan.{ratio, widened, columnsAt, rowsAt, cellOffset, cellTotal, cellPlace, cellNumber, cellLevel, CellInside, above, parent, ancestor}
 use Rattle.grid.specs.Range.{InRange}
 use Rattle.grid.proofs.Direction.{grown-pos}
+use Rattle.grid.proofs.Small.{as-cells, offset-small}
 use Rattle.grid.proofs.Laws.{ratio-pos, cell-number-lt, cell-place-number, parent-lt}
 use Rattle.mesh.specs.Mesh.{refined}
 use Rattle.nesting.specs.Table.{RowUnder}
@@ -24,6 +25,13 @@ use Rattle.nesting.proofs.Levels.{from-next}
 
 abbrev at : ℕ → ℕ → ℕ → Place
 at k r c = record { level = k; row = r; column = c }
+
+-- numbers of cells fit 32 bits
+pub total-small : (p : Plan) → InRange p → cellTotal p < 2 ^ 32
+total-small p range =
+    let b : offset (widened (columnsAt p) 0) (widened (rowsAt p) 0) (p .levels) ≤ 4210704 * p .levels = offset-small p range 0 0 (record { across≤ = omega arith; up≤ = omega arith }) (p .levels) (le-refl (p .levels)) in
+    let c : cellTotal p ≤ 4210704 * p .levels = subst (λ n. n ≤ 4210704 * p .levels) (as-cells p (λ w h. offset w h (p .levels))) b in
+    omega (arith, range .levels≤)
 
 power-one : (s : ℕ) → s ^ 1 ≡ s
 power-one s = rw (pow-suc s 0, pow-zero s) (omega arith)
@@ -84,9 +92,9 @@ module _ (p : Plan) (k start over columns : ℕ) (u : RowUnder p k start over co
         → b ≡ byteFits most (eqb (getD cells (over + up) 0) 2) (getD cells (start + c) 0) → ok && b ≡ everyFrom start (c + 1) (nested p cells)
     row-more cells e em eu eb = rw (e, eb, em, eu, ← nested-at cells) (from-next start (nested p cells) c)
 
-  -- both rows lie in the table
-  pub row-in : start + columns ≤ cellTotal p
-  row-in = omega (arith, some-column, cell-lt (columns - 1) (omega (arith, some-column)))
+  -- both rows end and begin below 2 ^ 32
+  pub row-in : start + columns < 2 ^ 32
+  row-in = omega (arith, total-small p (u .range), some-column, cell-lt (columns - 1) (omega (arith, some-column)))
 
-  pub over-in : over < cellTotal p
-  over-in = omega (arith, parent-in 0 some-column)
+  pub over-in : over < 2 ^ 32
+  over-in = omega (arith, total-small p (u .range), parent-in 0 some-column)

@@ -51,7 +51,7 @@ fn first_level_fits(plan: Plan, cells: &[u8]) -> bool
 }
 
 // A row of the next level: a cell is present just where its parent is refined.
-fn row_fits(plan: Plan, cells: &[u8], level: u32, at: usize, over: usize, columns: u32) -> bool
+fn row_fits(plan: Plan, cells: &[u8], level: u32, at: u32, over: u32, columns: u32) -> bool
     requires { ⌜ RowUnder plan level at over columns ⌝ }
     requires { ⌜ length (now cells) ≡ cellTotal plan ⌝ }
     ensures { λ r. ⌜ r ≡ everyFrom at columns (nested plan (now (cells .entry))) ⌝ }
@@ -60,8 +60,8 @@ fn row_fits(plan: Plan, cells: &[u8], level: u32, at: usize, over: usize, column
     let mut ok = true;
     let mut column = 0;
     while column < columns {
-        let here = at + column as usize;
-        let up = over + plan.coarser(column, 1) as usize;
+        let here = (at + column) as usize;
+        let up = (over + plan.coarser(column, 1)) as usize;
         ok = ok & byte_fits(cells[here], most, cells[up] == 2);
         column += 1;
     }
@@ -74,17 +74,18 @@ fn next_level_fits(plan: Plan, cells: &[u8], level: u32) -> bool
     requires { ⌜ level + 1 < plan .levels ⌝ }
     ensures { λ r. ⌜ r ≡ everyFrom (cellOffset plan (level + 1)) (rowsAt plan (level + 1) * columnsAt plan (level + 1)) (nested plan (now (cells .entry))) ⌝ }
 {
-    let rows = plan.rows_at(level + 1);
-    let columns = plan.columns_at(level + 1);
-    let width = plan.columns_at(level) as usize;
-    let first = plan.cell_offset(level) as usize;
-    let mut at = plan.cell_offset(level + 1) as usize;
+    let next = level + 1;
+    let rows = plan.rows_at(next);
+    let columns = plan.columns_at(next);
+    let width = plan.columns_at(level);
+    let first = plan.cell_offset(level);
+    let mut at = plan.cell_offset(next);
     let mut ok = true;
     let mut row = 0;
     while row < rows {
-        let over = first + plan.coarser(row, 1) as usize * width;
+        let over = first + plan.coarser(row, 1) * width;
         ok = ok & row_fits(plan, cells, level, at, over, columns);
-        at += columns as usize;
+        at += columns;
         row += 1;
     }
     ok
@@ -135,15 +136,15 @@ fn left_by(child: u8, byte: u8) -> u8
 }
 
 // A row of children.
-fn rule_out_row(plan: Plan, cells: &[u8], out: &mut [u8], at: usize, over: usize, columns: u32)
+fn rule_out_row(plan: Plan, cells: &[u8], out: &mut [u8], at: u32, over: u32, columns: u32)
     requires { ⌜ ((k : ℕ) × RowUnder plan k at over columns) ⌝ }
     requires { ⌜ (length (now cells) ≡ cellTotal plan) × (length (now out) ≡ cellTotal plan) ⌝ }
     ensures { λ _. ⌜ now (out .exit) ≡ mapped (ruledOut plan (now (cells .entry)) at columns) (now (out .entry)) ⌝ }
 {
     let mut column = 0;
     while column < columns {
-        let here = at + column as usize;
-        let up = over + plan.coarser(column, 1) as usize;
+        let here = (at + column) as usize;
+        let up = (over + plan.coarser(column, 1)) as usize;
         out[up] = left_by(cells[here], out[up]);
         column += 1;
     }
@@ -156,16 +157,17 @@ fn rule_out_level(plan: Plan, cells: &[u8], out: &mut [u8], level: u32)
     requires { ⌜ level + 1 < plan .levels ⌝ }
     ensures { λ _. ⌜ now (out .exit) ≡ mapped (ruledOut plan (now (cells .entry)) (cellOffset plan (level + 1)) (rowsAt plan (level + 1) * columnsAt plan (level + 1))) (now (out .entry)) ⌝ }
 {
-    let rows = plan.rows_at(level + 1);
-    let columns = plan.columns_at(level + 1);
-    let width = plan.columns_at(level) as usize;
-    let first = plan.cell_offset(level) as usize;
-    let mut at = plan.cell_offset(level + 1) as usize;
+    let next = level + 1;
+    let rows = plan.rows_at(next);
+    let columns = plan.columns_at(next);
+    let width = plan.columns_at(level);
+    let first = plan.cell_offset(level);
+    let mut at = plan.cell_offset(next);
     let mut row = 0;
     while row < rows {
-        let over = first + plan.coarser(row, 1) as usize * width;
+        let over = first + plan.coarser(row, 1) * width;
         rule_out_row(plan, cells, out, at, over, columns);
-        at += columns as usize;
+        at += columns;
         row += 1;
     }
 }

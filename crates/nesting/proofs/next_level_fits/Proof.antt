@@ -1,12 +1,10 @@
 -- `nesting::next_level_fits` meets its contract. The invariant: the rows so far fit, and where the next begins. Assumes nothing.
-use mathlib.Core.Path.{_≡_, refl, sym, _∙_}
+use mathlib.Core.Path.{_≡_, refl, _∙_}
 use Prim.Native.Nat.{_+_, _-_, _*_, _≤_}
 use native.Mathlib.Omega.{arith}
 use borrow.Author.Needs.{needs}
 use Rattle.facts.specs.Ranges.{everyFrom}
-use Rattle.facts.proofs.Ranges.{from-none}
-use lib.ListN.{length}
-use Rattle.grid.specs.Plan.{columnsAt, rowsAt, cellOffset, cellTotal}
+use Rattle.grid.specs.Plan.{columnsAt, rowsAt, cellOffset}
 use Rattle.nesting.specs.Table.{RowUnder}
 use Rattle.nesting.specs.Nested.{nested}
 use Rattle.nesting.proofs.Levels.{rows-none, rows-join}
@@ -15,21 +13,18 @@ use Rattle.nesting.proofs.next_level_fits.Statement.{statement}
 use Rattle.nesting.proofs.next_level_fits.Tie as tie
 
 abbrev Inv-loop : tie.InvT-loop
-Inv-loop plan cells level rows columns width first at₀ ok₀ row₀ at ok row =
+Inv-loop plan cells level next rows columns width first at₀ ok₀ row₀ at ok row =
     (at ≡ cellOffset plan (level + 1) + row * columnsAt plan (level + 1)) × (row ≤ rows)
     × (ok ≡ everyFrom (cellOffset plan (level + 1)) (row * columnsAt plan (level + 1)) (nested plan cells))
 
 abbrev μ-loop : tie.MeasureT-loop
-μ-loop plan cells level rows columns width first at₀ ok₀ row₀ at ok row = rows - row
+μ-loop plan cells level next rows columns width first at₀ ok₀ row₀ at ok row = rows - row
 
-add-rows-at : tie.Need-add-rows-at Inv-loop μ-loop
-add-rows-at c = search needs
+add-next : tie.Need-add-next Inv-loop μ-loop
+add-next c = search needs
 
 rows-at-requires : tie.Need-rows-at-requires Inv-loop μ-loop
 rows-at-requires c κs = search needs
-
-add-columns-at : tie.Need-add-columns-at Inv-loop μ-loop
-add-columns-at c = search needs
 
 columns-at-requires : tie.Need-columns-at-requires Inv-loop μ-loop
 columns-at-requires c κs = search needs
@@ -37,35 +32,17 @@ columns-at-requires c κs = search needs
 columns-at-requires-2 : tie.Need-columns-at-requires-2 Inv-loop μ-loop
 columns-at-requires-2 c κs = search needs
 
-cast-width : tie.Need-cast-width Inv-loop μ-loop
-cast-width c = search needs
-
 cell-offset-requires : tie.Need-cell-offset-requires Inv-loop μ-loop
 cell-offset-requires c κs = search needs
 
-cast-first : tie.Need-cast-first Inv-loop μ-loop
-cast-first c = search needs
-
-add-cell-offset : tie.Need-add-cell-offset Inv-loop μ-loop
-add-cell-offset c = search needs
-
 cell-offset-requires-2 : tie.Need-cell-offset-requires-2 Inv-loop μ-loop
 cell-offset-requires-2 c κs = search needs
-
-cast-at : tie.Need-cast-at Inv-loop μ-loop
-cast-at c = search needs
 
 loop-holds : tie.Need-loop-holds Inv-loop μ-loop
 loop-holds c = (c .cell-offset2 .ensures ∙ omega arith, omega arith, rows-none _ _ _)
 
 coarser-requires : tie.Need-coarser-requires Inv-loop μ-loop
 coarser-requires c κs = search needs
-
-cast-over : tie.Need-cast-over Inv-loop μ-loop
-cast-over c = search needs
-
-size : (c : tie.In-loop Inv-loop μ-loop) → let s = c .before .before .before .before .before .before .before .before in length (s .args .cells .now) ≡ cellTotal (s .args .plan)
-size c = c .before .before .before .before .before .before .before .before .pre .0 .size
 
 -- the row and the one above it
 under : (c : tie.After-coarser Inv-loop μ-loop) → let l = c .before .before in let s = l .before .before .before .before .before .before .before in
@@ -75,19 +52,16 @@ under c = let l = c .before .before in let s = l .before .before .before .before
     (l .before .before .cell-offset .ensures) (l .before .before .before .columns-at2 .ensures) (c .coarser .ensures) refl
 
 mul-over : tie.Need-mul-over Inv-loop μ-loop
-mul-over c = omega (arith, over-in _ _ _ _ _ (under c), size (c .before))
+mul-over c = omega (arith, over-in _ _ _ _ _ (under c))
 
 add-over : tie.Need-add-over Inv-loop μ-loop
-add-over c = omega (arith, over-in _ _ _ _ _ (under c), size (c .before))
+add-over c = omega (arith, over-in _ _ _ _ _ (under c))
 
 row-fits-requires : tie.Need-row-fits-requires Inv-loop μ-loop
-row-fits-requires c κs = (under c, size (c .before))
-
-cast-at-2 : tie.Need-cast-at-2 Inv-loop μ-loop
-cast-at-2 c = search needs
+row-fits-requires c κs = (under c, c .before .before .before .before .before .before .before .before .before .pre .0 .size)
 
 add-at : tie.Need-add-at Inv-loop μ-loop
-add-at c = omega (arith, row-in _ _ _ _ _ (under (c .before)), size (c .before .before))
+add-at c = omega (arith, row-in _ _ _ _ _ (under (c .before)))
 
 add-row : tie.Need-add-row Inv-loop μ-loop
 add-row c = search needs
@@ -114,24 +88,17 @@ next-level-fits-spec =
     (tie.spec
     Inv-loop
     μ-loop
-    add-rows-at
+    add-next
     rows-at-requires
-    add-columns-at
     columns-at-requires
     columns-at-requires-2
-    cast-width
     cell-offset-requires
-    cast-first
-    add-cell-offset
     cell-offset-requires-2
-    cast-at
     loop-holds
     coarser-requires
-    cast-over
     mul-over
     add-over
     row-fits-requires
-    cast-at-2
     add-at
     add-row
     loop-less

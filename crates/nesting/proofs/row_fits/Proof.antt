@@ -8,7 +8,7 @@ use Rattle.facts.specs.Ranges.{everyFrom}
 use Rattle.facts.proofs.Ranges.{from-none}
 use Rattle.grid.specs.Plan.{ancestor}
 use Rattle.nesting.specs.Nested.{mostAt, nested}
-use Rattle.nesting.proofs.Rows.{cell-lt, parent-in, row-more}
+use Rattle.nesting.proofs.Rows.{total-small, row-in, cell-lt, parent-in, row-more}
 use Rattle.nesting.proofs.row_fits.Statement.{statement}
 use Rattle.nesting.proofs.row_fits.Tie as tie
 
@@ -38,7 +38,7 @@ over : (c : tie.In-loop Inv-loop μ-loop) → let s = c .before .before .before 
 over c = let s = c .before .before .before .before in rw (s .pre .1) (parent-in _ _ _ _ _ (s .pre .0) (c .before .loop .column) (c .loop-test .taken))
 
 add-here : tie.Need-add-here Inv-loop μ-loop
-add-here c = omega (arith, cell c)
+add-here c = omega (arith, row-in _ _ _ _ _ (c .before .before .before .before .pre .0))
 
 coarser-requires : tie.Need-coarser-requires Inv-loop μ-loop
 coarser-requires c κs = search needs
@@ -47,7 +47,7 @@ cast-up : tie.Need-cast-up Inv-loop μ-loop
 cast-up c = search needs
 
 add-up : tie.Need-add-up Inv-loop μ-loop
-add-up c = omega (arith, over (c .before), c .coarser .ensures)
+add-up c = omega (arith, over (c .before), total-small _ (c .before .before .before .before .before .pre .0 .range), c .coarser .ensures, c .before .before .before .before .before .pre .1)
 
 shared-slice-read-byte-fits : tie.Need-shared-slice-read-byte-fits Inv-loop μ-loop
 shared-slice-read-byte-fits c = cell (c .before .before)
@@ -82,11 +82,11 @@ row-fits-spec =
     add-most-at
     most-at-requires
     loop-holds
-    cast-here
     add-here
+    cast-here
     coarser-requires
-    cast-up
     add-up
+    cast-up
     shared-slice-read-byte-fits
     shared-slice-read-byte-fits-2
     byte-fits-requires

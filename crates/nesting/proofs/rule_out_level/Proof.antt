@@ -6,7 +6,7 @@ use native.Mathlib.Omega.{arith}
 use borrow.Author.Needs.{needs}
 use lib.ListN.{length}
 use Rattle.facts.specs.Mapped.{mapped}
-use Rattle.grid.specs.Plan.{columnsAt, rowsAt, cellOffset, cellTotal}
+use Rattle.grid.specs.Plan.{columnsAt, rowsAt, cellOffset}
 use Rattle.nesting.specs.Table.{RowUnder}
 use Rattle.nesting.specs.Reactivable.{ruledOut}
 use Rattle.nesting.proofs.Rows.{row-under, row-in, over-in}
@@ -15,21 +15,18 @@ use Rattle.nesting.proofs.rule_out_level.Statement.{statement}
 use Rattle.nesting.proofs.rule_out_level.Tie as tie
 
 abbrev Inv-loop : tie.InvT-loop
-Inv-loop plan cells out₀ level rows columns width first at₀ row₀ out at row =
+Inv-loop plan cells out₀ level next rows columns width first at₀ row₀ out at row =
     (at ≡ cellOffset plan (level + 1) + row * columnsAt plan (level + 1)) × (row ≤ rows) × (length out ≡ length out₀)
     × (out ≡ mapped (ruledOut plan cells (cellOffset plan (level + 1)) (row * columnsAt plan (level + 1))) out₀)
 
 abbrev μ-loop : tie.MeasureT-loop
-μ-loop plan cells out₀ level rows columns width first at₀ row₀ out at row = rows - row
+μ-loop plan cells out₀ level next rows columns width first at₀ row₀ out at row = rows - row
 
-add-rows-at : tie.Need-add-rows-at Inv-loop μ-loop
-add-rows-at c = search needs
+add-next : tie.Need-add-next Inv-loop μ-loop
+add-next c = search needs
 
 rows-at-requires : tie.Need-rows-at-requires Inv-loop μ-loop
 rows-at-requires c κs = search needs
-
-add-columns-at : tie.Need-add-columns-at Inv-loop μ-loop
-add-columns-at c = search needs
 
 columns-at-requires : tie.Need-columns-at-requires Inv-loop μ-loop
 columns-at-requires c κs = search needs
@@ -37,35 +34,17 @@ columns-at-requires c κs = search needs
 columns-at-requires-2 : tie.Need-columns-at-requires-2 Inv-loop μ-loop
 columns-at-requires-2 c κs = search needs
 
-cast-width : tie.Need-cast-width Inv-loop μ-loop
-cast-width c = search needs
-
 cell-offset-requires : tie.Need-cell-offset-requires Inv-loop μ-loop
 cell-offset-requires c κs = search needs
 
-cast-first : tie.Need-cast-first Inv-loop μ-loop
-cast-first c = search needs
-
-add-cell-offset : tie.Need-add-cell-offset Inv-loop μ-loop
-add-cell-offset c = search needs
-
 cell-offset-requires-2 : tie.Need-cell-offset-requires-2 Inv-loop μ-loop
 cell-offset-requires-2 c κs = search needs
-
-cast-at : tie.Need-cast-at Inv-loop μ-loop
-cast-at c = search needs
 
 loop-holds : tie.Need-loop-holds Inv-loop μ-loop
 loop-holds c = (c .cell-offset2 .ensures ∙ omega arith, omega arith, refl, ruled-rows-none _ _ _ _ _)
 
 coarser-requires : tie.Need-coarser-requires Inv-loop μ-loop
 coarser-requires c κs = search needs
-
-cast-over : tie.Need-cast-over Inv-loop μ-loop
-cast-over c = search needs
-
-size : (c : tie.In-loop Inv-loop μ-loop) → let s = c .before .before .before .before .before .before .before .before .before in length (s .args .cells .now) ≡ cellTotal (s .args .plan)
-size c = c .before .before .before .before .before .before .before .before .before .pre .0 .size
 
 -- the row and the one above it
 under : (c : tie.After-coarser Inv-loop μ-loop) → let l = c .before .before in let s = l .before .before .before .before .before .before .before .before in
@@ -75,10 +54,10 @@ under c = let l = c .before .before in let s = l .before .before .before .before
     (l .before .before .cell-offset .ensures) (l .before .before .before .columns-at2 .ensures) (c .coarser .ensures) refl
 
 mul-over : tie.Need-mul-over Inv-loop μ-loop
-mul-over c = omega (arith, over-in _ _ _ _ _ (under c), size (c .before))
+mul-over c = omega (arith, over-in _ _ _ _ _ (under c))
 
 add-over : tie.Need-add-over Inv-loop μ-loop
-add-over c = omega (arith, over-in _ _ _ _ _ (under c), size (c .before))
+add-over c = omega (arith, over-in _ _ _ _ _ (under c))
 
 rule-out-row-requires : tie.Need-rule-out-row-requires Inv-loop μ-loop
 rule-out-row-requires c κs =
@@ -86,11 +65,8 @@ rule-out-row-requires c κs =
     let s = l .before .before .before .before .before .before .before .before in
     ((s .args .level, under (c .before)), (s .pre .0 .size, l .loop .inv .2 ∙ s .pre .1 .0))
 
-cast-at-2 : tie.Need-cast-at-2 Inv-loop μ-loop
-cast-at-2 c = search needs
-
 add-at : tie.Need-add-at Inv-loop μ-loop
-add-at c = omega (arith, row-in _ _ _ _ _ (under (c .before .before .before .before)), size (c .before .before .before .before .before))
+add-at c = omega (arith, row-in _ _ _ _ _ (under (c .before .before .before .before)))
 
 add-row : tie.Need-add-row Inv-loop μ-loop
 add-row c = search needs
@@ -121,24 +97,17 @@ rule-out-level-spec =
     (tie.spec
     Inv-loop
     μ-loop
-    add-rows-at
+    add-next
     rows-at-requires
-    add-columns-at
     columns-at-requires
     columns-at-requires-2
-    cast-width
     cell-offset-requires
-    cast-first
-    add-cell-offset
     cell-offset-requires-2
-    cast-at
     loop-holds
     coarser-requires
-    cast-over
     mul-over
     add-over
     rule-out-row-requires
-    cast-at-2
     add-at
     add-row
     loop-less

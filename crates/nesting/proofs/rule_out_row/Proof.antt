@@ -5,9 +5,9 @@ use native.Mathlib.Omega.{arith}
 use borrow.Author.Needs.{needs}
 use lib.ListN.{length, set}
 use Rattle.facts.specs.Mapped.{mapped}
-use Rattle.grid.specs.Plan.{ancestor, cellTotal}
+use Rattle.grid.specs.Plan.{cellTotal}
 use Rattle.nesting.specs.Reactivable.{ruledOut}
-use Rattle.nesting.proofs.Rows.{cell-lt, parent-in, parent-is}
+use Rattle.nesting.proofs.Rows.{total-small, row-in, cell-lt, parent-in, parent-is}
 use Rattle.nesting.proofs.Reactivable.{ruled-none, ruled-next, ruled-length}
 use Rattle.nesting.proofs.rule_out_row.Statement.{statement}
 use Rattle.nesting.proofs.rule_out_row.Tie as tie
@@ -32,7 +32,7 @@ up : (c : tie.After-coarser Inv-loop μ-loop) → let s = c .before .before .bef
 up c = let s = c .before .before .before .before .before in rw (c .coarser .ensures) (parent-in _ _ _ _ _ (s .pre .0 .1) (c .before .before .loop .column) (c .before .loop-test .taken))
 
 add-here : tie.Need-add-here Inv-loop μ-loop
-add-here c = omega (arith, cell c, c .before .before .before .before .pre .1 .0)
+add-here c = omega (arith, row-in _ _ _ _ _ (c .before .before .before .before .pre .0 .1))
 
 coarser-requires : tie.Need-coarser-requires Inv-loop μ-loop
 coarser-requires c κs = search needs
@@ -41,7 +41,7 @@ cast-up : tie.Need-cast-up Inv-loop μ-loop
 cast-up c = search needs
 
 add-up : tie.Need-add-up Inv-loop μ-loop
-add-up c = omega (arith, up c, c .before .before .before .before .before .pre .1 .0)
+add-up c = omega (arith, up c, total-small _ (c .before .before .before .before .before .pre .0 .1 .range))
 
 shared-slice-read-left-by : tie.Need-shared-slice-read-left-by Inv-loop μ-loop
 shared-slice-read-left-by c = omega (arith, cell (c .before .before), c .before .before .before .before .before .before .pre .1 .0)
@@ -84,11 +84,11 @@ rule-out-row-spec =
     Inv-loop
     μ-loop
     loop-holds
-    cast-here
     add-here
+    cast-here
     coarser-requires
-    cast-up
     add-up
+    cast-up
     shared-slice-read-left-by
     slice-read-left-by
     left-by-requires
