@@ -31,7 +31,8 @@ use Rattle.nesting.specs.Table.{MeshTable}
 use Rattle.outcomes.specs.Contracts.{outcomeOf}
 use Rattle.changes.specs.Changes.{Sizes}
 use Rattle.outcomes.specs.declared.Answer.{Answer}
-use Rattle.cover.specs.Cover.{reactivableByte, coarsenableByte}
+use Rattle.nesting.specs.Reactivable.{reactivableByte}
+use Rattle.cover.specs.Cover.{coarsenableByte}
 use Rattle.cover.specs.Cover as cover
 use Rattle.windows.specs.Level.{leastValue}
 use Rattle.cover.proofs.Meaning.{under-marked-alone}

@@ -45,7 +45,7 @@ fn eligible_cells(direction: Direction, plan: Plan, cells: &[u8], kinds: &mut [u
             plan.cell_offset(plan.levels - 1)
         }
         Direction::Coarsen => {
-            cover::reactivable_cells(plan, cells, kinds);
+            nesting::reactivable_cells(plan, cells, kinds);
             plan.cell_total()
         }
     }
