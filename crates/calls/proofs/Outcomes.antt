@@ -39,7 +39,7 @@ use Rattle.cover.proofs.Meaning.{under-marked-alone}
 use Rattle.calls.specs.Parts.{Eligible, Bytes, Flags}
 use Rattle.closure.specs.Walk.{flagged}
 use Rattle.closure.specs.Ready.{Ready}
-use Rattle.marks.specs.Marks.{verdict, Inside, weighed, commonAt}
+use Rattle.marks.specs.Marks.{verdict, MarksBelow, weighed, commonAt}
 use Rattle.grid.specs.Bounds.{mostCells, mostFunctions}
 
 -- ---- the outcome, by the first refusal
@@ -197,7 +197,7 @@ coarsen-bytes p cs = record {
 pub bytes-are : {d e : Direction} {p : Plan} {kinds table : List ℕ} → e ≡ d → table ≡ kinds → Bytes d p kinds → Bytes e p table
 bytes-are a b B = rw (a, b) B
 
-pub bytes-kinds : {d : Direction} {p : Plan} {table : List ℕ} → d ≡ coarsen → Bytes d p table → cover.Eligible p table
+pub bytes-kinds : {d : Direction} {p : Plan} {table : List ℕ} → d ≡ coarsen → Bytes d p table → cover.NonZero p table
 bytes-kinds {d} {p} {table} e B =
     let C : Bytes coarsen p table = bytes-are (sym e) refl B in
     record { size = C .sized; some = C .above }
@@ -216,7 +216,7 @@ coarsen-eligible-functions p cs fs over n K = record {
 
 -- ---- what is known of marks that pass
 
-pub marks-inside : (d : Direction) (by : By) (p : Plan) (cs fs marks : List ℕ) → first (markRefusal d by p cs fs) marks ≡ 0 → Inside (total by p) marks
+pub marks-inside : (d : Direction) (by : By) (p : Plan) (cs fs marks : List ℕ) → first (markRefusal d by p cs fs) marks ≡ 0 → MarksBelow (total by p) marks
 marks-inside d by p cs fs marks z = record { inside = λ x m. fits-e d by p cs fs x (first-zero (markRefusal d by p cs fs) marks z x m) .inside }
 
 -- ---- flags that say what is selected
@@ -332,7 +332,7 @@ pub flags-are : {d : Direction} {by way : By} {p : Plan} {cs fs marks flags : Li
     → Flags d by p cs fs marks n flags → Flags d way p cs fs marks n flags
 flags-are a F = rw a F
 
-pub inside-are : {n m : ℕ} {marks : List ℕ} → m ≡ n → Inside n marks → Inside m marks
+pub inside-are : {n m : ℕ} {marks : List ℕ} → m ≡ n → MarksBelow n marks → MarksBelow m marks
 inside-are a I = rw a I
 
 pub ready-are : {d : Direction} {p : Plan} {cs table flags : List ℕ} → table ≡ cs → Ready d p cs flags → Ready d p table flags
