@@ -144,8 +144,8 @@ fn rule_out_row(plan: Plan, cells: &[u8], out: &mut [u8], at: u32, over: u32, co
     let mut column = 0;
     while column < columns {
         let here = (at + column) as usize;
-        let up = (over + plan.coarser(column, 1)) as usize;
-        out[up] = left_by(cells[here], out[up]);
+        let parent = (over + plan.coarser(column, 1)) as usize;
+        out[parent] = left_by(cells[here], out[parent]);
         column += 1;
     }
 }

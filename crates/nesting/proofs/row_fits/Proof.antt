@@ -6,7 +6,6 @@ use lib.ListN.{length}
 use borrow.Author.Needs.{needs}
 use Rattle.facts.specs.Ranges.{everyFrom}
 use Rattle.facts.proofs.Ranges.{from-none}
-use Rattle.grid.specs.Plan.{ancestor}
 use Rattle.nesting.specs.Nested.{mostAt, nested}
 use Rattle.nesting.proofs.Rows.{total-small, row-in, cell-lt, parent-in, row-more}
 use Rattle.nesting.proofs.row_fits.Statement.{statement}
@@ -34,8 +33,8 @@ cast-here c = search needs
 cell : (c : tie.In-loop Inv-loop μ-loop) → let s = c .before .before .before .before in s .args .at + c .before .loop .column < length (s .args .cells .now)
 cell c = let s = c .before .before .before .before in rw (s .pre .1) (cell-lt _ _ _ _ _ (s .pre .0) (c .before .loop .column) (c .loop-test .taken))
 
-over : (c : tie.In-loop Inv-loop μ-loop) → let s = c .before .before .before .before in s .args .over + ancestor (s .args .plan) 1 (c .before .loop .column) < length (s .args .cells .now)
-over c = let s = c .before .before .before .before in rw (s .pre .1) (parent-in _ _ _ _ _ (s .pre .0) (c .before .loop .column) (c .loop-test .taken))
+parent : (c : tie.After-coarser Inv-loop μ-loop) → let s = c .before .before .before .before .before in s .args .over + c .coarser .result < length (s .args .cells .now)
+parent c = let s = c .before .before .before .before .before in rw (s .pre .1, c .coarser .ensures) (parent-in _ _ _ _ _ (s .pre .0) (c .before .before .loop .column) (c .before .loop-test .taken))
 
 add-here : tie.Need-add-here Inv-loop μ-loop
 add-here c = omega (arith, row-in _ _ _ _ _ (c .before .before .before .before .pre .0))
@@ -47,13 +46,13 @@ cast-up : tie.Need-cast-up Inv-loop μ-loop
 cast-up c = search needs
 
 add-up : tie.Need-add-up Inv-loop μ-loop
-add-up c = omega (arith, over (c .before), total-small _ (c .before .before .before .before .before .pre .0 .range), c .coarser .ensures, c .before .before .before .before .before .pre .1)
+add-up c = let s = c .before .before .before .before .before in omega (arith, parent c, s .pre .1, total-small (s .args .plan) (s .pre .0 .range))
 
 shared-slice-read-byte-fits : tie.Need-shared-slice-read-byte-fits Inv-loop μ-loop
 shared-slice-read-byte-fits c = cell (c .before .before)
 
 shared-slice-read-byte-fits-2 : tie.Need-shared-slice-read-byte-fits-2 Inv-loop μ-loop
-shared-slice-read-byte-fits-2 c = rw (c .before .before .coarser .ensures) (over (c .before .before .before))
+shared-slice-read-byte-fits-2 c = parent (c .before .before)
 
 byte-fits-requires : tie.Need-byte-fits-requires Inv-loop μ-loop
 byte-fits-requires c κs = search needs

@@ -28,8 +28,8 @@ cast-here c = search needs
 cell : (c : tie.In-loop Inv-loop μ-loop) → let s = c .before .before .before .before in s .args .at + c .before .loop .column < cellTotal (s .args .plan)
 cell c = let s = c .before .before .before .before in cell-lt _ _ _ _ _ (s .pre .0 .1) (c .before .loop .column) (c .loop-test .taken)
 
-up : (c : tie.After-coarser Inv-loop μ-loop) → let s = c .before .before .before .before .before in s .args .over + c .coarser .result < cellTotal (s .args .plan)
-up c = let s = c .before .before .before .before .before in rw (c .coarser .ensures) (parent-in _ _ _ _ _ (s .pre .0 .1) (c .before .before .loop .column) (c .before .loop-test .taken))
+parent : (c : tie.After-coarser Inv-loop μ-loop) → let s = c .before .before .before .before .before in s .args .over + c .coarser .result < cellTotal (s .args .plan)
+parent c = let s = c .before .before .before .before .before in rw (c .coarser .ensures) (parent-in _ _ _ _ _ (s .pre .0 .1) (c .before .before .loop .column) (c .before .loop-test .taken))
 
 add-here : tie.Need-add-here Inv-loop μ-loop
 add-here c = omega (arith, row-in _ _ _ _ _ (c .before .before .before .before .pre .0 .1))
@@ -37,23 +37,23 @@ add-here c = omega (arith, row-in _ _ _ _ _ (c .before .before .before .before .
 coarser-requires : tie.Need-coarser-requires Inv-loop μ-loop
 coarser-requires c κs = search needs
 
-cast-up : tie.Need-cast-up Inv-loop μ-loop
-cast-up c = search needs
+cast-parent : tie.Need-cast-parent Inv-loop μ-loop
+cast-parent c = search needs
 
-add-up : tie.Need-add-up Inv-loop μ-loop
-add-up c = omega (arith, up c, total-small _ (c .before .before .before .before .before .pre .0 .1 .range))
+add-parent : tie.Need-add-parent Inv-loop μ-loop
+add-parent c = omega (arith, parent c, total-small _ (c .before .before .before .before .before .pre .0 .1 .range))
 
 shared-slice-read-left-by : tie.Need-shared-slice-read-left-by Inv-loop μ-loop
 shared-slice-read-left-by c = omega (arith, cell (c .before .before), c .before .before .before .before .before .before .pre .1 .0)
 
 slice-read-left-by : tie.Need-slice-read-left-by Inv-loop μ-loop
-slice-read-left-by c = omega (arith, up (c .before .before), c .before .before .before .before .before .before .before .pre .1 .1, c .before .before .before .before .loop .inv .2)
+slice-read-left-by c = omega (arith, parent (c .before .before), c .before .before .before .before .before .before .before .pre .1 .1, c .before .before .before .before .loop .inv .2)
 
 left-by-requires : tie.Need-left-by-requires Inv-loop μ-loop
 left-by-requires c κs = search needs
 
 slice-write-out : tie.Need-slice-write-out Inv-loop μ-loop
-slice-write-out c = omega (arith, up (c .before .before .before), c .before .before .before .before .before .before .before .before .pre .1 .1, c .before .before .before .before .before .loop .inv .2)
+slice-write-out c = omega (arith, parent (c .before .before .before), c .before .before .before .before .before .before .before .before .pre .1 .1, c .before .before .before .before .before .loop .inv .2)
 
 add-column : tie.Need-add-column Inv-loop μ-loop
 add-column c = search needs
@@ -66,7 +66,7 @@ loop-again c =
     let k = c .before .before .before in
     let l = k .before .before .loop in
     let s = k .before .before .before .before .before in
-    let e = ruled-next (s .args .plan) (s .args .cells .now) (s .args .at) (l .column) _ (s .args .out .now) (l .inv .0) (omega (arith, up k, s .pre .1 .1, l .inv .2))
+    let e = ruled-next (s .args .plan) (s .args .cells .now) (s .args .at) (l .column) _ (s .args .out .now) (l .inv .0) (omega (arith, parent k, s .pre .1 .1, l .inv .2))
     (parent-is _ _ _ _ _ (s .pre .0 .1) (l .column) (k .before .loop-test .taken) ∙ ap (λ x. s .args .over + x) (sym (k .coarser .ensures))) in
     let f = ap (set (l .out) (s .args .over + k .coarser .result)) (c .left-by .ensures) ∙ e in
     (f, omega arith, ruled-length _ _ _ _ _ f)
@@ -87,8 +87,8 @@ rule-out-row-spec =
     add-here
     cast-here
     coarser-requires
-    add-up
-    cast-up
+    add-parent
+    cast-parent
     shared-slice-read-left-by
     slice-read-left-by
     left-by-requires

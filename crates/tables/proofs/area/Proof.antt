@@ -1,5 +1,5 @@
 -- `tables::area` meets its contract: the product of two widths fits 32 bits. Assumes nothing.
-use Prim.Native.Nat.{_-_, _≤_, _<_}
+use Prim.Native.Nat.{_≤_}
 use native.Mathlib.Nat.{mul-le-mul}
 use native.Mathlib.Omega.{arith}
 use borrow.Author.Needs.{needs}
@@ -19,9 +19,8 @@ columns-at-requires c κs = search needs
 mul-result : tie.Need-mul-result
 mul-result c =
     let s = c .before .before .before in
-    let k : s .args .plan .levels - 1 < 8 = omega (arith, s .pre) in
-    let h : c .before .rows-at .result ≤ 2048 = rw (c .before .rows-at .ensures) (grown-small (s .args .plan) (s .pre .rows≤) k) in
-    let w : c .columns-at .result ≤ 2048 = rw (c .columns-at .ensures) (grown-small (s .args .plan) (s .pre .columns≤) k) in
+    let h : c .before .rows-at .result ≤ 2048 = rw (c .before .rows-at .ensures) (grown-small (s .args .plan) (s .pre .rows≤) (omega (arith, s .pre))) in
+    let w : c .columns-at .result ≤ 2048 = rw (c .columns-at .ensures) (grown-small (s .args .plan) (s .pre .columns≤) (omega (arith, s .pre))) in
     omega (arith, mul-le-mul h w)
 
 returns : tie.Need-returns
