@@ -40,6 +40,9 @@ module _ (w h : ℕ → ℕ) where
 -- ---- a test of a range, part by part
 
 module _ (a : ℕ) (p : ℕ → Bool) where
+  pub from-zero : (n : ℕ) → n ≡ 0 → true ≡ everyFrom a n p
+  from-zero n z = rw (z, from-none a p)
+
   pub from-join : (m n b : ℕ) → b ≡ a + m → everyFrom a m p && everyFrom b n p ≡ everyFrom a (m + n) p
   from-join m n b e = same _ _
       (λ t. true-T _ (from-more a m n b p (T-true _ (and-l (everyFrom a m p) _ t)) e (T-true _ (and-r (everyFrom a m p) (everyFrom b n p) t))))
@@ -49,9 +52,6 @@ module _ (a : ℕ) (p : ℕ → Bool) where
   from-next n = ap (λ b. everyFrom a n p && b) (sym (from-one (a + n) p)) ∙ from-join n 1 (a + n) refl
 
   -- a level's rows, w numbers each
-  pub rows-none : (w : ℕ) → true ≡ everyFrom a (0 * w) p
-  rows-none w = let q : 0 * w ≡ 0 = omega arith in rw (q, from-none a p)
-
   pub rows-join : (w row at : ℕ) {n : ℕ} {x y : Bool} → at ≡ a + row * w → n ≡ w → x ≡ everyFrom a (row * w) p → y ≡ everyFrom at n p → x && y ≡ everyFrom a ((row + 1) * w) p
   rows-join w row at e en ex ey = let q : (row + 1) * w ≡ row * w + w = omega arith in rw (ex, ey, en, q) (from-join (row * w) w at e)
 

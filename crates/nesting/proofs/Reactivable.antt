@@ -35,41 +35,36 @@ module _ (p : Plan) (cells : List ℕ) where
   abbrev allows : ℕ → ℕ → Bool
   allows c d = implies (eqb (parent p d) c) (active cells d)
 
-  pub ruled-none : (a : ℕ) (xs : List ℕ) → xs ≡ mapped (ruledOut p cells a 0) xs
+  pub ruled-none : (a n : ℕ) (xs : List ℕ) → n ≡ 0 → xs ≡ mapped (ruledOut p cells a n) xs
   unfolding ruledOut
-  ruled-none a xs = mapped-is _ xs xs refl (λ c l. rw (from-none a (allows c)))
+  ruled-none a n xs z = mapped-is _ xs xs refl (λ c l. rw (z, from-none a (allows c)))
 
-  pub ruled-more : (a m b n : ℕ) (xs : List ℕ) → b ≡ a + m → mapped (ruledOut p cells b n) (mapped (ruledOut p cells a m) xs) ≡ mapped (ruledOut p cells a (m + n)) xs
+  ruled-more : (a m b n : ℕ) (xs : List ℕ) → b ≡ a + m → mapped (ruledOut p cells b n) (mapped (ruledOut p cells a m) xs) ≡ mapped (ruledOut p cells a (m + n)) xs
   unfolding ruledOut
   ruled-more a m b n xs e = mapped-more _ _ _ xs (λ c x.
       both (everyFrom a m (allows c)) (everyFrom b n (allows c)) x ∙ ap (λ t. cond t x 2) (from-join a (allows c) m n b e))
 
   -- one child
-  pub ruled-set : (d up : ℕ) (xs : List ℕ) → up < length xs → parent p d ≡ up → set xs up (cond (eqb (getD cells d 0) 1) (getD xs up 0) 2) ≡ mapped (ruledOut p cells d 1) xs
+  ruled-set : (d up : ℕ) (xs : List ℕ) → up < length xs → parent p d ≡ up → set xs up (cond (eqb (getD cells d 0) 1) (getD xs up 0) 2) ≡ mapped (ruledOut p cells d 1) xs
   unfolding ruledOut active
   ruled-set d up xs l e = mapped-is _ xs _ (length-set xs up _) (λ c m. rw (from-one d (allows c), e) (cases (eqb up c)
       (λ t. rw (T-true (eqb up c) t, ← eqb→eq up c t) (getD-set-same xs up _ 0 l))
       (λ t. rw (ne-eqb up c (differ up c t)) (getD-set-other xs up c _ 0 (λ q. differ up c t (sym q))))))
 
-  -- a row's children, one by one, and a level's, row by row
+  -- a row's children, one by one
   pub ruled-next : (a n up : ℕ) (ys : List ℕ) {xs : List ℕ} → xs ≡ mapped (ruledOut p cells a n) ys → up < length xs → parent p (a + n) ≡ up
       → set xs up (cond (eqb (getD cells (a + n) 0) 1) (getD xs up 0) 2) ≡ mapped (ruledOut p cells a (n + 1)) ys
   ruled-next a n up ys {xs} e l q = ruled-set (a + n) up xs l q ∙ (ap (mapped (ruledOut p cells (a + n) 1)) e ∙ ruled-more a n (a + n) 1 ys refl)
 
-  pub ruled-join : (a m b n : ℕ) (ys : List ℕ) {xs zs : List ℕ} → b ≡ a + m → xs ≡ mapped (ruledOut p cells a m) ys → zs ≡ mapped (ruledOut p cells b n) xs → zs ≡ mapped (ruledOut p cells a (m + n)) ys
+  -- a level's, row by row
+  ruled-join : (a m b n : ℕ) (ys : List ℕ) {xs zs : List ℕ} → b ≡ a + m → xs ≡ mapped (ruledOut p cells a m) ys → zs ≡ mapped (ruledOut p cells b n) xs → zs ≡ mapped (ruledOut p cells a (m + n)) ys
   ruled-join a m b n ys q e f = f ∙ (ap (mapped (ruledOut p cells b n)) e ∙ ruled-more a m b n ys q)
-
-  pub ruled-rows-none : (a w : ℕ) (xs : List ℕ) → xs ≡ mapped (ruledOut p cells a (0 * w)) xs
-  ruled-rows-none a w xs = let q : 0 * w ≡ 0 = omega arith in subst (λ n. xs ≡ mapped (ruledOut p cells a n) xs) (sym q) (ruled-none a xs)
 
   pub ruled-rows : (a w row at : ℕ) (ys : List ℕ) {n : ℕ} {xs zs : List ℕ} → at ≡ a + row * w → n ≡ w → xs ≡ mapped (ruledOut p cells a (row * w)) ys → zs ≡ mapped (ruledOut p cells at n) xs
       → zs ≡ mapped (ruledOut p cells a ((row + 1) * w)) ys
   ruled-rows a w row at ys q en e f =
       let u : (row + 1) * w ≡ row * w + w = omega arith in
       rw u (ruled-join a (row * w) at w ys q e (rw en at f))
-
-  pub ruled-levels-none : (a : ℕ) (xs : List ℕ) → xs ≡ mapped (ruledOut p cells a (a - a)) xs
-  ruled-levels-none a xs = let q : a - a ≡ 0 = omega arith in subst (λ n. xs ≡ mapped (ruledOut p cells a n) xs) (sym q) (ruled-none a xs)
 
   -- the levels below the first, one by one
   pub ruled-levels : (k : ℕ) (ys : List ℕ) {xs zs : List ℕ} → xs ≡ mapped (ruledOut p cells (cellOffset p 1) (cellOffset p (k + 1) - cellOffset p 1)) ys
@@ -84,12 +79,12 @@ module _ (p : Plan) (cells : List ℕ) where
   ruled-length a n xs e = ap length e ∙ mapped-length _ xs
 
 -- 1 where nothing ruled the cell out
-left : (r n y c : Bool) → (T n → y ≡ c) → _≡_ {A = ℕ} (cond y (cond (r && n) 1 2) 2) (cond (r && (n && c)) 1 2)
-left true true y c e = ap (λ b. cond b 1 2) (e tt)
-left true false true c e = refl
-left true false false c e = refl
-left false n true c e = refl
-left false n false c e = refl
+left : (r n y : Bool) → _≡_ {A = ℕ} (cond y (cond (r && n) 1 2) 2) (cond (r && (n && y)) 1 2)
+left true true y = refl
+left true false true = refl
+left true false false = refl
+left false n true = refl
+left false n false = refl
 
 module _ (p : Plan) (range : InRange p) (cells : List ℕ) where
   abbrev last : ℕ
@@ -110,8 +105,8 @@ module _ (p : Plan) (range : InRange p) (cells : List ℕ) where
     abbrev all : Bool
     all = everyFrom (cellOffset p 1) (cellTotal p - cellOffset p 1) (allows p cells c)
 
-    all-children : T (not (lastLevel p (cellLevel p c))) → all ≡ children p c (active cells)
-    all-children inner = same _ _ down up
+    all-children : all ≡ children p c (active cells)
+    all-children = same _ _ down up
       where
         down : T all → T (children p c (active cells))
         down t = children-i p c (active cells) (cell-inside p range c i .level<) (λ l a b ha hb.
@@ -140,5 +135,5 @@ module _ (p : Plan) (range : InRange p) (cells : List ℕ) where
       let long : length start ≡ cellTotal p = length-tabulate (cellTotal p) (refinedByte cells (cellOffset p last)) in
       e ∙ tabulate-is (cellTotal p) _ _ (mapped-length _ start ∙ long) (λ c i. mapped-at _ start c (omega arith)
       ∙ (ap (λ x. cond (all c i) x 2) (getD-tabulate (cellTotal p) (refinedByte cells (cellOffset p last)) c 0 i)
-      ∙ (ap (λ b. cond (all c i) (cond (refined cells c && b) 1 2) 2) (inner-is c i)
-      ∙ left (refined cells c) (not (lastLevel p (cellLevel p c))) (all c i) (children p c (active cells)) (all-children c i))))
+      ∙ (left (refined cells c) (ltb c (cellOffset p last)) (all c i)
+      ∙ (λ j. cond (refined cells c && (inner-is c i j && all-children c i j)) 1 2))))

@@ -83,7 +83,7 @@ module _ (p : Plan) (k start over columns : ℕ) (u : RowUnder p k start over co
     parent-in = rw (← parent-is) (parent-lt p (u .range) (start + c) cell-lt (omega (arith, level-is)))
 
     -- what is asked of the cell
-    pub nested-at : (cells : List ℕ) → nested p cells (start + c) ≡ byteFits (mostAt p (k + 1)) (eqb (getD cells (over + ancestor p 1 c) 0) 2) (getD cells (start + c) 0)
+    nested-at : (cells : List ℕ) → nested p cells (start + c) ≡ byteFits (mostAt p (k + 1)) (eqb (getD cells (over + ancestor p 1 c) 0) 2) (getD cells (start + c) 0)
     unfolding nested refined
     nested-at cells = rw (level-is, parent-is, ne-eqb (k + 1) 0 (λ e. absurd (omega arith)))
 

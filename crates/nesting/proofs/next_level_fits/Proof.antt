@@ -7,7 +7,7 @@ use Rattle.facts.specs.Ranges.{everyFrom}
 use Rattle.grid.specs.Plan.{columnsAt, rowsAt, cellOffset}
 use Rattle.nesting.specs.Table.{RowUnder}
 use Rattle.nesting.specs.Nested.{nested}
-use Rattle.nesting.proofs.Levels.{rows-none, rows-join}
+use Rattle.nesting.proofs.Levels.{from-zero, rows-join}
 use Rattle.nesting.proofs.Rows.{row-under, row-in, over-in}
 use Rattle.nesting.proofs.next_level_fits.Statement.{statement}
 use Rattle.nesting.proofs.next_level_fits.Tie as tie
@@ -39,7 +39,7 @@ cell-offset-requires-2 : tie.Need-cell-offset-requires-2 Inv-loop μ-loop
 cell-offset-requires-2 c κs = search needs
 
 loop-holds : tie.Need-loop-holds Inv-loop μ-loop
-loop-holds c = (c .cell-offset2 .ensures ∙ omega arith, omega arith, rows-none _ _ _)
+loop-holds c = (c .cell-offset2 .ensures ∙ omega arith, omega arith, from-zero _ _ _ (omega arith))
 
 coarser-requires : tie.Need-coarser-requires Inv-loop μ-loop
 coarser-requires c κs = search needs

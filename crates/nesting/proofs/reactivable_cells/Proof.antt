@@ -9,7 +9,7 @@ use Rattle.facts.specs.Mapped.{mapped}
 use Rattle.facts.proofs.Numbers.{length-tabulate}
 use Rattle.grid.specs.Plan.{cellOffset, cellTotal}
 use Rattle.nesting.specs.Reactivable.{refinedByte, ruledOut}
-use Rattle.nesting.proofs.Reactivable.{ruled-levels-none, ruled-levels, ruled-length, all-ruled}
+use Rattle.nesting.proofs.Reactivable.{ruled-none, ruled-levels, ruled-length, all-ruled}
 use Rattle.nesting.proofs.reactivable_cells.Statement.{statement}
 use Rattle.nesting.proofs.reactivable_cells.Tie as tie
 
@@ -39,7 +39,7 @@ loop-holds c =
     let e = c .before .before .refined-cells .ensures in
     let size = s .pre .1 .0 in
     let start = e ∙ (λ i. tabulate (size i) (refinedByte (s .args .cells .now) (c .before .before .before .before .cell-offset .ensures i))) in
-    (omega arith, ap length start ∙ length-tabulate _ _, start ∙ ruled-levels-none _ _ _ _)
+    (omega arith, ap length start ∙ length-tabulate _ _, start ∙ ruled-none _ _ _ _ _ (omega arith))
 
 rule-out-level-requires : tie.Need-rule-out-level-requires Inv-loop μ-loop
 rule-out-level-requires c κs =

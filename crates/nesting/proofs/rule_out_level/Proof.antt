@@ -10,7 +10,7 @@ use Rattle.grid.specs.Plan.{columnsAt, rowsAt, cellOffset}
 use Rattle.nesting.specs.Table.{RowUnder}
 use Rattle.nesting.specs.Reactivable.{ruledOut}
 use Rattle.nesting.proofs.Rows.{row-under, row-in, over-in}
-use Rattle.nesting.proofs.Reactivable.{ruled-rows-none, ruled-rows, ruled-length}
+use Rattle.nesting.proofs.Reactivable.{ruled-none, ruled-rows, ruled-length}
 use Rattle.nesting.proofs.rule_out_level.Statement.{statement}
 use Rattle.nesting.proofs.rule_out_level.Tie as tie
 
@@ -41,7 +41,7 @@ cell-offset-requires-2 : tie.Need-cell-offset-requires-2 Inv-loop μ-loop
 cell-offset-requires-2 c κs = search needs
 
 loop-holds : tie.Need-loop-holds Inv-loop μ-loop
-loop-holds c = (c .cell-offset2 .ensures ∙ omega arith, omega arith, refl, ruled-rows-none _ _ _ _ _)
+loop-holds c = (c .cell-offset2 .ensures ∙ omega arith, omega arith, refl, ruled-none _ _ _ _ _ (omega arith))
 
 coarser-requires : tie.Need-coarser-requires Inv-loop μ-loop
 coarser-requires c κs = search needs

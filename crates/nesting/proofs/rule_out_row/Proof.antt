@@ -19,7 +19,7 @@ abbrev μ-loop : tie.MeasureT-loop
 μ-loop plan cells out₀ at over columns column₀ out column = columns - column
 
 loop-holds : tie.Need-loop-holds Inv-loop μ-loop
-loop-holds c = (ruled-none _ _ _ _, omega arith, refl)
+loop-holds c = (ruled-none _ _ _ _ _ refl, omega arith, refl)
 
 cast-here : tie.Need-cast-here Inv-loop μ-loop
 cast-here c = search needs
