@@ -19,7 +19,8 @@ use Rattle.mesh.specs.Mesh.{active, deactivated, reactivable}
 use Rattle.outcomes.specs.Calls.{Direction, refine, coarsen, By, cells, functions, total, eligible, isTooDeep, markRefusal}
 use Rattle.outcomes.proofs.Marks.{fits-e}
 use Rattle.marks.specs.Marks.{verdict, MarksBelow}
-use Rattle.cover.specs.Cover.{reactivableByte, coarsenableByte, NonZero}
+use Rattle.nesting.specs.Reactivable.{reactivableByte}
+use Rattle.cover.specs.Cover.{coarsenableByte, NonZero}
 use Rattle.calls.specs.Parts.{Eligible}
 use Rattle.calls.proofs.LastLevel.{cell-last, function-last}
 

@@ -46,7 +46,7 @@ fn eligible_cells(direction: Direction, plan: Plan, cells: &[u8], kinds: &mut [u
             plan.cell_offset(plan.levels - 1)
         }
         Direction::Coarsen => {
-            cover::reactivable_cells(plan, cells, kinds);
+            nesting::reactivable_cells(plan, cells, kinds);
             plan.cell_total()
         }
     }
@@ -72,7 +72,7 @@ fn eligible_functions(
             plan.function_offset(plan.levels - 1)
         }
         Direction::Coarsen => {
-            cover::reactivable_cells(plan, cells, scratch);
+            nesting::reactivable_cells(plan, cells, scratch);
             cover::coarsenable_functions(plan, functions, scratch, kinds);
             plan.function_total()
         }
