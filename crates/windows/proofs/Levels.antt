@@ -3,7 +3,7 @@ use mathlib.Core.Path.{_≡_, refl, sym, ap, _∙_}
 use mathlib.Core.Bool.{cond}
 use mathlib.Core.List.{List}
 use Prim.Native.Nat.{ℕ, _+_, _-_, _*_, _/_, _%_, _≤_, _<_}
-use native.Mathlib.Nat.{le-antisymm, le-trans, mul-le-mul-right}
+use native.Mathlib.Nat.{le-antisymm, le-trans, le-add-right, mul-le-mul-right}
 use native.Mathlib.Omega.{arith}
 use lib.Arith.{digits-div, digits-mod}
 use lib.ListN.{length, getD}
@@ -115,14 +115,11 @@ module _ (p : Plan) (cells : List ℕ) (k across up : ℕ) where
             columns≥ = across-in p (l .range) k (l .level<) .cells≥;
             rows≥ = up-in p (l .range) k (l .level<) .cells≥;
             from≤ = omega arith;
-            scratch≤ = omega (arith, mul-le-mul-right (columnsAt p k + across) (more (rowsAt p k) up));
+            scratch≤ = omega (arith, mul-le-mul-right (columnsAt p k + across) (le-add-right (rowsAt p k) up));
             out≤ = o;
           },
           omega arith,
         )
-      where
-        more : (a b : ℕ) → a ≤ a + b
-        more a b = omega arith
 
 -- the bytes of the table
 module _ (p : Plan) (cells found start : List ℕ) (k across up : ℕ) (e : found ≡ filled 0 (high p k up * wide p k across) (levelLeast p cells k across up) start)
