@@ -2,18 +2,18 @@
 use mathlib.Core.Path.{_≡_, refl, sym, ap, _∙_}
 use mathlib.Core.Bool.{Bool, true, false, not, _&&_, _||_, and-true}
 use mathlib.Core.List.{List}
-use Prim.Native.Nat.{ℕ, _+_, _-_, _*_, _≤_, _<_}
+use Prim.Native.Nat.{ℕ, _+_, _-_, _*_, _<_}
 use native.Mathlib.Omega.{arith}
-use lib.Dec.{T, eqb}
+use lib.Dec.{eqb}
 use lib.ListN.{getD}
-use Rattle.facts.specs.Bounded.{implies, every}
+use Rattle.facts.specs.Bounded.{implies}
 use Rattle.facts.specs.Ranges.{everyFrom}
 use Rattle.facts.proofs.Bounded.{every-e}
 use Rattle.facts.proofs.Ranges.{every-from, from-i, from-e, from-one, from-more}
 use Rattle.facts.proofs.Tests.{and-i, and-l, and-r, same, implies-i, T-true, true-T}
 use Rattle.grid.specs.declared.Plan.{Plan}
 use Rattle.grid.specs.declared.Place.{Place}
-use Rattle.grid.specs.Plan.{columnsAt, rowsAt, cellOffset, cellTotal, cellPlace, cellLevel}
+use Rattle.grid.specs.Plan.{columnsAt, rowsAt, cellOffset, cellTotal, cellLevel}
 use Rattle.grid.proofs.Levels.{offset-next}
 use Rattle.grid.proofs.Numbering.{level-ends, place-rest}
 use Rattle.mesh.specs.Mesh.{refined, isMesh, cellFits, isAdmissible}

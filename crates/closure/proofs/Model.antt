@@ -17,7 +17,7 @@ use Rattle.grid.proofs.Rectangles.{neighbourhood-in, neighbourhood-level}
 use Rattle.closure.specs.declared.Pass.{Pass}
 use Rattle.closure.specs.declared.Pass.the-variants.{Refine, Activate, Close}
 use Rattle.windows.specs.Near.{NearTable}
-use Rattle.closure.specs.Walk.{sweep, at, over, writeCell, walkNear, refineAfter, refineCell, flagged, settled, told, closeCell, visit, levelCells, passLevel}
+use Rattle.closure.specs.Walk.{sweep, at, overRow, over, writeCell, walkNear, refineAfter, refineCell, flagged, settled, told, closeCell, visit, levelCells, passLevel}
 use Rattle.closure.proofs.Sweeps.{over-same}
 
 -- ---- a cell
@@ -48,7 +48,7 @@ module _ (p : Plan) (x : Place) (t : List ℕ) where
 
     -- the two loops, over the rectangle r
     pub near-over : {r : Rectangle} → r ≡ neighbourhood p x → (p .class ≡ 0 → ⊥) → p .class ≤ x .level + 1
-        → sweep (λ y. sweep (λ c. f (at (r .level) y c)) (r .columns .first) (r .columns .end - r .columns .first)) (r .rows .first) (r .rows .end - r .rows .first) t ≡ walkNear f p x t
+        → sweep (λ y. overRow f (r .level) y (r .columns)) (r .rows .first) (r .rows .end - r .rows .first) t ≡ walkNear f p x t
     unfolding walkNear over
     near-over e h l = rw (ne-eqb _ _ h, le-leb _ _ l, e) refl
 

@@ -3,7 +3,7 @@ use mathlib.Core.Path.{_≡_, refl, sym, ap, subst, _∙_}
 use mathlib.Core.Logic.{_≢_}
 use mathlib.Core.Bool.{Bool, true, false, not, _&&_, _||_, or-false}
 use mathlib.Core.List.{List}
-use Prim.Native.Nat.{ℕ, suc, _+_, _-_, _≤_, _<_}
+use Prim.Native.Nat.{ℕ, _+_, _-_, _<_}
 use native.Mathlib.Omega.{arith}
 use lib.Dec.{T, eqb, eqb→eq, eqb-refl}
 use Rattle.facts.proofs.Tests.{and-i, and-l, and-r, or-l, or-r, or-e, not-i, not-e, cases, same, differ, T-true, T-false}
@@ -13,7 +13,7 @@ use Rattle.hierarchy.proofs.Closure.{closure-has, closure-admissible, closure-l
 use Rattle.hierarchy.proofs.Undo.{refine-mesh, refine-keeps, refine-parent, coarsen-mesh, coarsen-within, coarsen-parent, reactivable-leaf, reactivable-in}
 use Rattle.grid.specs.declared.Plan.{Plan}
 use Rattle.grid.specs.declared.Place.{Place}
-use Rattle.grid.specs.Plan.{ratio, cellTotal, cellLevel, cellPlace, cellNumber, parent, near, hierarchy}
+use Rattle.grid.specs.Plan.{ratio, cellTotal, cellLevel, cellPlace, parent, near, hierarchy}
 use Rattle.grid.specs.Range.{InRange}
 use Rattle.grid.specs.Spans.{inRectangle}
 use Rattle.grid.proofs.Direction.{grown-pos}
@@ -23,7 +23,7 @@ use Rattle.grid.proofs.Rectangles.{RectangleIn}
 use Rattle.mesh.specs.Mesh.{tableOf}
 use Rattle.closure.specs.declared.Pass.{Pass}
 use Rattle.closure.specs.declared.Pass.the-variants.{Refine, Activate, Close}
-use Rattle.closure.specs.Walk.{writeCell, refineAfter, flagged, settled, closeCell, visit, levelCells, passLevel, pass}
+use Rattle.closure.specs.Walk.{refineAfter, flagged, settled, closeCell, visit, levelCells, passLevel, pass}
 use Rattle.closure.proofs.Writing.{refined-is, table-same, rewritten}
 use Rattle.closure.proofs.Growing.{Allowed, Between, Grows, Walks, walks-none, walks-sweep, walks-is, walks-has, walks-up, grows-none, grows-up}
 use Rattle.closure.proofs.Walking.{Met, over-walks, after-walks, close-walks}
@@ -32,10 +32,10 @@ use Rattle.closure.proofs.Walking.{Met, over-walks, after-walks, close-
 
 module _ (H : Hierarchy) (L : Lawful H) (A B R : Cells) {l : ℕ} (g : Grows H (closure H B) l A R)
     (has : Within H B R) (old : (q c : ℕ) → q < H .size → T (A q) → T (H .near q c) → T (R c)) where
-  pub grown-admissible : Admissible H R
+  grown-admissible : Admissible H R
   grown-admissible q c i t m = cases (A q) (λ a. old q c i a m) (λ a. g .near q c i t (not-e (A q) a) m)
 
-  pub grown-is : (c : ℕ) → c < H .size → R c ≡ closure H B c
+  grown-is : (c : ℕ) → c < H .size → R c ≡ closure H B c
   grown-is c i = same _ _ (g .high c i) (closure-least H L B R grown-admissible has c)
 
 -- ---- the cells of a level
@@ -63,7 +63,7 @@ module _ (p : Plan) (range : InRange p) (flags : List ℕ) (H : Hierarchy) (tabl
       (λ c i t. visits S b c i) S (record { low = λ c i t. t; high = b .high }) in
       record { set = r .set; made = r .made; grows = r .grows; has = r .has }
 
-  pub pass-walks : Walks H table A K (p .levels) (pass w p flags) (λ d. (c : ℕ) × (c < cellTotal p) × (cellLevel p c + 1 < p .levels) × E c d)
+  pass-walks : Walks H table A K (p .levels) (pass w p flags) (λ d. (c : ℕ) × (c < cellTotal p) × (cellLevel p c + 1 < p .levels) × E c d)
   unfolding pass
   pass-walks = walks-has H table A K (p .levels) _ _ _
       (λ d m. let l = m .2 in (cellLevel p (m .0), omega arith, omega arith, (m .0, m .1, in-level p range (m .0) (m .1), m .3)))
@@ -75,9 +75,6 @@ module _ (p : Plan) (range : InRange p) (flags : List ℕ) where
 
   abbrev M : Cells
   M = flagged flags
-
-  here : (c : ℕ) → c < cellTotal p → cellNumber p (cellPlace p c) ≡ c
-  here c i = cell-number-place p range c i
 
   allowed-more : {A K S : Cells} → Allowed H A K → Between H A K S → Allowed H S K
   allowed-more may b = record {
@@ -110,11 +107,11 @@ module _ (p : Plan) (range : InRange p) (flags : List ℕ) where
         (λ t. let k : T (K c) = closure-has H (lawful p range) (S ∪ M) c i (or-r (S c) (M c) t) in
         let a = allowed-more refine-allowed b in
         let f : List ℕ → List ℕ = closeCell (settled p (tableOf p X)) p (cellPlace p c) in
-        walks-is H (tableOf p) X K _ _ (refineAfter f p (cellPlace p c)) _ (λ u. rw (here c i, T-true (flagged flags c) t) refl)
+        walks-is H (tableOf p) X K _ _ (refineAfter f p (cellPlace p c)) _ (λ u. rw (cell-number-place p range c i, T-true (flagged flags c) t) refl)
         (walks-has H (tableOf p) X K _ _ _ _ (λ d e. e .0)
         (walks-up H (tableOf p) X K _ _ _ _ (cell-inside p range c i .level<)
         (after-walks p range X K a c i k f (close-walks p range X K a c i k)))))
-        (λ t. walks-is H (tableOf p) X K _ _ (λ u. u) _ (λ u. rw (here c i, T-false (flagged flags c) (not-e (flagged flags c) t)) refl)
+        (λ t. walks-is H (tableOf p) X K _ _ (λ u. u) _ (λ u. rw (cell-number-place p range c i, T-false (flagged flags c) (not-e (flagged flags c) t)) refl)
         (walks-none H (tableOf p) X K _ _ (λ d e. not-e (flagged flags c) t (e .1))))
 
     pub refine-pass : pass Refine p flags (tableOf p S) ≡ tableOf p (closure H (S ∪ M))
@@ -154,8 +151,8 @@ module _ (p : Plan) (range : InRange p) (flags : List ℕ) where
         (λ d j k. left-other D c d k)
         (λ d j l q u. reactivable-leaf H S c r d j l q (and-l (S d) _ u))
         (λ l. left-has D (parent p c) (coarsen-parent H (lawful p range) S M G W may c i s l)) in
-        rw (here c i, T-true (flagged flags c) t) (rw out at e))
-        (λ t. rw (here c i, T-false (flagged flags c) (not-e (flagged flags c) t))
+        rw (cell-number-place p range c i, T-true (flagged flags c) t) (rw out at e))
+        (λ t. rw (cell-number-place p range c i, T-false (flagged flags c) (not-e (flagged flags c) t))
         (table-same p range (left D) (left (plus D c)) (λ d j. cases (eqb d c)
         (λ e. left-none D (plus D c) d (λ u. not-e (flagged flags c) t (subst (λ (x : ℕ). T (M x)) (eqb→eq d c e) u)))
         (λ e. left-other D c d (differ d c e)))))
@@ -215,13 +212,13 @@ module _ (p : Plan) (range : InRange p) (flags : List ℕ) where
         let l = cell-inside p range c i .level< in
         record {
           set = w .set;
-          made = rw (here c i, refined-is p Y c i, T-true (Y c) t) (w .made);
+          made = rw (cell-number-place p range c i, refined-is p Y c i, T-true (Y c) t) (w .made);
           grows = grows-up H (closure H (S ∖ M)) (omega arith) (w .grows);
           has = λ d e. w .has d (e .1);
         })
         (λ t. record {
           set = Y;
-          made = rw (here c i, refined-is p Y c i, T-false (Y c) (not-e (Y c) t)) refl;
+          made = rw (cell-number-place p range c i, refined-is p Y c i, T-false (Y c) (not-e (Y c) t)) refl;
           grows = grows-none H (closure H (S ∖ M)) _ Y (b′ .high);
           has = λ d e. absurd (not-e (Y c) t (b′ .low c i (b .low c i (e .0))));
         })

@@ -63,7 +63,7 @@ module _ (p : Plan) (range : InRange p) (A K : Cells) (l : ℕ) (f : Place → L
       (over-walks p range (hierarchy p) (tableOf p) A K l f r (neighbourhood-in p range (cellPlace p q) has (cell-inside p range q i)) (λ c d. d ≡ c)
       (λ c j t. each c j (subst T (sym (near-is p range q c i j has)) t)))
 
-  pub near-walks : Walk (walkNear f p (cellPlace p q))
+  near-walks : Walk (walkNear f p (cellPlace p q))
   unfolding walkNear
   near-walks = cases (eqb (p .class) 0)
       (λ z. walks-is (hierarchy p) (tableOf p) A K l _ (λ t. t) _ (λ t. rw (T-true (eqb (p .class) 0) z) refl)
@@ -143,7 +143,7 @@ module _ (p : Plan) (range : InRange p) (A K : Cells) (may : Allowed (hierarchy 
         has = two .has;
       })
 
-  pub cell-walks : (n c : ℕ) → c < cellTotal p → T (K c) → cellLevel p c < n → Walks (hierarchy p) (tableOf p) A K (suc (cellLevel p c)) (refineCell n p (cellPlace p c)) (λ e. e ≡ c)
+  cell-walks : (n c : ℕ) → c < cellTotal p → T (K c) → cellLevel p c < n → Walks (hierarchy p) (tableOf p) A K (suc (cellLevel p c)) (refineCell n p (cellPlace p c)) (λ e. e ≡ c)
   unfolding refineCell
   cell-walks zero c i k l = absurd (omega arith)
   cell-walks (suc n) c i k l =

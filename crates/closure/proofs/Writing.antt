@@ -188,7 +188,7 @@ module _ (p : Plan) (range : InRange p) (r : Rectangle) (i : RectangleIn p r) (c
   before c l = T-false _ (λ t. omega (arith, number-is c (omega (arith, offset-in)) t))
 
   -- what is done to the level's part is done to the table
-  pub rectangle-filled : (v : ℕ) → putMid o (length cells - o) cells (fillBlock (r .rows) (r .columns) w v (midOf o (length cells - o) cells)) ≡ fillCells p r v cells
+  rectangle-filled : (v : ℕ) → putMid o (length cells - o) cells (fillBlock (r .rows) (r .columns) w v (midOf o (length cells - o) cells)) ≡ fillCells p r v cells
   unfolding fillBlock fillCells
   rectangle-filled v = mapped-part o _ _ cells offset-in (λ c x u. rw (before c u) refl) (λ j x b. rw (entry-in j b) refl)
 

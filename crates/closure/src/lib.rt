@@ -257,7 +257,14 @@ fn run(plan: Plan, cells: &mut [u8], flags: &[u8], step: Pass)
     let room = MOST_FUNCTIONS;
     let mut near = [0u8; MOST_FUNCTIONS];
     let mut scratch = [0u8; MOST_FUNCTIONS];
-    run_levels(plan, cells, flags, &mut near[..room], &mut scratch[..room], step);
+    run_levels(
+        plan,
+        cells,
+        flags,
+        &mut near[..room],
+        &mut scratch[..room],
+        step,
+    );
 }
 
 // Refines the cells with the flag 1, and all that the new mesh needs.

@@ -12,7 +12,7 @@ use Rattle.facts.specs.Least.{least}
 use Rattle.facts.specs.Mapped.{inRun, mapped, filled}
 use Rattle.facts.proofs.Least.{least-top}
 use Rattle.facts.proofs.Ranges.{least-more}
-use Rattle.facts.proofs.Mapped.{run-in, run-before, run-after, run-e, mapped-length, mapped-at, mapped-is, mapped-more, mapped-part, filled-length}
+use Rattle.facts.proofs.Mapped.{run-in, run-before, run-after, run-e, mapped-length, mapped-at, mapped-is, mapped-more, mapped-part}
 use Rattle.windows.specs.Windows.{always, lowered, moved, slid}
 
 -- ---- entry by entry

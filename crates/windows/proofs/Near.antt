@@ -1,9 +1,9 @@
 -- The least byte of a cell's neighbourhood: what it says of the cells there, and that the windows of twice the degrees have it.
 -- Assumes nothing.
 use mathlib.Core.Path.{_≡_, refl, sym, ap, subst, _∙_}
-use mathlib.Core.Bool.{Bool, not, cond}
+use mathlib.Core.Bool.{not, cond}
 use mathlib.Core.List.{List}
-use Prim.Native.Nat.{ℕ, _+_, _-_, _*_, _≤_, _<_}
+use Prim.Native.Nat.{ℕ, _+_, _*_, _≤_, _<_}
 use native.Mathlib.Nat.{le-refl, le-of-eq, le-antisymm, mul-le-mul-right}
 use native.Mathlib.Omega.{arith}
 use lib.Dec.{T, eqb, eqb→eq, leb, leb→le, le→leb}
@@ -38,7 +38,7 @@ module _ (p : Plan) (j : ℕ) where
     level≥ = leb→le (p .class) (j + 1) (and-r (not (eqb (p .class) 0)) _ t);
   }
 
-  pub has-test : HasNeighbourhood p j → T (hasNear p j)
+  has-test : HasNeighbourhood p j → T (hasNear p j)
   unfolding hasNear
   has-test h =
       and-i (not (eqb (p .class) 0)) (leb (p .class) (j + 1)) (not-i (eqb (p .class) 0) (λ t. h .class≢ (eqb→eq (p .class) 0 t)))

@@ -19,13 +19,13 @@ use Rattle.grid.specs.declared.Place.{Place}
 use Rattle.grid.specs.Numbering.{number}
 use Rattle.grid.specs.Plan.{columnsAt, rowsAt, functionColumnsAt, functionRowsAt, functionOffset, functionTotal, cellTotal, cellPlace, cellNumber, functionPlace, functionNumber, CellInside, FunctionInside, acrossAt, upAt, supported}
 use Rattle.grid.specs.Range.{InRange}
-use Rattle.grid.specs.Side.{firstOver, firsts}
+use Rattle.grid.specs.Side.{firstOver}
 use Rattle.grid.proofs.Laws.{cell-number-lt, cell-place-number, function-inside, function-number-lt, function-number-place, function-place-number}
 use Rattle.grid.proofs.Numbering.{level-ends}
 use Rattle.grid.proofs.Sides.{across-in, up-in, across-firsts, up-firsts, first-lt}
 use Rattle.grid.proofs.First.{supported-under, under-supported}
 use Rattle.windows.specs.Windows.{back, windowAt, windowLeast, LevelIn}
-use Rattle.windows.specs.Level.{wide, high, NearRoom, leastValue, valueAt, ValueTable}
+use Rattle.windows.specs.Level.{wide, high, NearRoom, leastValue, ValueTable}
 use Rattle.windows.proofs.Slides.{back-le, back-ge}
 
 abbrev at : ℕ → ℕ → ℕ → Place

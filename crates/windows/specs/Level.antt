@@ -7,7 +7,6 @@ use lib.ListN.{length, getD}
 use Rattle.facts.specs.Least.{least}
 use Rattle.facts.specs.Mapped.{inRun}
 use Rattle.grid.specs.declared.Plan.{Plan}
-use Rattle.grid.specs.declared.Place.{Place}
 use Rattle.grid.specs.declared.Side.{Side}
 use Rattle.grid.specs.Plan.{columnsAt, rowsAt, cellTotal, functionTotal, cellNumber, acrossAt, upAt, supported}
 use Rattle.grid.specs.Side.{firstOver, firsts}

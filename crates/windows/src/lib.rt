@@ -138,13 +138,7 @@ fn has_near(plan: Plan, level: u32) -> bool
 
 // The table of the neighbourhoods of a level's cells, where they have some: the windows of twice the degrees over the level in which
 // these lie.
-pub fn neighbourhoods(
-    plan: Plan,
-    cells: &[u8],
-    fine: u32,
-    scratch: &mut [u8],
-    near: &mut [u8],
-)
+pub fn neighbourhoods(plan: Plan, cells: &[u8], fine: u32, scratch: &mut [u8], near: &mut [u8])
     requires { ⌜ (InRange plan) × (fine < plan .levels) × (cellTotal plan ≤ length (now cells)) ⌝ }
     requires { ⌜ (NearRoom plan (length (now scratch))) × (NearRoom plan (length (now near))) ⌝ }
     ensures { λ _. ⌜ NearTable plan (now (cells .entry)) (now (near .exit)) fine ⌝ }

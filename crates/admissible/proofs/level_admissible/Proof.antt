@@ -41,20 +41,20 @@ cast-at : tie.Need-cast-at Inv-loop μ-loop
 cast-at c = search needs
 
 loop-holds : tie.Need-loop-holds Inv-loop μ-loop
-loop-holds c = 
+loop-holds c =
     let a = c .before .before .before .before .before .before .before .before .before .before .before .before .before .args in
     let none = from-none (cellOffset (a .plan) (a .level)) (cellAdmissible (a .plan) (a .cells .now)) in
     (omega arith, omega (arith, c .cell-offset .ensures), rw (zero-mul (columnsAt (a .plan) (a .level))) (sym none), c .before .rows-at .ensures, c .before .before .columns-at .ensures)
 
 row-admissible-requires : tie.Need-row-admissible-requires Inv-loop μ-loop
-row-admissible-requires c κs = 
+row-admissible-requires c κs =
     let s = c .before .before .before .before .before .before .before .before .before .before .before .before .before .before .before .before in
     let l = c .before .before .loop in
     let n = c .before .before .before .before .before .before .before .before .before .before .neighbourhoods in
     (s .pre .0, ((rw (n .kept .1 .1 .1 .1 .0) (s .pre .1 .0 .0), n .ensures), ((s .pre .1 .1, omega (arith, l .inv .3)), l .inv .1)))
 
 add-at : tie.Need-add-at Inv-loop μ-loop
-add-at c = 
+add-at c =
     let s = c .before .before .before .before .before .before .before .before .before .before .before .before .before .before .before .before .before in
     let p = s .args .plan in
     let l = c .before .before .before .loop in
@@ -67,7 +67,7 @@ loop-less : tie.Need-loop-less Inv-loop μ-loop
 loop-less c = search needs
 
 loop-again : tie.Need-loop-again Inv-loop μ-loop
-loop-again c = 
+loop-again c =
     let a = c .before .before .before .before .before .before .before .before .before .before .before .before .before .before .before .before .before .args in
     let p = a .plan in
     let l = c .before .before .before .loop in
@@ -87,7 +87,7 @@ same-length-2 : tie.Need-same-length-2 Inv-loop μ-loop
 same-length-2 c = search needs
 
 returns : tie.Need-returns Inv-loop μ-loop
-returns c = 
+returns c =
     let a = c .before .before .before .before .before .before .before .before .before .before .before .before .before .before .before .args in
     let l = c .before .loop in
     let e : l .row ≡ rowsAt (a .plan) (a .level) = omega (arith, l .inv .0, l .inv .3) in

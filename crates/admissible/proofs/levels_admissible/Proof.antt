@@ -27,7 +27,7 @@ loop-holds : tie.Need-loop-holds Inv-loop μ-loop
 loop-holds c = let a = c .before .before .before .before .args in (refl, refl, omega arith, sym (levels-none (columnsAt (a .plan)) (rowsAt (a .plan)) (cellAdmissible (a .plan) (a .cells .now))))
 
 level-admissible-requires : tie.Need-level-admissible-requires Inv-loop μ-loop
-level-admissible-requires c κs = 
+level-admissible-requires c κs =
     let s = c .before .before .before .before .before .before .before .before in
     let l = c .before .before .before .loop in
     (s .pre .0, ((rw (l .inv .0) (s .pre .1 .0), rw (l .inv .1) (s .pre .1 .1)), omega arith))
@@ -39,7 +39,7 @@ loop-less : tie.Need-loop-less Inv-loop μ-loop
 loop-less c = search needs
 
 loop-again : tie.Need-loop-again Inv-loop μ-loop
-loop-again c = 
+loop-again c =
     let a = c .before .before .before .before .before .before .before .before .before .before .before .before .before .args in
     let p = a .plan in
     let l = c .before .before .before .before .before .before .before .before .loop in
@@ -58,7 +58,7 @@ same-length-2 : tie.Need-same-length-2 Inv-loop μ-loop
 same-length-2 c = c .before .loop .inv .1
 
 returns : tie.Need-returns Inv-loop μ-loop
-returns c = 
+returns c =
     let s = c .before .before .before .before .before .before in
     let l = c .before .loop in
     l .inv .3 ∙ levels-passed (s .args .plan) (s .args .cells .now) (s .pre .0) (l .level) (omega (arith, l .inv .2, s .pre .0 .sized .range .levels≥))

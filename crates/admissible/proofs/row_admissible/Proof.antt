@@ -58,7 +58,7 @@ loop-less : tie.Need-loop-less Inv-loop μ-loop
 loop-less c = search needs
 
 loop-again : tie.Need-loop-again Inv-loop μ-loop
-loop-again c = 
+loop-again c =
     let s = c .before .before .before .before .before .before .before in
     let a = s .args in
     let l = c .before .before .before .loop in
@@ -67,7 +67,7 @@ loop-again c =
     (omega arith, l .inv .1, from-next (a .at) (l .column) (a .at + l .column) (cellAdmissible (a .plan) (a .cells .now)) refl (l .inv .2) (cell-read (a .plan) (a .cells .now) (s .pre .0) (a .at + l .column) _ e))
 
 returns : tie.Need-returns Inv-loop μ-loop
-returns c = 
+returns c =
     let a = c .before .before .before .before .before .args in
     let l = c .before .loop in
     let e : l .column ≡ columnsAt (a .plan) (a .level) = omega (arith, l .inv .0, l .inv .1) in

@@ -23,12 +23,11 @@ same-length c = search needs
 
 returns-2 : tie.Need-returns-2
 unfolding told
-returns-2 c = 
+returns-2 c =
     let s = c .before .before .before .before .before .before .before .before in
     let a = s .args in
     c .before .before .refine-neighbourhood .ensures (a .plan .levels) (omega (arith, s .pre .1 .1 .1))
     ∙ close-open (a .plan) (a .place) (told (a .plan) (a .near .now)) (a .cells .now) (ne-eqb _ _ (λ e. c .before .before .before .before .if1 .left (c .before .before .before .before .before .least-near .ensures ∙ e)))
-
 
 pub close-cell-spec : {M : Type 1} → statement M
 close-cell-spec =

@@ -63,7 +63,7 @@ part-fill-end : tie.Need-part-fill-end Inv-loop μ-loop
 part-fill-end c = search needs
 
 fill-requires : tie.Need-fill-requires Inv-loop μ-loop
-fill-requires c κs = 
+fill-requires c κs =
     let s = c .before .before .before .before .before .before .before .before in
     let l = c .before .before .loop in
     let f = fits (c .before) in
@@ -76,7 +76,7 @@ loop-less : tie.Need-loop-less Inv-loop μ-loop
 loop-less c = search needs
 
 loop-again : tie.Need-loop-again Inv-loop μ-loop
-loop-again c = 
+loop-again c =
     let s = c .before .before .before .before .before .before .before .before .before .before .before in
     let r = s .args .r in
     let l = c .before .before .before .before .before .loop in
@@ -88,14 +88,13 @@ same-length : tie.Need-same-length Inv-loop μ-loop
 same-length c = c .before .loop .inv .0
 
 returns : tie.Need-returns Inv-loop μ-loop
-returns c = 
+returns c =
     let s = c .before .before .before .before .before .before .before in
     let r = s .args .r in
     let l = c .before .loop in
     let e : l .row ≡ r .rows .end = omega arith in
     let q : r .columns .first + (r .columns .end - r .columns .first) ≡ r .columns .end = omega (arith, s .pre .columns≤) in
     l .inv .3 ∙ (λ i. fillBlock (span (r .rows .first) (e i)) (span (r .columns .first) (q i)) (s .args .width) (s .args .value) (s .args .part .now))
-
 
 pub fill-cells-spec : {M : Type 1} → statement M
 fill-cells-spec =

@@ -17,7 +17,7 @@ slice-aggregate-run-levels-2 : tie.Need-slice-aggregate-run-levels-2
 slice-aggregate-run-levels-2 c = search needs
 
 run-levels-requires : tie.Need-run-levels-requires
-run-levels-requires c κs = 
+run-levels-requires c κs =
     let s = c .before .before .before .before .before in
     let r = zeros-room (s .args .plan) (near-room (s .args .plan) (s .pre .0 .range) (s .pre .0 .small)) in
     (s .pre .0, (s .pre .1, (r, r)))
@@ -27,7 +27,6 @@ same-length c = search needs
 
 returns : tie.Need-returns
 returns c = c .before .before .before .before .run-levels .ensures
-
 
 pub run-spec : {M : Type 1} → statement M
 run-spec =

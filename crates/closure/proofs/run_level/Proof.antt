@@ -33,13 +33,13 @@ loop-holds : tie.Need-loop-holds Inv-loop μ-loop
 loop-holds c = (refl, omega arith, omega (arith, c .cell-offset .ensures), c .before .rows-at .ensures, c .before .before .columns-at .ensures, sweep-none _ _ _)
 
 run-row-requires : tie.Need-run-row-requires Inv-loop μ-loop
-run-row-requires c κs = 
+run-row-requires c κs =
     let s = c .before .before .before .before .before .before .before .before .before in
     let l = c .before .before .loop in
     (rw (l .inv .0) (s .pre .0), (s .pre .1 .0, ((s .pre .1 .1, omega (arith, l .inv .3)), l .inv .2)))
 
 add-first : tie.Need-add-first Inv-loop μ-loop
-add-first c = 
+add-first c =
     let s = c .before .before .before .before .before .before .before .before .before .before .before .before in
     let p = s .args .plan in
     let l = c .before .before .before .before .before .loop in
@@ -52,7 +52,7 @@ loop-less : tie.Need-loop-less Inv-loop μ-loop
 loop-less c = search needs
 
 loop-again : tie.Need-loop-again Inv-loop μ-loop
-loop-again c = 
+loop-again c =
     let a = c .before .before .before .before .before .before .before .before .before .before .before .before .args in
     let l = c .before .before .before .before .before .loop in
     let v : ℕ → List ℕ → List ℕ = λ y. overRow (visit (a .step) (a .plan) (a .flags .now) (told (a .plan) (a .near .now))) (a .level) y (levelCells (a .plan) (a .level) .columns) in (
@@ -69,12 +69,11 @@ same-length c = c .before .loop .inv .0
 
 returns : tie.Need-returns Inv-loop μ-loop
 unfolding over
-returns c = 
+returns c =
     let a = c .before .before .before .before .before .before .before .before .args in
     let l = c .before .loop in
     let e : l .row ≡ rowsAt (a .plan) (a .level) = omega (arith, l .inv .1, l .inv .3) in
     l .inv .5 ∙ ap (λ (n : ℕ). sweep (λ y. overRow (visit (a .step) (a .plan) (a .flags .now) (told (a .plan) (a .near .now))) (a .level) y (levelCells (a .plan) (a .level) .columns)) 0 (n - 0) (a .cells .now)) e
-
 
 pub run-level-spec : {M : Type 1} → statement M
 run-level-spec =

@@ -25,13 +25,13 @@ loop-holds : tie.Need-loop-holds Inv-loop μ-loop
 loop-holds c = (refl, refl, refl, omega arith, sweep-none _ _ _)
 
 neighbourhoods-requires : tie.Need-neighbourhoods-requires Inv-loop μ-loop
-neighbourhoods-requires c κs = 
+neighbourhoods-requires c κs =
     let s = c .before .before .before .before .before .before .before .before .before .before in
     let l = c .before .before .before .before .loop in
     ((s .pre .0 .range, omega arith, omega (arith, l .inv .0, s .pre .0 .size)), (rw (l .inv .2) (s .pre .1 .1 .1), rw (l .inv .1) (s .pre .1 .1 .0)))
 
 run-level-requires : tie.Need-run-level-requires Inv-loop μ-loop
-run-level-requires c κs = 
+run-level-requires c κs =
     let s = c .before .before .before .before .before .before .before .before .before .before .before .before .before .before .before .before .before in
     let l = c .before .before .before .before .before .before .before .before .before .before .before .loop in
     (rw (l .inv .0) (s .pre .0), ((s .pre .1 .0, rw (c .before .before .before .before .before .before .neighbourhoods .kept .1 .1 .1 .1 .0 ∙ l .inv .1) (s .pre .1 .1 .0)), omega arith))
@@ -43,7 +43,7 @@ loop-less : tie.Need-loop-less Inv-loop μ-loop
 loop-less c = search needs
 
 loop-again : tie.Need-loop-again Inv-loop μ-loop
-loop-again c = 
+loop-again c =
     let a = c .before .before .before .before .before .before .before .before .before .before .before .before .before .before .before .before .before .before .before .before .args in
     let l = c .before .before .before .before .before .before .before .before .before .before .before .before .before .before .loop in
     let n = c .before .before .before .before .before .before .before .before .before .neighbourhoods in
@@ -68,12 +68,11 @@ same-length-3 c = c .before .loop .inv .2
 
 returns : tie.Need-returns Inv-loop μ-loop
 unfolding pass
-returns c = 
+returns c =
     let a = c .before .before .before .before .before .before .before .args in
     let l = c .before .loop in
     let e : l .level - 0 ≡ a .plan .levels - 1 = omega (arith, l .inv .3) in
     l .inv .4 ∙ ap (λ (n : ℕ). sweep (passLevel (a .step) (a .plan) (a .flags .now)) 0 n (a .cells .now)) e
-
 
 pub run-levels-spec : {M : Type 1} → statement M
 run-levels-spec =

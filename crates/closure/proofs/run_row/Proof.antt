@@ -39,7 +39,7 @@ add-t15 : tie.Need-add-t15 Inv-loop μ-loop
 add-t15 c = let s = c .before .before .before .before .before .before .before in omega (arith, site (c .before) .at-fits, s .pre .1 .1 .1, s .pre .0 .small)
 
 visit-requires : tie.Need-visit-requires Inv-loop μ-loop
-visit-requires c κs = 
+visit-requires c κs =
     let s = c .before .before .before .before .before .before .before in
     (rw (c .before .before .loop .inv .0) (s .pre .0), (s .pre .1 .0, (reached (c .before), (omega (arith, site (c .before) .same, s .pre .1 .1 .1), s .pre .1 .1 .0 .0))))
 
@@ -50,7 +50,7 @@ loop-less : tie.Need-loop-less Inv-loop μ-loop
 loop-less c = search needs
 
 loop-again : tie.Need-loop-again Inv-loop μ-loop
-loop-again c = 
+loop-again c =
     let a = c .before .before .before .before .before .before .before .before .before .before .args in
     let l = c .before .before .before .before .before .loop in
     let v : ℕ → List ℕ → List ℕ = λ x. visit (a .step) (a .plan) (a .flags .now) (told (a .plan) (a .near .now)) (at (a .level) (a .row) x) in
@@ -60,12 +60,11 @@ same-length : tie.Need-same-length Inv-loop μ-loop
 same-length c = c .before .loop .inv .0
 
 returns : tie.Need-returns Inv-loop μ-loop
-returns c = 
+returns c =
     let a = c .before .before .before .before .before .before .args in
     let l = c .before .loop in
     let e : l .column ≡ columnsAt (a .plan) (a .level) = omega (arith, l .inv .2) in
     l .inv .3 ∙ ap (λ (n : ℕ). sweep (λ x. visit (a .step) (a .plan) (a .flags .now) (told (a .plan) (a .near .now)) (at (a .level) (a .row) x)) 0 (n - 0) (a .cells .now)) e
-
 
 pub run-row-spec : {M : Type 1} → statement M
 run-row-spec =

@@ -54,7 +54,7 @@ same-length : tie.Need-same-length
 same-length c = search needs
 
 returns : tie.Need-returns
-returns c = 
+returns c =
     let s = c .before .before .before .before .before .before .before .before .before .before .before .before .before .before .before .before .before .before in
     let a = s .args in
     c .before .before .write-cell .ensures
@@ -62,13 +62,13 @@ returns c =
     ∙ visit-refine (a .plan) (a .place) (told (a .plan) (a .near .now)) (a .cells .now) (a .flags .now) (s .pre .1 .1 .1 .0) (c .before .before .before .before .before .before .before .before .before .before .before .before .enum-told .given .1) (c .before .before .before .before .before .before .before .before .before .before .if1 .taken) (c .before .before .before .before .before .before .before .before .if2 .taken))
 
 returns-2 : tie.Need-returns-2
-returns-2 c = 
+returns-2 c =
     let s = c .before .before .before .before .before .before .before .before .before .before in
     let a = s .args in
     visit-refine-done (a .plan) (a .place) (told (a .plan) (a .near .now)) (a .cells .now) (a .flags .now) (s .pre .1 .1 .1 .0) (c .before .before .before .before .enum-told .given .1) (c .before .before .if1 .taken) (c .if2 .left)
 
 returns-3 : tie.Need-returns-3
-returns-3 c = 
+returns-3 c =
     let s = c .before .before .before .before .before .before .before .before in
     let a = s .args in
     visit-refine-not (a .plan) (a .place) (told (a .plan) (a .near .now)) (a .cells .now) (a .flags .now) (s .pre .1 .1 .1 .0) (c .before .before .enum-told .given .1) (c .if1 .left)
@@ -77,13 +77,13 @@ same-length-2 : tie.Need-same-length-2
 same-length-2 c = search needs
 
 returns-4 : tie.Need-returns-4
-returns-4 c = 
+returns-4 c =
     let s = c .before .before .before .before .before .before .before .before .before .before .before .before in
     let a = s .args in
     c .before .before .write-cell2 .ensures ∙ visit-activate (a .plan) (a .place) (told (a .plan) (a .near .now)) (a .cells .now) (a .flags .now) (s .pre .1 .1 .1 .0) (c .before .before .before .before .before .before .enum-told2 .given .1) (c .before .before .before .before .if3 .taken)
 
 returns-5 : tie.Need-returns-5
-returns-5 c = 
+returns-5 c =
     let s = c .before .before .before .before .before .before .before .before in
     let a = s .args in
     visit-activate-not (a .plan) (a .place) (told (a .plan) (a .near .now)) (a .cells .now) (a .flags .now) (s .pre .1 .1 .1 .0) (c .before .before .enum-told2 .given .1) (c .if3 .left)
@@ -92,17 +92,16 @@ same-length-3 : tie.Need-same-length-3
 same-length-3 c = search needs
 
 returns-6 : tie.Need-returns-6
-returns-6 c = 
+returns-6 c =
     let s = c .before .before .before .before .before .before .before .before .before .before .before .before in
     let a = s .args in
     c .before .before .close-cell2 .ensures ∙ visit-close (a .plan) (a .place) (told (a .plan) (a .near .now)) (a .cells .now) (a .flags .now) (s .pre .1 .1 .1 .0) (c .before .before .before .before .before .before .enum-told3 .given .1) (c .before .before .before .before .if4 .taken)
 
 returns-7 : tie.Need-returns-7
-returns-7 c = 
+returns-7 c =
     let s = c .before .before .before .before .before .before .before .before in
     let a = s .args in
     visit-close-not (a .plan) (a .place) (told (a .plan) (a .near .now)) (a .cells .now) (a .flags .now) (s .pre .1 .1 .1 .0) (c .before .before .enum-told3 .given .1) (c .if4 .left)
-
 
 pub visit-spec : {M : Type 1} → statement M
 visit-spec =

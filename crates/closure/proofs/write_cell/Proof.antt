@@ -17,7 +17,7 @@ cast-number : tie.Need-cast-number
 cast-number c = search needs
 
 slice-write-cells : tie.Need-slice-write-cells
-slice-write-cells c = 
+slice-write-cells c =
     let s = c .before .before in
     omega (arith, cell-number-lt (s .args .plan) (s .pre .0 .range) (s .args .place) (s .pre .1 .0), s .pre .0 .size, s .pre .1 .1 .0)
 
@@ -63,17 +63,16 @@ sub-fill-cells-2 : tie.Need-sub-fill-cells-2
 sub-fill-cells-2 c = search needs
 
 fill-cells-requires : tie.Need-fill-cells-requires
-fill-cells-requires c κs = 
+fill-cells-requires c κs =
     let a = c .before .before .before .before .before .before .args in
     rw (mid-len (c .before .before .cell-offset .result) (set (a .cells .now) (a .cell .0) (a .value))) (part (c .before) .0)
 
 returns : tie.Need-returns
-returns c = 
+returns c =
     let s = c .before .before .before .before .before .before .before .before .before in
     let a = s .args in
     let o = c .before .before .before .before .before .before in
     cell-written (a .plan) (s .pre .0 .range) (a .place) _ (family o) (a .cells .now) (s .pre .0 .size) _ _ (a .cell .0) (a .value) _ (o .children .ensures) (c .before .before .before .before .before .cell-offset .ensures) (c .before .before .before .before .columns-at .ensures) (s .pre .1 .1 .0) (c .before .before .fill-cells .ensures)
-
 
 same-length : tie.Need-same-length
 same-length c = let a = c .before .before .before .before .before .before .before .before .before .args in ap length (returns c) ∙ write-long (a .plan) (a .value) (a .place) (a .cells .now)
