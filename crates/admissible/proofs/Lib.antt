@@ -1,1 +1,1 @@
-pub mod NearLaws
+pub mod Cells

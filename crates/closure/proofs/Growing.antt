@@ -1,4 +1,5 @@
--- What a walk does to the set of refined cells: it adds cells of an allowed set, each with its neighbourhood. Assumes nothing.
+-- What a walk does to a set of cells, by a table for each set: it adds cells of an allowed set, each with its neighbourhood.
+-- Assumes nothing.
 use mathlib.Core.Path.{_≡_, refl, ap, subst, _∙_}
 use mathlib.Core.List.{List}
 use Prim.Native.Nat.{ℕ, zero, suc, _+_, _≤_, _<_}
@@ -7,9 +8,6 @@ use lib.Dec.{T, eqb, eqb→eq}
 use Rattle.facts.proofs.Tests.{cases, not-e, differ}
 use Rattle.hierarchy.specs.Hierarchy.{Hierarchy, Cells}
 use Rattle.hierarchy.proofs.Sets.{Admissible, Within}
-use Rattle.grid.specs.declared.Plan.{Plan}
-use Rattle.grid.specs.Plan.{hierarchy}
-use Rattle.mesh.specs.Mesh.{tableOf}
 use Rattle.closure.specs.Walk.{sweep}
 
 module _ (H : Hierarchy) where
@@ -47,28 +45,28 @@ module _ (H : Hierarchy) (K : Cells) where
   pub grows-up : {l m : ℕ} {S S′ : Cells} → l ≤ m → Grows H K l S S′ → Grows H K m S S′
   grows-up h a = record { keeps = a .keeps; high = a .high; near = a .near; level = λ q i t n. omega (arith, a .level q i t n) }
 
+-- what a sweep of walks has
+abbrev pub Swept : (ℕ → ℕ → Type 0) → ℕ → ℕ → ℕ → Type 0
+Swept D a n d = (i : ℕ) × (a ≤ i) × (i < a + n) × D i d
+
 -- ---- what f makes of the table of a set between A and K: the table of a set that grew from it, and has D
 
-module _ (p : Plan) (A K : Cells) where
+module _ (H : Hierarchy) (table : Cells → List ℕ) (A K : Cells) where
   pub record Reaches (l : ℕ) (f : List ℕ → List ℕ) (D : ℕ → Type 0) (S : Cells) : Type 0 where
     pub set : Cells
-    pub table : f (tableOf p S) ≡ tableOf p set
-    pub grows : Grows (hierarchy p) K l S set
+    pub made : f (table S) ≡ table set
+    pub grows : Grows H K l S set
     pub has : (d : ℕ) → D d → T (set d)
 
   abbrev pub Walks : ℕ → (List ℕ → List ℕ) → (ℕ → Type 0) → Type 0
-  Walks l f D = (S : Cells) → Between (hierarchy p) A K S → Reaches l f D S
+  Walks l f D = (S : Cells) → Between H A K S → Reaches l f D S
 
-  pub between-more : {l : ℕ} {S S′ : Cells} → Between (hierarchy p) A K S → Grows (hierarchy p) K l S S′ → Between (hierarchy p) A K S′
+  pub between-more : {l : ℕ} {S S′ : Cells} → Between H A K S → Grows H K l S S′ → Between H A K S′
   between-more b g = record { low = λ c i t. g .keeps c (b .low c i t); high = g .high }
 
   pub walks-none : (l : ℕ) (D : ℕ → Type 0) → ((d : ℕ) → D d → ⊥) → Walks l (λ t. t) D
   walks-none l D none S b =
-      record { set = S; table = refl; grows = grows-none (hierarchy p) K l S (b .high); has = λ d h. absurd (none d h) }
-
-  -- what a sweep of walks has
-  abbrev pub Swept : (ℕ → ℕ → Type 0) → ℕ → ℕ → ℕ → Type 0
-  Swept D a n d = (i : ℕ) × (a ≤ i) × (i < a + n) × D i d
+      record { set = S; made = refl; grows = grows-none H K l S (b .high); has = λ d h. absurd (none d h) }
 
   pub walks-sweep : (l : ℕ) (f : ℕ → List ℕ → List ℕ) (D : ℕ → ℕ → Type 0) (a n : ℕ)
       → ((i : ℕ) → a ≤ i → i < a + n → Walks l (f i) (D i)) → Walks l (sweep f a n) (Swept D a n)
@@ -79,8 +77,8 @@ module _ (p : Plan) (A K : Cells) where
       let two : Reaches l (f (a + n)) (D (a + n)) (one .set) = w (a + n) (omega arith) (omega arith) (one .set) (between-more b (one .grows)) in
       record {
         set = two .set;
-        table = ap (f (a + n)) (one .table) ∙ two .table;
-        grows = grows-more (hierarchy p) K (one .grows) (two .grows);
+        made = ap (f (a + n)) (one .made) ∙ two .made;
+        grows = grows-more H K (one .grows) (two .grows);
         has = λ d s. cases (eqb (s .0) (a + n))
             (λ e. two .has d (subst (λ (i : ℕ). D i d) (eqb→eq (s .0) (a + n) e) (s .3)))
             (λ e. two .grows .keeps d (one .has d (s .0, s .1, omega (arith, s .2, differ (s .0) (a + n) e), s .3)));
@@ -88,10 +86,10 @@ module _ (p : Plan) (A K : Cells) where
 
   -- the same walk said otherwise
   pub walks-is : (l : ℕ) (f g : List ℕ → List ℕ) (D : ℕ → Type 0) → ((t : List ℕ) → f t ≡ g t) → Walks l g D → Walks l f D
-  walks-is l f g D e w S b = let r = w S b in record { set = r .set; table = e (tableOf p S) ∙ r .table; grows = r .grows; has = r .has }
+  walks-is l f g D e w S b = let r = w S b in record { set = r .set; made = e (table S) ∙ r .made; grows = r .grows; has = r .has }
 
   pub walks-has : (l : ℕ) (f : List ℕ → List ℕ) (D E : ℕ → Type 0) → ((d : ℕ) → E d → D d) → Walks l f D → Walks l f E
-  walks-has l f D E h w S b = let r = w S b in record { set = r .set; table = r .table; grows = r .grows; has = λ d e. r .has d (h d e) }
+  walks-has l f D E h w S b = let r = w S b in record { set = r .set; made = r .made; grows = r .grows; has = λ d e. r .has d (h d e) }
 
   pub walks-up : (l m : ℕ) (f : List ℕ → List ℕ) (D : ℕ → Type 0) → l ≤ m → Walks l f D → Walks m f D
-  walks-up l m f D h w S b = let r = w S b in record { set = r .set; table = r .table; grows = grows-up (hierarchy p) K h (r .grows); has = r .has }
+  walks-up l m f D h w S b = let r = w S b in record { set = r .set; made = r .made; grows = grows-up H K h (r .grows); has = r .has }

@@ -49,7 +49,7 @@ module _ (p : Plan) (cs flags : List ℕ) where
     )
     may-fact coarsen t = subst T (reactivable-is p cs G c i) t
 
-    pub may-test : (d : Direction) → May d (hierarchy p) (refined cs) c → T (mayTurn d p cs c)
+    may-test : (d : Direction) → May d (hierarchy p) (refined cs) c → T (mayTurn d p cs c)
     unfolding mayTurn lastLevel
     may-test refine t = and-i (active cs c) _ (subst T (sym (active-is p cs G c i)) (t .0))
         (not-i (eqb (cellLevel p c + 1) (p .levels)) (λ e. omega (arith, t .1, eqb→eq (cellLevel p c + 1) (p .levels) e)))

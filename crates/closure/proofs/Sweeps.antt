@@ -1,16 +1,12 @@
--- Laws of sweeps, and of sweeps that write one byte at some places. Assumes nothing.
+-- Laws of sweeps. Assumes nothing.
 use mathlib.Core.Path.{_≡_, refl, ap, _∙_}
-use mathlib.Core.Bool.{Bool, true, false, _||_, cond}
 use mathlib.Core.List.{List}
 use Prim.Native.Nat.{ℕ, zero, suc, _+_, _-_, _≤_, _<_}
-use native.Mathlib.Nat.{zero-add}
 use native.Mathlib.Omega.{arith}
-use lib.Dec.{eqb, eqb→eq}
-use lib.ListN.{length, getD, set, length-set}
-use lib.Seq.{getD-set-same, getD-set-other}
-use Rattle.facts.specs.Bounded.{some}
-use Rattle.facts.proofs.Tests.{cases, differ, T-true, T-false, not-e}
-use Rattle.closure.specs.Walk.{sweep}
+use Rattle.grid.specs.declared.Place.{Place}
+use Rattle.grid.specs.declared.Rectangle.{Rectangle}
+use Rattle.grid.proofs.Spans.{InSpan}
+use Rattle.closure.specs.Walk.{sweep, at, over}
 
 -- ---- one turn more
 
@@ -25,43 +21,17 @@ sweep-more f a k t h =
     let z : a + (k - a) ≡ k = omega arith in
     rw (e, z) refl
 
--- ---- what a sweep keeps
+-- ---- what does the same at each turn
 
-pub sweep-keeps : (P : List ℕ → Type 0) (f : ℕ → List ℕ → List ℕ) → ((i : ℕ) (t : List ℕ) → P t → P (f i t)) → (a n : ℕ) (t : List ℕ) → P t → P (sweep f a n t)
+sweep-same : (f g : ℕ → List ℕ → List ℕ) (a n : ℕ) (t : List ℕ) → ((i : ℕ) (u : List ℕ) → a ≤ i → i < a + n → f i u ≡ g i u) → sweep f a n t ≡ sweep g a n t
 unfolding sweep
-sweep-keeps P f h a zero t q = q
-sweep-keeps P f h a (suc n) t q = h (a + n) (sweep f a n t) (sweep-keeps P f h a n t q)
+sweep-same f g a zero t h = refl
+sweep-same f g a (suc n) t h = h (a + n) _ (omega arith) (omega arith) ∙ ap (g (a + n)) (sweep-same f g a n t (λ i u l m. h i u l (omega arith)))
 
--- ---- writing
-
--- f writes v at the numbers of D, and nothing else
-pub record Writes (f : List ℕ → List ℕ) (D : ℕ → Bool) (v : ℕ) : Type 0 where
-  pub long : (t : List ℕ) → length (f t) ≡ length t
-  pub byte : (t : List ℕ) (d : ℕ) → d < length t → getD (f t) d 0 ≡ cond (D d) v (getD t d 0)
-
-pub writes-one : (i v : ℕ) → Writes (λ t. set t i v) (λ d. eqb d i) v
-writes-one i v = record {
-  long = λ t. length-set t i v;
-  byte = λ t d h. cases (eqb d i)
-      (λ e. let q = eqb→eq d i e in rw (T-true (eqb d i) e, q) (getD-set-same t i v 0 (omega arith)))
-      (λ e. rw (T-false (eqb d i) (not-e (eqb d i) e)) (getD-set-other t i d v 0 (differ d i e)));
-}
-
-cond-or : (a b : Bool) (v x : ℕ) → cond a v (cond b v x) ≡ cond (a || b) v x
-cond-or true b v x = refl
-cond-or false b v x = refl
-
-pub writes-sweep : (f : ℕ → List ℕ → List ℕ) (D : ℕ → ℕ → Bool) (v : ℕ) → ((i : ℕ) → Writes (f i) (D i) v)
-    → (n : ℕ) → Writes (sweep f 0 n) (λ d. some n (λ i. D i d)) v
-unfolding sweep some
-writes-sweep f D v w zero = record { long = λ t. refl; byte = λ t d h. refl }
-writes-sweep f D v w (suc n) =
-    let k : Writes (sweep f 0 n) (λ d. some n (λ i. D i d)) v = writes-sweep f D v w n in
-    let z : 0 + n ≡ n = zero-add n in
-    record {
-      long = λ t. rw z (w n .long (sweep f 0 n t) ∙ k .long t);
-      byte = λ t d h.
-          rw z (w n .byte (sweep f 0 n t) d (rw (k .long t) h)
-          ∙ ap (cond (D n d) v) (k .byte t d h)
-          ∙ cond-or (D n d) (some n (λ i. D i d)) v (getD t d 0));
-    }
+pub over-same : (f g : Place → List ℕ → List ℕ) (r : Rectangle) (t : List ℕ)
+    → ((y x : ℕ) (u : List ℕ) → InSpan (r .rows) y → InSpan (r .columns) x → f (at (r .level) y x) u ≡ g (at (r .level) y x) u) → over f r t ≡ over g r t
+unfolding over
+over-same f g r t h = sweep-same _ _ _ _ t (λ y u a b. sweep-same _ _ _ _ u (λ x w c d.
+    let rows : InSpan (r .rows) y = omega arith in
+    let columns : InSpan (r .columns) x = omega arith in
+    h y x w rows columns))

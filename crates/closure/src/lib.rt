@@ -1,18 +1,17 @@
 // From a cell table to the smallest admissible mesh around a base set: the closure under neighbourhoods, in code.
 use grid::Cell;
+use grid::MOST_FUNCTIONS;
 use grid::Place;
 use grid::Plan;
+use grid::Rectangle;
 ghost use mathlib.Core.Path.{_≡_};
-ghost use Prim.Native.Nat.{ℕ, _+_, _<_, _≤_};
-ghost use lib.ListN.{length, set};
-ghost use Rattle.grid.specs.Range.{InRange};
-ghost use Rattle.grid.specs.Plan.{ratio, cellTotal, cellPlace, cellNumber, CellInside, below};
+ghost use Prim.Native.Nat.{ℕ, _+_, _*_, _<_, _≤_};
+ghost use lib.ListN.{length};
+ghost use Rattle.grid.specs.Plan.{columnsAt, rowsAt, cellOffset, cellTotal, cellNumber, CellInside};
+ghost use Rattle.windows.specs.Level.{NearRoom};
 ghost use Rattle.outcomes.specs.Calls.{refine, coarsen, base, smallest};
-ghost use Rattle.closure.specs.Walk.{fillRow, fillChildren, writeCell, walkNear, refineCell, flagged, visit, pass};
+ghost use Rattle.closure.specs.Walk.{Block, fillBlock, writeCell, walkNear, refineCell, flagged, told, closeCell, visit, overRow, over, levelCells, pass};
 ghost use Rattle.closure.specs.Ready.{TableSize, Ready};
-
-// How many columns of the next level stand on one: where this crate's code knows the grid's ratio.
-const RATIO: u32 = 2;
 
 // What a pass does at each cell.
 enum Pass {
@@ -24,84 +23,40 @@ enum Pass {
     Close,
 }
 
-// Writes one byte of a level's part of the table.
-fn write(part: &mut [u8], at: usize, value: u8)
-    requires { ⌜ at < length (now part) ⌝ }
-    ensures { λ _. ⌜ now (part .exit) ≡ set (now (part .entry)) at value ⌝ }
+// Sets the bytes of a rectangle of cells, in the part of the table that begins at their level's offset and has `width` cells to a row.
+fn fill_cells(part: &mut [u8], width: usize, r: Rectangle, value: u8)
+    requires { ⌜ Block r width (length (now part)) ⌝ }
+    ensures { λ _. ⌜ now (part .exit) ≡ fillBlock (r .rows) (r .columns) width value (now (part .entry)) ⌝ }
 {
-    part[at] = value;
-}
-
-// Sets the byte of the cell at a place, in the part of the table that begins at its level's offset.
-fn put(plan: Plan, cells: &mut [u8], place: Place, value: u8)
-    requires { ⌜ TableSize plan (length (now cells)) ⌝ }
-    requires { ⌜ CellInside plan place ⌝ }
-    ensures { λ _. ⌜ now (cells .exit) ≡ set (now (cells .entry)) (cellNumber plan place) value ⌝ }
-{
-    let level = place.level;
-    let row = place.row;
-    let column = place.column;
-    let offset = plan.cell_offset(level) as usize;
-    let at = row * plan.columns_at(level) + column;
-    write(&mut cells[offset..], at as usize, value);
-}
-
-// The place of a child of the cell at a place: in row a and column b of its children.
-fn child(plan: Plan, place: Place, a: u32, b: u32) -> Place
-    requires { ⌜ InRange plan ⌝ }
-    requires { ⌜ CellInside plan place ⌝ }
-    requires { ⌜ (a < ratio plan) × (b < ratio plan) ⌝ }
-    ensures { λ r. ⌜ r ≡ below plan place a b ⌝ }
-{
-    let level = place.level;
-    let row = place.row;
-    let column = place.column;
-    Place {
-        level: level + 1,
-        row: row * RATIO + a,
-        column: column * RATIO + b,
-    }
-}
-
-// Sets the bytes of the children in one row of them.
-fn fill_row(plan: Plan, cells: &mut [u8], place: Place, a: u32, value: u8)
-    requires { ⌜ TableSize plan (length (now cells)) ⌝ }
-    requires { ⌜ CellInside plan place ⌝ }
-    requires { ⌜ place .level + 1 < plan .levels ⌝ }
-    requires { ⌜ a < ratio plan ⌝ }
-    ensures { λ _. ⌜ now (cells .exit) ≡ fillRow plan value place a (now (cells .entry)) ⌝ }
-{
-    let mut b = 0;
-    while b < RATIO {
-        put(plan, cells, child(plan, place, a, b), value);
-        b += 1;
-    }
-}
-
-// Sets the bytes of all children of the cell at a place.
-fn fill_children(plan: Plan, cells: &mut [u8], place: Place, value: u8)
-    requires { ⌜ TableSize plan (length (now cells)) ⌝ }
-    requires { ⌜ CellInside plan place ⌝ }
-    requires { ⌜ place .level + 1 < plan .levels ⌝ }
-    ensures { λ _. ⌜ now (cells .exit) ≡ fillChildren plan value place (now (cells .entry)) ⌝ }
-{
-    let mut a = 0;
-    while a < RATIO {
-        fill_row(plan, cells, place, a, value);
-        a += 1;
+    let rows = r.rows;
+    let columns = r.columns;
+    let first = columns.first as usize;
+    let count = columns.end as usize - first;
+    let end = rows.end;
+    let mut row = rows.first;
+    while row < end {
+        let at = row as usize * width + first;
+        windows::fill(&mut part[at..], count, value);
+        row += 1;
     }
 }
 
 // Sets the byte of the cell at a place, and one less at its children: 2 refines it, 1 makes it active again.
-fn write_cell(plan: Plan, cells: &mut [u8], place: Place, value: u8)
+fn write_cell(plan: Plan, cells: &mut [u8], cell: Cell, place: Place, value: u8)
     requires { ⌜ TableSize plan (length (now cells)) ⌝ }
     requires { ⌜ CellInside plan place ⌝ }
+    requires { ⌜ cell .0 ≡ cellNumber plan place ⌝ }
     requires { ⌜ place .level + 1 < plan .levels ⌝ }
     requires { ⌜ 1 ≤ value ⌝ }
     ensures { λ _. ⌜ now (cells .exit) ≡ writeCell plan value place (now (cells .entry)) ⌝ }
 {
-    put(plan, cells, place, value);
-    fill_children(plan, cells, place, value - 1);
+    let number = cell.0 as usize;
+    cells[number] = value;
+    let children = plan.children(place);
+    let level = children.level;
+    let offset = plan.cell_offset(level) as usize;
+    let width = plan.columns_at(level) as usize;
+    fill_cells(&mut cells[offset..], width, children, value - 1);
 }
 
 // Refines the cell at a place, after its neighbourhood.
@@ -117,7 +72,7 @@ fn refine_cell(plan: Plan, cells: &mut [u8], cell: Cell, place: Place)
         return;
     }
     refine_neighbourhood(plan, cells, place);
-    write_cell(plan, cells, place, 2);
+    write_cell(plan, cells, cell, place, 2);
 }
 
 // Refines the neighbourhood of the cell at a place, where it has one: each of its cells after its own.
@@ -165,85 +120,151 @@ fn refine_neighbourhood(plan: Plan, cells: &mut [u8], place: Place)
     }
 }
 
-// The place of the next number: in the next column, or at the start of the next row, or of the next level.
-fn next(plan: Plan, place: Place) -> Place
-    requires { ⌜ InRange plan ⌝ }
+// Refines the neighbourhood of the cell at a place, unless the table that was made when its level was entered has it refined.
+fn close_cell(plan: Plan, cells: &mut [u8], near: &[u8], place: Place)
+    requires { ⌜ TableSize plan (length (now cells)) ⌝ }
+    requires { ⌜ NearRoom plan (length (now near)) ⌝ }
     requires { ⌜ CellInside plan place ⌝ }
-    ensures { λ r. ⌜ ((c : ℕ) → c + 1 < cellTotal plan → place ≡ cellPlace plan c → r ≡ cellPlace plan (c + 1)) ⌝ }
+    requires { ⌜ place .level + 1 < plan .levels ⌝ }
+    ensures { λ _. ⌜ now (cells .exit) ≡ closeCell (told plan (now (near .entry))) plan place (now (cells .entry)) ⌝ }
 {
-    let level = place.level;
-    let row = place.row;
-    let column = place.column;
-    if column + 1 < plan.columns_at(level) {
-        return Place {
-            level,
-            row,
-            column: column + 1,
-        };
+    if windows::least_near(plan, near, place) == 2 {
+        return;
     }
-    if row + 1 < plan.rows_at(level) {
-        return Place {
-            level,
-            row: row + 1,
-            column: 0,
-        };
-    }
-    Place {
-        level: level + 1,
-        row: 0,
-        column: 0,
-    }
+    refine_neighbourhood(plan, cells, place);
 }
 
 // What a pass does at a cell.
-fn visit(plan: Plan, cells: &mut [u8], flags: &[u8], step: Pass, cell: Cell, place: Place)
+fn visit(
+    plan: Plan,
+    cells: &mut [u8],
+    flags: &[u8],
+    near: &[u8],
+    step: Pass,
+    cell: Cell,
+    place: Place,
+)
     requires { ⌜ TableSize plan (length (now cells)) ⌝ }
-    requires { ⌜ length (now flags) ≡ cellTotal plan ⌝ }
-    requires { ⌜ cell .0 < cellTotal plan ⌝ }
-    requires { ⌜ place ≡ cellPlace plan (cell .0) ⌝ }
+    requires { ⌜ (length (now flags) ≡ cellTotal plan) × (NearRoom plan (length (now near))) ⌝ }
     requires { ⌜ CellInside plan place ⌝ }
+    requires { ⌜ cell .0 ≡ cellNumber plan place ⌝ }
     requires { ⌜ place .level + 1 < plan .levels ⌝ }
-    ensures { λ _. ⌜ now (cells .exit) ≡ visit step plan (now (flags .entry)) (cell .0) (now (cells .entry)) ⌝ }
+    ensures { λ _. ⌜ now (cells .exit) ≡ visit step plan (now (flags .entry)) (told plan (now (near .entry))) place (now (cells .entry)) ⌝ }
 {
     let c = cell.0 as usize;
     match step {
         Pass::Refine => {
             if flags[c] == 1 {
-                refine_cell(plan, cells, cell, place);
+                if cells[c] != 2 {
+                    close_cell(plan, cells, near, place);
+                    write_cell(plan, cells, cell, place, 2);
+                }
             }
         }
         Pass::Activate => {
             if flags[c] == 1 {
-                write_cell(plan, cells, place, 1);
+                write_cell(plan, cells, cell, place, 1);
             }
         }
         Pass::Close => {
             if cells[c] == 2 {
-                refine_neighbourhood(plan, cells, place);
+                close_cell(plan, cells, near, place);
             }
         }
     }
 }
 
-// One pass over the cells that are not of the last level. The place is counted along with the number.
+// A row of a level, the first cell of which is `first`.
+fn run_row(
+    plan: Plan,
+    cells: &mut [u8],
+    flags: &[u8],
+    near: &[u8],
+    step: Pass,
+    level: u32,
+    row: u32,
+    first: u32,
+)
+    requires { ⌜ TableSize plan (length (now cells)) ⌝ }
+    requires { ⌜ (length (now flags) ≡ cellTotal plan) × (NearRoom plan (length (now near))) ⌝ }
+    requires { ⌜ (level + 1 < plan .levels) × (row < rowsAt plan level) ⌝ }
+    requires { ⌜ first ≡ cellOffset plan level + row * columnsAt plan level ⌝ }
+    ensures { λ _. ⌜ now (cells .exit) ≡ overRow (visit step plan (now (flags .entry)) (told plan (now (near .entry)))) level row (levelCells plan level .columns) (now (cells .entry)) ⌝ }
+{
+    let columns = plan.columns_at(level);
+    let mut column = 0;
+    while column < columns {
+        visit(
+            plan,
+            cells,
+            flags,
+            near,
+            step,
+            Cell(first + column),
+            Place { level, row, column },
+        );
+        column += 1;
+    }
+}
+
+// The rows of a level, by the table of its neighbourhoods.
+fn run_level(plan: Plan, cells: &mut [u8], flags: &[u8], near: &[u8], step: Pass, level: u32)
+    requires { ⌜ TableSize plan (length (now cells)) ⌝ }
+    requires { ⌜ (length (now flags) ≡ cellTotal plan) × (NearRoom plan (length (now near))) ⌝ }
+    requires { ⌜ level + 1 < plan .levels ⌝ }
+    ensures { λ _. ⌜ now (cells .exit) ≡ over (visit step plan (now (flags .entry)) (told plan (now (near .entry)))) (levelCells plan level) (now (cells .entry)) ⌝ }
+{
+    let columns = plan.columns_at(level);
+    let rows = plan.rows_at(level);
+    let mut first = plan.cell_offset(level);
+    let mut row = 0;
+    while row < rows {
+        run_row(plan, cells, flags, near, step, level, row, first);
+        first += columns;
+        row += 1;
+    }
+}
+
+// The levels but for the last. The table of a level's neighbourhoods is made when it is entered: what is refined then stays refined.
+fn run_levels(
+    plan: Plan,
+    cells: &mut [u8],
+    flags: &[u8],
+    near: &mut [u8],
+    scratch: &mut [u8],
+    step: Pass,
+)
+    requires { ⌜ TableSize plan (length (now cells)) ⌝ }
+    requires { ⌜ length (now flags) ≡ cellTotal plan ⌝ }
+    requires { ⌜ (NearRoom plan (length (now near))) × (NearRoom plan (length (now scratch))) ⌝ }
+    ensures { λ _. ⌜ now (cells .exit) ≡ pass step plan (now (flags .entry)) (now (cells .entry)) ⌝ }
+{
+    let last = plan.levels - 1;
+    let mut level = 0;
+    while level < last {
+        windows::neighbourhoods(plan, cells, level, scratch, near);
+        run_level(plan, cells, flags, near, step, level);
+        level += 1;
+    }
+}
+
+// One pass, with room for the tables of neighbourhoods.
 fn run(plan: Plan, cells: &mut [u8], flags: &[u8], step: Pass)
     requires { ⌜ TableSize plan (length (now cells)) ⌝ }
     requires { ⌜ length (now flags) ≡ cellTotal plan ⌝ }
     ensures { λ _. ⌜ now (cells .exit) ≡ pass step plan (now (flags .entry)) (now (cells .entry)) ⌝ }
 {
-    let last = plan.levels - 1;
-    let inner = plan.cell_offset(last);
-    let mut place = Place {
-        level: 0,
-        row: 0,
-        column: 0,
-    };
-    let mut c = 0;
-    while c < inner {
-        visit(plan, cells, flags, step, Cell(c), place);
-        place = next(plan, place);
-        c += 1;
-    }
+    let room = MOST_FUNCTIONS;
+    let mut near = [0u8; MOST_FUNCTIONS];
+    let mut scratch = [0u8; MOST_FUNCTIONS];
+    run_levels(
+        plan,
+        cells,
+        flags,
+        &mut near[..room],
+        &mut scratch[..room],
+        step,
+    );
 }
 
 // Refines the cells with the flag 1, and all that the new mesh needs.

@@ -1,9 +1,9 @@
 -- The windows of a level's cells are those of their first functions' places. Assumes nothing.
-use mathlib.Core.Path.{_≡_, refl, sym, ap, _∙_}
+use mathlib.Core.Path.{_≡_, ap, _∙_}
 use mathlib.Core.Bool.{cond}
 use mathlib.Core.List.{List}
-use Prim.Native.Nat.{ℕ, _+_, _-_, _*_, _/_, _%_, _≤_, _<_}
-use native.Mathlib.Nat.{le-antisymm, le-trans, mul-le-mul-right}
+use Prim.Native.Nat.{ℕ, _+_, _-_, _*_, _≤_, _<_}
+use native.Mathlib.Nat.{le-antisymm, le-trans, le-add-right, mul-le-mul-right}
 use native.Mathlib.Omega.{arith}
 use lib.Arith.{digits-div, digits-mod}
 use lib.ListN.{length, getD}
@@ -13,10 +13,9 @@ use Rattle.facts.specs.Mapped.{inRun, filled}
 use Rattle.facts.proofs.Least.{least-le, least-top, least-ge}
 use Rattle.facts.proofs.Mapped.{run-in, run-before, run-after, run-e, part-at, mapped-at}
 use Rattle.grid.specs.declared.Plan.{Plan}
-use Rattle.grid.specs.declared.Place.{Place}
 use Rattle.grid.specs.declared.Side.{Side}
 use Rattle.grid.specs.Numbering.{number}
-use Rattle.grid.specs.Plan.{columnsAt, rowsAt, cellOffset, cellTotal, cellNumber, acrossAt, upAt}
+use Rattle.grid.specs.Plan.{columnsAt, rowsAt, cellOffset, cellNumber, acrossAt, upAt}
 use Rattle.grid.specs.Side.{functions, firstOver, firsts}
 use Rattle.grid.proofs.Numbering.{level-ends}
 use Rattle.grid.proofs.Sides.{across-in, up-in}
@@ -27,13 +26,13 @@ use Rattle.windows.proofs.Slides.{back-le, back-ge}
 -- ---- one direction
 
 module _ (s : Side) (d i : ℕ) (g : ℕ → ℕ) where
-  pub over-le : (x : ℕ) → x < s .cells → firstOver s x ≤ i → i ≤ firstOver s x + d → leastOver s d i g ≤ g x
+  over-le : (x : ℕ) → x < s .cells → firstOver s x ≤ i → i ≤ firstOver s x + d → leastOver s d i g ≤ g x
   unfolding leastOver
   over-le x l u v =
       let r : cond (inRun (firstOver s x) (d + 1) i) (g x) 2 ≡ g x = rw (run-in (firstOver s x) (d + 1) i u (omega arith)) in
       rw r at (least-le 2 (s .cells) (λ x. cond (inRun (firstOver s x) (d + 1) i) (g x) 2) x l)
 
-  pub over-ge : (v : ℕ) → v ≤ 2 → ((x : ℕ) → x < s .cells → firstOver s x ≤ i → i ≤ firstOver s x + d → v ≤ g x) → v ≤ leastOver s d i g
+  over-ge : (v : ℕ) → v ≤ 2 → ((x : ℕ) → x < s .cells → firstOver s x ≤ i → i ≤ firstOver s x + d → v ≤ g x) → v ≤ leastOver s d i g
   unfolding leastOver
   over-ge v t h = least-ge 2 _ _ v t (λ x l. run-e (firstOver s x) (d + 1) i
       (λ u. rw (run-before (firstOver s x) (d + 1) i u) t)
@@ -88,11 +87,11 @@ module _ (p : Plan) (cells : List ℕ) (k across up : ℕ) where
       row-cell : (o r x : ℕ) → o + (r + x) ≡ o + r + x
       row-cell o r x = omega arith
 
-  pub firsts-across : firsts (acrossAt p k) ≡ columnsAt p k
+  firsts-across : firsts (acrossAt p k) ≡ columnsAt p k
   unfolding firsts functions
   firsts-across = omega arith
 
-  pub firsts-up : firsts (upAt p k) ≡ rowsAt p k
+  firsts-up : firsts (upAt p k) ≡ rowsAt p k
   unfolding firsts functions
   firsts-up = omega arith
 
@@ -115,14 +114,11 @@ module _ (p : Plan) (cells : List ℕ) (k across up : ℕ) where
             columns≥ = across-in p (l .range) k (l .level<) .cells≥;
             rows≥ = up-in p (l .range) k (l .level<) .cells≥;
             from≤ = omega arith;
-            scratch≤ = omega (arith, mul-le-mul-right (columnsAt p k + across) (more (rowsAt p k) up));
+            scratch≤ = omega (arith, mul-le-mul-right (columnsAt p k + across) (le-add-right (rowsAt p k) up));
             out≤ = o;
           },
           omega arith,
         )
-      where
-        more : (a b : ℕ) → a ≤ a + b
-        more a b = omega arith
 
 -- the bytes of the table
 module _ (p : Plan) (cells found start : List ℕ) (k across up : ℕ) (e : found ≡ filled 0 (high p k up * wide p k across) (levelLeast p cells k across up) start)

@@ -4,3 +4,4 @@ pub mod Levels
 pub mod Under
 pub mod Rooms
 pub mod Values
+pub mod Near

@@ -12,8 +12,8 @@ use Rattle.facts.specs.Least.{least}
 use Rattle.facts.specs.Mapped.{inRun, mapped, filled}
 use Rattle.facts.proofs.Least.{least-top}
 use Rattle.facts.proofs.Ranges.{least-more}
-use Rattle.facts.proofs.Mapped.{run-in, run-before, run-after, run-e, mapped-length, mapped-at, mapped-is, mapped-more, mapped-part, filled-length}
-use Rattle.windows.specs.Windows.{two, lowered, moved, slid}
+use Rattle.facts.proofs.Mapped.{run-in, run-before, run-after, run-e, mapped-length, mapped-at, mapped-is, mapped-more, mapped-part}
+use Rattle.windows.specs.Windows.{always, lowered, moved, slid}
 
 -- ---- entry by entry
 
@@ -30,17 +30,14 @@ module _ (i v : ℕ) (from xs ys : List ℕ) (e : ys ≡ lowered i from xs) (l :
   unfolding lowered
   before-at k m = ap (λ z. getD z k 0) e ∙ mapped-at _ xs k m
 
-  same-size : length ys ≡ length xs
-  same-size = ap length e ∙ lowered-length i from xs
-
   pub lowered-next : v ≡ min (getD ys i 0) (getD from i 0) → set ys i v ≡ lowered (i + 1) from xs
   unfolding lowered
-  lowered-next q = mapped-is _ xs (set ys i v) (length-set ys i v ∙ same-size) (λ k m. run-e i 1 k
+  lowered-next q = mapped-is _ xs (set ys i v) (length-set ys i v ∙ (ap length e ∙ lowered-length i from xs)) (λ k m. run-e i 1 k
       (λ u. getD-set-other ys i k v 0 (omega arith) ∙ (before-at k m ∙ rw (run-in 0 i k (omega arith) (omega arith), run-in 0 (i + 1) k (omega arith) (omega arith))))
       (λ u w.
       let s : k ≡ i = omega arith in
       rw (s, run-in 0 (i + 1) i (omega arith) (omega arith))
-      (getD-set-same ys i v 0 (omega (arith, same-size)) ∙ (q ∙ ap (λ z. min z (getD from i 0)) (before-at i l ∙ rw (run-after 0 i i (omega arith))))))
+      (getD-set-same ys i v 0 (omega (arith, ap length e, lowered-length i from xs)) ∙ (q ∙ ap (λ z. min z (getD from i 0)) (before-at i l ∙ rw (run-after 0 i i (omega arith))))))
       (λ u. getD-set-other ys i k v 0 (omega arith) ∙ (before-at k m ∙ rw (run-after 0 i k (omega arith), run-after 0 (i + 1) k (omega arith)))))
 
 -- ---- one shift more
@@ -90,14 +87,14 @@ module _ (from xs ys : List ℕ) (n step d at size : ℕ) (e : ys ≡ filled 0 s
       ∙ shifted
 
 -- the first one
-slid-start : (from xs : List ℕ) (n step size : ℕ) → filled 0 size two xs ≡ filled 0 size (slid from n step 0) xs
-unfolding two slid least
+slid-start : (from xs : List ℕ) (n step size : ℕ) → filled 0 size (always 2) xs ≡ filled 0 size (slid from n step 0) xs
+unfolding always slid least
 slid-start from xs n step size = refl
 
 sub-zero : (t : ℕ) → t - 0 ≡ t
 sub-zero t = omega arith
 
-pub slid-first : (from xs ys : List ℕ) (n step size : ℕ) → ys ≡ filled 0 size two xs → n ≤ size → lowered n from ys ≡ filled 0 size (slid from n step 1) xs
+pub slid-first : (from xs ys : List ℕ) (n step size : ℕ) → ys ≡ filled 0 size (always 2) xs → n ≤ size → lowered n from ys ≡ filled 0 size (slid from n step 1) xs
 unfolding lowered
 slid-first from xs ys n step size e l =
     sym (mapped-is _ ys _ (mapped-length _ ys) (λ t m. mapped-at _ ys t m ∙ ap (λ o. cond (inRun 0 n t) (min (getD ys t 0) (getD from o 0)) (getD ys t 0)) (sub-zero t)))

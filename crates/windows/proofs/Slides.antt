@@ -1,17 +1,16 @@
 -- Two slides, one along the rows and one across them, leave the least byte of each window. Assumes nothing.
-use mathlib.Core.Path.{_≡_, refl, sym, ap, _∙_}
-use mathlib.Core.Bool.{cond}
+use mathlib.Core.Path.{_≡_, sym, ap, _∙_}
 use mathlib.Core.List.{List}
-use Prim.Native.Nat.{ℕ, min, _+_, _-_, _*_, _/_, _%_, _≤_, _<_}
-use native.Mathlib.Nat.{le-antisymm, le-min, min-le-left, min-le-right, mul-le-mul-right, div-add-mod', mod-lt}
+use Prim.Native.Nat.{ℕ, _+_, _-_, _*_, _/_, _%_, _≤_, _<_}
+use native.Mathlib.Nat.{mul-le-mul-right, div-add-mod', mod-lt}
 use native.Mathlib.Omega.{arith}
 use lib.Arith.{digits-div, digits-mod}
 use lib.ListN.{length, getD}
 use borrow.Rule.Slice.PartMut.{midOf}
 use Rattle.facts.specs.Least.{least}
-use Rattle.facts.specs.Mapped.{inRun, filled}
-use Rattle.facts.proofs.Least.{least-same, least-le, least-top, least-ge}
-use Rattle.facts.proofs.Mapped.{run-in, run-before, run-after, run-e, part-at, mapped-at, filled-same}
+use Rattle.facts.specs.Mapped.{filled}
+use Rattle.facts.proofs.Least.{least-same, least-le, least-ge}
+use Rattle.facts.proofs.Mapped.{run-in, run-before, run-after, run-e, part-at, mapped-at}
 use Rattle.windows.specs.Windows.{moved, slid, rowSlid, back, windowAt, windowLeast}
 
 -- ---- one direction: the window has the places that are i or at most p before it

@@ -13,7 +13,7 @@ use Rattle.facts.proofs.Tests.{and-i, and-l, and-r, cases, same, not-i, not-e, 
 use Rattle.facts.proofs.Bounded.{some-i, some-e}
 use Rattle.grid.specs.declared.Plan.{Plan}
 use Rattle.grid.specs.declared.Place.{Place}
-use Rattle.grid.specs.Plan.{rowsAt, columnsAt, functionRowsAt, functionColumnsAt, functionOffset, cellTotal, functionTotal, cellPlace, cellNumber, cellLevel, functionPlace, CellInside, acrossAt, upAt, supported, near}
+use Rattle.grid.specs.Plan.{functionRowsAt, functionColumnsAt, functionOffset, cellTotal, functionTotal, cellPlace, cellNumber, cellLevel, functionPlace, CellInside, acrossAt, upAt, supported, near}
 use Rattle.grid.specs.Range.{InRange, HasNeighbourhood}
 use Rattle.grid.specs.Side.{firstOver}
 use Rattle.grid.specs.Spans.{ancestorOf}
@@ -107,7 +107,7 @@ module _ (p : Plan) (range : InRange p) (cells : List ℕ) where
         (rw e at (under-le p cells (cellPlace p c .level) (2 * p .«degree_across») (2 * p .«degree_up») _ _ (cellPlace p c .row) (cellPlace p c .column) (i .row<) (i .column<) (rows .right) (omega (arith, rows .left)) (columns .right) (omega (arith, columns .left))))
 
     pub near-ge : (v : ℕ) → v ≤ 2 → ((c : ℕ) → T (near p q c) → v ≤ getD cells c 0) → v ≤ least-near
-    near-ge v t h = under-ge p cells (a .level) (2 * p .«degree_across») (2 * p .«degree_up») _ _ v t (λ y z l m r s c d.
+    near-ge v t h = under-ge p cells (a .level) (2 * p .«degree_across») (2 * p .«degree_up») (firstOver (upAt p (a .level)) (a .row) + p .«degree_up») (firstOver (acrossAt p (a .level)) (a .column) + p .«degree_across») v t (λ y z l m r s c d.
         let i : CellInside p (at (a .level) y z) = record { level< = ancestor-in p (cellPlace p q) has (cell-inside p range q b) .level<; row< = l; column< = m } in
         h (cellNumber p (at (a .level) y z))
         (around-near p range q (cellNumber p (at (a .level) y z)) (cell-number-lt p range (at (a .level) y z) i) has

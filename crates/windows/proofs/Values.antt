@@ -3,7 +3,7 @@ use mathlib.Core.Path.{_≡_, refl, sym, ap, _∙_}
 use mathlib.Core.Bool.{cond}
 use mathlib.Core.List.{List}
 use Prim.Native.Nat.{ℕ, _+_, _-_, _*_, _≤_, _<_}
-use native.Mathlib.Nat.{le-antisymm, le-trans, mul-le-mul-right}
+use native.Mathlib.Nat.{le-antisymm, le-trans, le-add-right, mul-le-mul-right}
 use native.Mathlib.Omega.{arith}
 use lib.Arith.{digits-div, digits-mod}
 use lib.Dec.{T}
@@ -19,13 +19,13 @@ use Rattle.grid.specs.declared.Place.{Place}
 use Rattle.grid.specs.Numbering.{number}
 use Rattle.grid.specs.Plan.{columnsAt, rowsAt, functionColumnsAt, functionRowsAt, functionOffset, functionTotal, cellTotal, cellPlace, cellNumber, functionPlace, functionNumber, CellInside, FunctionInside, acrossAt, upAt, supported}
 use Rattle.grid.specs.Range.{InRange}
-use Rattle.grid.specs.Side.{firstOver, firsts}
+use Rattle.grid.specs.Side.{firstOver}
 use Rattle.grid.proofs.Laws.{cell-number-lt, cell-place-number, function-inside, function-number-lt, function-number-place, function-place-number}
 use Rattle.grid.proofs.Numbering.{level-ends}
 use Rattle.grid.proofs.Sides.{across-in, up-in, across-firsts, up-firsts, first-lt}
 use Rattle.grid.proofs.First.{supported-under, under-supported}
 use Rattle.windows.specs.Windows.{back, windowAt, windowLeast, LevelIn}
-use Rattle.windows.specs.Level.{wide, high, NearRoom, leastValue, valueAt, ValueTable}
+use Rattle.windows.specs.Level.{wide, high, NearRoom, leastValue, ValueTable}
 use Rattle.windows.proofs.Slides.{back-le, back-ge}
 
 abbrev at : ℕ → ℕ → ℕ → Place
@@ -131,14 +131,11 @@ module _ (p : Plan) (range : InRange p) (values : List ℕ) (k : ℕ) (l : k < p
           columns≥ = omega arith;
           rows≥ = omega arith;
           from≤ = omega arith;
-          scratch≤ = omega (arith, mul-le-mul-right (FW + p .«degree_across») (more FH (p .«degree_up»)));
+          scratch≤ = omega (arith, mul-le-mul-right (FW + p .«degree_across») (le-add-right FH (p .«degree_up»)));
           out≤ = b;
         },
         omega arith,
       )
-    where
-      more : (a b : ℕ) → a ≤ a + b
-      more a b = omega arith
 
   pub value-table : {columns rows here : ℕ} (found start : List ℕ) → columns ≡ FW → rows ≡ FH → here ≡ from → NearRoom p (length start)
       → found ≡ filled 0 ((rows + p .«degree_up») * (columns + p .«degree_across»)) (windowLeast (midOf here (length values - here) values) columns rows (p .«degree_across») (p .«degree_up»)) start

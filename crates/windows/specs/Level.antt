@@ -7,7 +7,6 @@ use lib.ListN.{length, getD}
 use Rattle.facts.specs.Least.{least}
 use Rattle.facts.specs.Mapped.{inRun}
 use Rattle.grid.specs.declared.Plan.{Plan}
-use Rattle.grid.specs.declared.Place.{Place}
 use Rattle.grid.specs.declared.Side.{Side}
 use Rattle.grid.specs.Plan.{columnsAt, rowsAt, cellTotal, functionTotal, cellNumber, acrossAt, upAt, supported}
 use Rattle.grid.specs.Side.{firstOver, firsts}
@@ -52,7 +51,7 @@ pub record NearRoom (p : Plan) (n : ℕ) : Type 0 where
 unfoldable pub leastValue : Plan → List ℕ → ℕ → ℕ
 leastValue p values c = least 2 (functionTotal p) (λ f. cond (supported p f c) (getD values f 0) 2)
 
--- where the table of a level's functions has it for the cell in row y and column x
+-- where a table that is wider and higher than a level by twice the degrees has what belongs to the cell in row y and column x
 abbrev pub valueAt : Side → Side → ℕ → ℕ → ℕ
 valueAt across up y x = (firstOver up y + up .degree) * (firsts across + 2 * across .degree) + (firstOver across x + across .degree)
 

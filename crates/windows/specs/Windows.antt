@@ -6,6 +6,10 @@ use lib.ListN.{getD}
 use Rattle.facts.specs.Least.{least}
 use Rattle.facts.specs.Mapped.{inRun, mapped}
 
+-- one value everywhere
+unfoldable pub always : ℕ → ℕ → ℕ
+always v i = v
+
 -- the byte that lowers nothing
 unfoldable pub two : ℕ → ℕ
 two i = 2

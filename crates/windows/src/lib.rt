@@ -1,13 +1,15 @@
 // The least bytes of windows: of each place of a level, in some rows and columns up to it. Both directions are one loop over whole runs of
 // bytes, the smaller of two runs of which one begins later.
+use grid::Place;
 use grid::Plan;
 ghost use mathlib.Core.Path.{_≡_};
 ghost use Prim.Native.Nat.{min, _+_, _*_, _≤_, _<_};
 ghost use lib.ListN.{length};
 ghost use Rattle.facts.specs.Mapped.{filled};
-ghost use Rattle.windows.specs.Windows.{two, lowered, slid, rowSlid, windowLeast, SlideIn, RowsIn, LevelIn};
+ghost use Rattle.windows.specs.Windows.{always, lowered, slid, rowSlid, windowLeast, SlideIn, RowsIn, LevelIn};
 ghost use Rattle.windows.specs.Level.{levelLeast, wide, high, LevelRoom, NearRoom, ValueTable};
-ghost use Rattle.grid.specs.Plan.{functionTotal};
+ghost use Rattle.windows.specs.Near.{hasNear, nearByte, NearTable};
+ghost use Rattle.grid.specs.Plan.{cellTotal, functionTotal, CellInside};
 ghost use Rattle.grid.specs.Range.{InRange};
 
 fn smaller(a: u8, b: u8) -> u8
@@ -28,13 +30,14 @@ fn lower(out: &mut [u8], from: &[u8], n: usize)
     }
 }
 
-fn fill(out: &mut [u8], n: usize)
+// The first n entries get one value.
+pub fn fill(out: &mut [u8], n: usize, value: u8)
     requires { ⌜ n ≤ length (now out) ⌝ }
-    ensures { λ _. ⌜ now (out .exit) ≡ filled 0 n two (now (out .entry)) ⌝ }
+    ensures { λ _. ⌜ now (out .exit) ≡ filled 0 n (always value) (now (out .entry)) ⌝ }
 {
     let mut i = 0;
     while i < n {
-        out[i] = 2;
+        out[i] = value;
         i += 1;
     }
 }
@@ -44,7 +47,7 @@ fn slide(from: &[u8], out: &mut [u8], n: usize, step: usize, times: usize)
     requires { ⌜ SlideIn (length (now from)) (length (now out)) n step times ⌝ }
     ensures { λ _. ⌜ now (out .exit) ≡ filled 0 (n + times * step) (slid (now (from .entry)) n step (times + 1)) (now (out .entry)) ⌝ }
 {
-    fill(out, n + times * step);
+    fill(out, n + times * step, 2);
     lower(out, from, n);
     let mut at = 0;
     let mut d = 0;
@@ -122,4 +125,49 @@ pub fn functions(plan: Plan, values: &[u8], level: u32, scratch: &mut [u8], out:
     let across = plan.degree_across as usize;
     let up = plan.degree_up as usize;
     windows(&values[here..], scratch, out, columns, rows, across, up);
+}
+
+// Cells of a level have neighbourhoods.
+fn has_near(plan: Plan, level: u32) -> bool
+    requires { ⌜ (InRange plan) × (level < plan .levels) ⌝ }
+    ensures { λ r. ⌜ r ≡ hasNear plan level ⌝ }
+{
+    let class = plan.class;
+    (class != 0) & (class <= level + 1)
+}
+
+// The table of the neighbourhoods of a level's cells, where they have some: the windows of twice the degrees over the level in which
+// these lie.
+pub fn neighbourhoods(plan: Plan, cells: &[u8], fine: u32, scratch: &mut [u8], near: &mut [u8])
+    requires { ⌜ (InRange plan) × (fine < plan .levels) × (cellTotal plan ≤ length (now cells)) ⌝ }
+    requires { ⌜ (NearRoom plan (length (now scratch))) × (NearRoom plan (length (now near))) ⌝ }
+    ensures { λ _. ⌜ NearTable plan (now (cells .entry)) (now (near .exit)) fine ⌝ }
+{
+    if has_near(plan, fine) {
+        let above = fine - (plan.class - 1);
+        let across = (2 * plan.degree_across) as usize;
+        let up = (2 * plan.degree_up) as usize;
+        level(plan, cells, above, scratch, near, across, up);
+    }
+}
+
+// The least byte of the neighbourhood of the cell at a place, by the table of its level; 2 where it has none.
+pub fn least_near(plan: Plan, near: &[u8], place: Place) -> u8
+    requires { ⌜ InRange plan ⌝ }
+    requires { ⌜ CellInside plan place ⌝ }
+    requires { ⌜ NearRoom plan (length (now near)) ⌝ }
+    ensures { λ r. ⌜ r ≡ nearByte plan (now (near .entry)) place ⌝ }
+{
+    let level = place.level;
+    if has_near(plan, level) {
+        let above = plan.ancestor_of(place);
+        let coarse = above.level;
+        let across = plan.across_at(coarse);
+        let up = plan.up_at(coarse);
+        let row = up.first_over(above.row) as usize + plan.degree_up as usize;
+        let column = across.first_over(above.column) as usize + plan.degree_across as usize;
+        let width = across.firsts() as usize + (2 * plan.degree_across) as usize;
+        return near[row * width + column];
+    }
+    2
 }

@@ -1,32 +1,24 @@
+-- `admissible::is_admissible` meets its contract. Assumes nothing.
 use borrow.Author.Needs.{needs}
 use Rattle.windows.proofs.Rooms.{near-room, zeros-room}
 use Rattle.admissible.proofs.is_admissible.Statement.{statement}
 use Rattle.admissible.proofs.is_admissible.Tie as tie
-use Rattle.admissible.proofs.is_admissible.Reads as reads
-use Rattle.admissible.proofs.is_admissible.Lts as lts
-use Rattle.admissible.proofs.levels_admissible.Reads as levels-admissible-reads
 
--- src/lib.rt:151:36
 array-borrow-prefix-near : tie.Need-array-borrow-prefix-near
 array-borrow-prefix-near c = search needs
 
--- src/lib.rt:151:36
 slice-aggregate-levels-admissible : tie.Need-slice-aggregate-levels-admissible
 slice-aggregate-levels-admissible c = search needs
 
--- src/lib.rt:151:55
 array-borrow-prefix-scratch : tie.Need-array-borrow-prefix-scratch
 array-borrow-prefix-scratch c = search needs
 
--- src/lib.rt:151:55
 slice-aggregate-levels-admissible-2 : tie.Need-slice-aggregate-levels-admissible-2
 slice-aggregate-levels-admissible-2 c = search needs
 
--- src/lib.rt:151:5
 levels-admissible-requires : tie.Need-levels-admissible-requires
 levels-admissible-requires c κs = let s = c .before .before .before in let r = zeros-room (s .args .plan) (near-room (s .args .plan) (s .pre .0 .sized .range) (s .pre .1)) in (s .pre .0, (r, r))
 
--- src/lib.rt:144:1
 returns : tie.Need-returns
 returns c = search needs
 

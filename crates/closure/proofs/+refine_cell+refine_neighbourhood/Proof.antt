@@ -146,14 +146,14 @@ near-loop2-holds t c = (refl, le-refl _, facts t (c .before .before .before .bef
 reached : (t : ℕ) (c : near-lts.In-loop2 (near-calls t) (near-at t) near.Post Inv-loop2 μ-loop2 Inv-loop μ-loop) → CellInside (c .before .before .before .before .before .before .before .before .before .before .before .before .args .plan) (at (c .before .before .before .before .before .before .before .before .neighbourhood .result .level) (c .before .before .before .loop .row) (c .before .loop2 .column))
 reached t c = facts t (c .before .before .before .before .before .before .before .before) .inside (c .before .before .before .loop .row) (c .before .loop2 .column) (omega arith) (omega arith)
 
-sites : (t : ℕ) (c : near-lts.In-loop2 (near-calls t) (near-at t) near.Post Inv-loop2 μ-loop2 Inv-loop μ-loop) → Sited (c .before .before .before .before .before .before .before .before .before .before .before .before .args .plan) (at (c .before .before .before .before .before .before .before .before .neighbourhood .result .level) (c .before .before .before .loop .row) (c .before .loop2 .column)) (length (c .before .before .before .before .before .before .before .before .before .before .before .before .args .cells .now)) (c .before .before .before .before .before .cell-offset .result) (c .before .before .before .before .columns-at .result)
+sites : (t : ℕ) (c : near-lts.In-loop2 (near-calls t) (near-at t) near.Post Inv-loop2 μ-loop2 Inv-loop μ-loop) → Sited (c .before .before .before .before .before .before .before .before .before .before .before .before .args .plan) (at (c .before .before .before .before .before .before .before .before .neighbourhood .result .level) (c .before .before .before .loop .row) (c .before .loop2 .column)) (c .before .before .before .before .before .cell-offset .result) (c .before .before .before .before .columns-at .result)
 sites t c = sited (c .before .before .before .before .before .before .before .before .before .before .before .before .pre .1 .0) (reached t c) (c .before .before .before .before .before .cell-offset .ensures) (c .before .before .before .before .columns-at .ensures)
 
 near-mul-number : (t : ℕ) → near-lts.Need-mul-number (near-calls t) (near-at t) near.Post Inv-loop2 μ-loop2 Inv-loop μ-loop
 near-mul-number t c = omega (arith, sites t c)
 
 near-add-number : (t : ℕ) → near-lts.Need-add-number (near-calls t) (near-at t) near.Post Inv-loop2 μ-loop2 Inv-loop μ-loop
-near-add-number t c = omega (arith, sites t c)
+near-add-number t c = omega (arith, sites t c, c .before .before .before .before .before .before .before .before .before .before .before .before .pre .1 .0)
 
 near-add-number-2 : (t : ℕ) → near-lts.Need-add-number-2 (near-calls t) (near-at t) near.Post Inv-loop2 μ-loop2 Inv-loop μ-loop
 near-add-number-2 t c = omega (arith, sites t c, c .before .before .before .before .before .before .before .before .before .before .before .before .pre .1 .0)

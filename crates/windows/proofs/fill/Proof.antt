@@ -5,15 +5,15 @@ use native.Mathlib.Omega.{arith}
 use lib.ListN.{length}
 use Rattle.facts.specs.Mapped.{filled}
 use Rattle.facts.proofs.Mapped.{filled-none, fill-length, fill-next}
-use Rattle.windows.specs.Windows.{two}
+use Rattle.windows.specs.Windows.{always}
 use Rattle.windows.proofs.fill.Statement.{statement}
 use Rattle.windows.proofs.fill.Tie as tie
 
 abbrev Inv-loop : tie.InvT-loop
-Inv-loop out₀ n i₀ out i = (i ≤ n) × (length out ≡ length out₀) × (out ≡ filled 0 i two out₀)
+Inv-loop out₀ n value i₀ out i = (i ≤ n) × (length out ≡ length out₀) × (out ≡ filled 0 i (always value) out₀)
 
 abbrev μ-loop : tie.MeasureT-loop
-μ-loop out₀ n i₀ out i = n - i
+μ-loop out₀ n value i₀ out i = n - i
 
 loop-holds : tie.Need-loop-holds Inv-loop μ-loop
 loop-holds c = (omega arith, refl, filled-none 0 _ _)
@@ -28,9 +28,9 @@ loop-less : tie.Need-loop-less Inv-loop μ-loop
 loop-less c = omega arith
 
 loop-again : tie.Need-loop-again Inv-loop μ-loop
-unfolding two
+unfolding always
 loop-again c =
-    let e = fill-next two _ _ _ (c .before .loop .inv .2) 2 (omega arith) refl in (omega arith, fill-length _ _ _ _ e, e)
+    let e = fill-next _ _ _ _ (c .before .loop .inv .2) _ (omega arith) refl in (omega arith, fill-length _ _ _ _ e, e)
 
 same-length : tie.Need-same-length Inv-loop μ-loop
 same-length c = c .before .loop .inv .1

@@ -10,7 +10,7 @@ use Rattle.facts.specs.Mapped.{filled}
 use Rattle.facts.proofs.Mapped.{filled-length}
 use borrow.Rule.Slice.PartMut.{putMid}
 use Rattle.facts.proofs.Ranges.{mid-len}
-use Rattle.windows.specs.Windows.{two, slid}
+use Rattle.windows.specs.Windows.{always, slid}
 use Rattle.windows.proofs.Lowered.{slid-first, slid-next}
 use Rattle.windows.proofs.slide.Statement.{statement}
 use Rattle.windows.proofs.slide.Tie as tie
@@ -33,7 +33,7 @@ fill-requires : tie.Need-fill-requires Inv-loop μ-loop
 fill-requires c κs = search needs
 
 lower-requires : tie.Need-lower-requires Inv-loop μ-loop
-lower-requires c κs = (omega (arith, ap length (c .before .before .before .fill .ensures), filled-length 0 (c .before .before .before .before .before .before .before .args .n + c .before .before .before .before .before .before .before .args .times * c .before .before .before .before .before .before .before .args .step) two (c .before .before .before .before .before .before .before .args .out .now)), omega arith)
+lower-requires c κs = (omega (arith, ap length (c .before .before .before .fill .ensures), filled-length 0 (c .before .before .before .before .before .before .before .args .n + c .before .before .before .before .before .before .before .args .times * c .before .before .before .before .before .before .before .args .step) (always 2) (c .before .before .before .before .before .before .before .args .out .now)), omega arith)
 
 -- where the loop starts
 started : (c : tie.After-lower Inv-loop μ-loop) → let s = c .before .before .before .before .before .before .before .before in

@@ -8,7 +8,7 @@ use lib.ListN.{length}
 use Rattle.facts.specs.Mapped.{filled}
 use Rattle.facts.proofs.Mapped.{filled-none, fill-length, fill-part}
 use Rattle.facts.proofs.Ranges.{mid-len}
-use Rattle.windows.specs.Windows.{slid, rowSlid}
+use Rattle.windows.specs.Windows.{rowSlid}
 use Rattle.windows.proofs.Slides.{row-slid}
 use Rattle.windows.proofs.slide_rows.Statement.{statement}
 use Rattle.windows.proofs.slide_rows.Tie as tie

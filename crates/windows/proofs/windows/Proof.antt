@@ -9,31 +9,24 @@ use Rattle.windows.proofs.Slides.{windows-slid}
 use Rattle.windows.proofs.windows.Statement.{statement}
 use Rattle.windows.proofs.windows.Tie as tie
 
--- src/lib.rt:85:5
 slide-rows-requires : tie.Need-slide-rows-requires
 slide-rows-requires c κs = search needs
 
--- src/lib.rt:86:17
 add-width : tie.Need-add-width
 add-width c = let s = c .before .before .before .before .before .before .before in omega (arith, mul-le-mul-right (s .args .columns + s .args .across) (s .pre .rows≥))
 
--- src/lib.rt:87:25
 mul-slide : tie.Need-mul-slide
 mul-slide c = search needs
 
--- src/lib.rt:87:5
 slide-requires : tie.Need-slide-requires
 slide-requires c κs = search needs
 
--- src/lib.rt:73:1
 same-length : tie.Need-same-length
 same-length c = search needs
 
--- src/lib.rt:73:1
 same-length-2 : tie.Need-same-length-2
 same-length-2 c = search needs
 
--- src/lib.rt:73:1
 returns : tie.Need-returns
 returns c =
     let s = c .before .before .before .before .before .before .before .before .before .before .before .before in

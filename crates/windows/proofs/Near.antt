@@ -1,0 +1,155 @@
+-- The least byte of a cell's neighbourhood: what it says of the cells there, and that the windows of twice the degrees have it.
+-- Assumes nothing.
+use mathlib.Core.Path.{_≡_, refl, sym, ap, subst, _∙_}
+use mathlib.Core.Bool.{not, cond}
+use mathlib.Core.List.{List}
+use Prim.Native.Nat.{ℕ, _+_, _*_, _≤_, _<_}
+use native.Mathlib.Nat.{le-refl, le-of-eq, le-antisymm, mul-le-mul-right}
+use native.Mathlib.Omega.{arith}
+use lib.Dec.{T, eqb, eqb→eq, leb, leb→le, le→leb}
+use lib.ListN.{length, getD}
+use Rattle.facts.specs.Bounded.{implies, every}
+use Rattle.facts.specs.Mapped.{filled}
+use Rattle.facts.proofs.Tests.{and-i, and-l, and-r, not-i, not-e, cases, same, differ, implies-i, implies-e, T-true, T-false, eqb-of}
+use Rattle.facts.proofs.Bounded.{every-i, every-e}
+use Rattle.facts.proofs.Least.{least-le, least-top, least-ge}
+use Rattle.grid.specs.declared.Plan.{Plan}
+use Rattle.grid.specs.declared.Place.{Place}
+use Rattle.grid.specs.Plan.{cellTotal, cellPlace, cellNumber, cellLevel, CellInside, acrossAt, upAt, near}
+use Rattle.grid.specs.Range.{InRange, HasNeighbourhood}
+use Rattle.grid.specs.Side.{firstOver}
+use Rattle.grid.specs.Spans.{ancestorOf}
+use Rattle.grid.proofs.Laws.{cell-number-lt, cell-place-number, near-in}
+use Rattle.grid.proofs.Rectangles.{nearLevel}
+use Rattle.grid.proofs.Sides.{first-lt}
+use Rattle.grid.proofs.Spans.{ancestor-in, near-neighbourhood}
+use Rattle.windows.specs.Level.{leastUnder, levelLeast, wide, high, LevelRoom, NearRoom}
+use Rattle.windows.specs.Near.{hasNear, leastNear, nearIndex, nearByte, NearTable}
+use Rattle.windows.proofs.Levels.{under-top, level-at}
+use Rattle.windows.proofs.Under.{near-le, near-ge}
+
+-- ---- the test whether there is one
+
+module _ (p : Plan) (j : ℕ) where
+  pub has-fact : T (hasNear p j) → HasNeighbourhood p j
+  unfolding hasNear
+  has-fact t = record {
+    class≢ = differ (p .class) 0 (and-l (not (eqb (p .class) 0)) _ t);
+    level≥ = leb→le (p .class) (j + 1) (and-r (not (eqb (p .class) 0)) _ t);
+  }
+
+  has-test : HasNeighbourhood p j → T (hasNear p j)
+  unfolding hasNear
+  has-test h =
+      and-i (not (eqb (p .class) 0)) (leb (p .class) (j + 1)) (not-i (eqb (p .class) 0) (λ t. h .class≢ (eqb→eq (p .class) 0 t)))
+      (le→leb (p .class) (j + 1) (h .level≥))
+
+-- ---- it is below the bytes of the cells there, and above what is below them all
+
+module _ (p : Plan) (range : InRange p) (cells : List ℕ) (q : ℕ) where
+  pub least-near-le : (c : ℕ) → T (near p q c) → leastNear p cells q ≤ getD cells c 0
+  unfolding leastNear
+  least-near-le c t =
+      let e : cond (near p q c) (getD cells c 0) 2 ≡ getD cells c 0 = rw (T-true (near p q c) t) refl in
+      rw e at (least-le 2 (cellTotal p) (λ d. cond (near p q d) (getD cells d 0) 2) c (near-in p range q c t))
+
+  least-near-ge : (v : ℕ) → v ≤ 2 → ((c : ℕ) → T (near p q c) → v ≤ getD cells c 0) → v ≤ leastNear p cells q
+  unfolding leastNear
+  least-near-ge v l h = least-ge 2 (cellTotal p) _ v l (λ c i. cases (near p q c)
+      (λ t. rw (T-true (near p q c) t) (h c t))
+      (λ t. rw (T-false (near p q c) (not-e (near p q c) t)) l))
+
+  least-near-top : leastNear p cells q ≤ 2
+  unfolding leastNear
+  least-near-top = least-top 2 _ _
+
+  least-near-none : (HasNeighbourhood p (cellLevel p q) → ⊥) → leastNear p cells q ≡ 2
+  least-near-none f = le-antisymm least-near-top (least-near-ge 2 (le-refl 2) (λ c t. absurd (f (near-neighbourhood p range q c t))))
+
+  -- of bytes that are at most 2 it is 2 where all of them are
+  pub least-near-two : ((c : ℕ) → c < cellTotal p → getD cells c 0 ≤ 2)
+      → eqb (leastNear p cells q) 2 ≡ every (cellTotal p) (λ c. implies (near p q c) (eqb (getD cells c 0) 2))
+  least-near-two small = same _ _
+      (λ t.
+      let e : leastNear p cells q ≡ 2 = eqb→eq (leastNear p cells q) 2 t in
+      every-i (cellTotal p) _ (λ c i. implies-i (near p q c) _ (λ n. eqb-of (getD cells c 0) 2 (le-antisymm (small c i) (rw e at (least-near-le c n))))))
+      (λ t. eqb-of (leastNear p cells q) 2 (le-antisymm least-near-top (least-near-ge 2 (le-refl 2) (λ c n.
+      le-of-eq (sym (eqb→eq (getD cells c 0) 2 (implies-e (near p q c) _ (every-e (cellTotal p) _ t c (near-in p range q c n)) n)))))))
+
+  -- the window that ends the degrees after the ancestor's first functions
+  window-near : q < cellTotal p → HasNeighbourhood p (cellLevel p q) → let a = ancestorOf p (cellPlace p q) in
+      leastUnder p cells (a .level) (2 * p .«degree_across») (2 * p .«degree_up») (firstOver (upAt p (a .level)) (a .row) + p .«degree_up») (firstOver (acrossAt p (a .level)) (a .column) + p .«degree_across»)
+      ≡ leastNear p cells q
+  window-near b has = le-antisymm
+      (least-near-ge _ (under-top p cells _ _ _ _ _) (near-le p range cells q b has))
+      (near-ge p range cells q b has _ least-near-top least-near-le)
+
+-- ---- the place where it is read
+
+module _ (p : Plan) (x : Place) (i : CellInside p x) (has : HasNeighbourhood p (x .level)) where
+  abbrev a : Place
+  a = ancestorOf p x
+
+  pub above-in : CellInside p a
+  above-in = ancestor-in p x has i
+
+  row-in : firstOver (upAt p (a .level)) (a .row) + p .«degree_up» < high p (a .level) (2 * p .«degree_up»)
+  row-in = omega (arith, first-lt (upAt p (a .level)) (a .row) (above-in .row<))
+
+  column-in : firstOver (acrossAt p (a .level)) (a .column) + p .«degree_across» < wide p (a .level) (2 * p .«degree_across»)
+  column-in = omega (arith, first-lt (acrossAt p (a .level)) (a .column) (above-in .column<))
+
+  pub index-fits : {n : ℕ} → NearRoom p n → nearIndex p a < n
+  unfolding nearIndex
+  index-fits room =
+      let m = mul-le-mul-right (wide p (a .level) (2 * p .«degree_across»)) row-in in
+      let c = column-in in
+      omega (arith, room .enough (a .level) (above-in .level<))
+
+  -- in the table of the windows over the ancestor's level
+  read-is : (range : InRange p) (cells found start : List ℕ) → NearRoom p (length start)
+      → found ≡ filled 0 (high p (a .level) (2 * p .«degree_up») * wide p (a .level) (2 * p .«degree_across»)) (levelLeast p cells (a .level) (2 * p .«degree_across») (2 * p .«degree_up»)) start
+      → getD found (nearIndex p a) 0 ≡ leastNear p cells (cellNumber p x)
+  unfolding nearIndex
+  read-is range cells found start room e =
+      let q : cellPlace p (cellNumber p x) ≡ x = cell-place-number p range x i in
+      level-at p cells found start (a .level) (2 * p .«degree_across») (2 * p .«degree_up») e (room .enough (a .level) (above-in .level<)) _ _ row-in column-in
+      ∙ (rw q at (window-near p range cells (cellNumber p x) (cell-number-lt p range x i) (subst (λ (y : Place). HasNeighbourhood p (y .level)) (sym q) has)))
+
+-- ---- the table of a level
+
+above-level : (p : Plan) (x : Place) → ancestorOf p x .level ≡ nearLevel p (x .level)
+unfolding ancestorOf
+above-level p x = refl
+
+module _ (p : Plan) (range : InRange p) (cells : List ℕ) (j : ℕ) (l : j < p .levels) where
+  pub near-room-level : {n m : ℕ} → cellTotal p ≤ length cells → NearRoom p n → NearRoom p m
+      → LevelRoom p (nearLevel p j) (length cells) m n (2 * p .«degree_across») (2 * p .«degree_up»)
+  near-room-level s x y = record {
+    range = range;
+    level< = omega arith;
+    cells≤ = s;
+    scratch≤ = y .enough (nearLevel p j) (omega arith);
+    out≤ = x .enough (nearLevel p j) (omega arith);
+  }
+
+  pub near-table : T (hasNear p j) → (found start : List ℕ) → NearRoom p (length start)
+      → found ≡ filled 0 (high p (nearLevel p j) (2 * p .«degree_up») * wide p (nearLevel p j) (2 * p .«degree_across»)) (levelLeast p cells (nearLevel p j) (2 * p .«degree_across») (2 * p .«degree_up»)) start
+      → NearTable p cells found j
+  unfolding nearByte
+  near-table has found start room e = record {
+    made = λ x i q.
+        let h : T (hasNear p (x .level)) = subst (λ (n : ℕ). T (hasNear p n)) (sym q) has in
+        let k : nearLevel p j ≡ ancestorOf p x .level = ap (nearLevel p) (sym q) ∙ sym (above-level p x) in
+        rw (T-true (hasNear p (x .level)) h) (read-is p x i (has-fact p (x .level) h) range cells found start room (rw k at e));
+  }
+
+  pub near-table-none : (T (hasNear p j) → ⊥) → (found : List ℕ) → NearTable p cells found j
+  unfolding nearByte
+  near-table-none none found = record {
+    made = λ x i q.
+        let n : T (hasNear p (x .level)) → ⊥ = λ t. none (subst (λ (n : ℕ). T (hasNear p n)) q t) in
+        let e : cellPlace p (cellNumber p x) ≡ x = cell-place-number p range x i in
+        rw (T-false (hasNear p (x .level)) n) (sym (least-near-none p range cells (cellNumber p x) (λ h.
+        n (has-test p (x .level) (subst (λ (y : Place). HasNeighbourhood p (y .level)) e h)))));
+  }
