@@ -1,23 +1,22 @@
 -- The regions of a mesh: Ω_k is the union of its cells of level k, so the regions shrink and the last one is empty (document 000,
 -- definition 1); a function's support lies in a region where its cells do. Assumes nothing.
-use Prim.Native.Nat.{ℕ, zero, suc, _+_, _-_, _<_, _≤_}
+use Prim.Native.Nat.{ℕ, zero, suc, _<_, _≤_}
 use native.Mathlib.Nat.{eq-or-lt-of-le, le-of-suc-le-suc}
 use native.Mathlib.Omega.{arith}
 use mathlib.Core.Bool.{Bool, not}
 use mathlib.Core.List.{List}
 use mathlib.Core.Logic.{⊎-elim}
 use mathlib.Core.Path.{_≡_, refl, ap, sym}
-use lib.Dec.{T, leb, eqb, eqb→eq, le→leb}
+use lib.Dec.{T, eqb, eqb→eq}
 use lib.ListN.{getD}
 use Rattle.facts.specs.Bounded.{implies, every}
-use Rattle.facts.proofs.Tests.{and-i, and-l, eqb-of, implies-i, implies-e, T-true}
+use Rattle.facts.proofs.Tests.{and-l, implies-i, implies-e, T-true}
 use Rattle.facts.proofs.Bounded.{every-i, every-e}
 use Rattle.grid.specs.declared.Plan.{Plan}
 use Rattle.grid.specs.declared.Place.{Place}
 use Rattle.grid.specs.Plan.{ratio, columnsAt, rowsAt, cellTotal, functionTotal, cellPlace, cellNumber, cellLevel, functionPlace, functionLevel, parent, supportedAt, supported}
 use Rattle.grid.specs.Range.{InRange}
 use Rattle.grid.proofs.Numbering as numbering
-use Rattle.grid.proofs.Numbering.{Inside}
 use Rattle.grid.proofs.Direction.{grown-pos}
 use Rattle.grid.proofs.Laws.{ratio-pos, cell-inside, function-inside, parent-lt, parent-level, is-child}
 use Rattle.grid.proofs.Spans.{support-some}

@@ -1,3 +1,4 @@
 pub mod Bridge
 pub mod Label
 pub mod Area
+pub mod Fresh

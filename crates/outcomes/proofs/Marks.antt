@@ -1,25 +1,24 @@
 -- What a call that passes refusals 1 to 9 knows of its marks, and what they mean. Assumes nothing.
 use mathlib.Core.Path.{_≡_, refl, sym, ap, _∙_, subst, fun-ext}
-use mathlib.Core.Bool.{Bool, true, false, not, _&&_, _||_, cond}
+use mathlib.Core.Bool.{_&&_}
 use mathlib.Core.Logic.{_≢_}
 use mathlib.Core.List.{List}
-use Prim.Native.Nat.{ℕ, _+_, _≤_, _<_}
+use Prim.Native.Nat.{ℕ, _+_, _<_}
 use native.Mathlib.Omega.{arith}
 use lib.Dec.{T, eqb, eqb→eq, ltb, ltb→lt, lt→ltb}
-use Rattle.facts.specs.Bounded.{some}
 use Rattle.facts.specs.Numbers.{elem, stored, first}
-use Rattle.facts.proofs.Tests.{and-i, and-l, and-r, same, T-true, T-false, eqb-of}
+use Rattle.facts.proofs.Tests.{and-l, and-r, same, T-true, T-false, eqb-of}
 use Rattle.facts.proofs.Bounded.{some-e, some-same}
 use Rattle.facts.proofs.Numbers.{first-zero, first-none, stored-is, stored-inside}
 use Rattle.hierarchy.specs.Hierarchy.{Cells, needs, closure}
 use Rattle.hierarchy.proofs.Closure.{closure-in}
 use Rattle.grid.specs.declared.Plan.{Plan}
-use Rattle.grid.specs.Plan.{cellTotal, functionTotal, cellLevel, functionLevel, cellPlace, functionPlace, lastLevel, supportedAt, supported, hierarchy}
+use Rattle.grid.specs.Plan.{cellTotal, functionTotal, cellLevel, functionLevel, lastLevel, supportedAt, supported, hierarchy}
 use Rattle.grid.specs.Range.{InRange}
 use Rattle.grid.proofs.Laws.{lawful, cell-inside}
 use Rattle.mesh.specs.Mesh.{active, refined, reactivable, tableOf, check}
 use Rattle.mesh.proofs.Bridge.{Good, chain, pass, stop, active-is, reactivable-is}
-use Rattle.outcomes.specs.Calls.{Direction, refine, coarsen, By, cells, functions, total, eligible, isTooDeep, markRefusal, underMarked, underKept, selected, smallest, refusal}
+use Rattle.outcomes.specs.Calls.{Direction, refine, coarsen, By, cells, functions, total, eligible, isTooDeep, markRefusal, underMarked, selected, smallest, refusal}
 use Rattle.outcomes.proofs.Sets.{May}
 
 -- ---- refusals 7, 8, 9

@@ -1,32 +1,28 @@
 -- What each call makes of its input: demand 2 of one call, and the laws that the undo of a run rests on. Assumes nothing.
-use mathlib.Core.Path.{_≡_, refl, sym, ap, ap₂, _∙_, subst, fun-ext}
-use mathlib.Core.Bool.{Bool, true, false, not, _&&_, _||_, cond, Bool·beq}
+use mathlib.Core.Path.{_≡_, refl, sym, ap, _∙_, subst}
+use mathlib.Core.Bool.{Bool, true, false, not, _&&_, Bool·beq}
 use mathlib.Core.Logic.{_≢_}
-use mathlib.Core.List.{List, [], _∷_, _++_}
-use Prim.Native.Nat.{ℕ, zero, suc, pred, _+_, _≤_, _<_}
+use mathlib.Core.List.{List}
+use Prim.Native.Nat.{ℕ, suc, pred, _≤_, _<_}
 use native.Mathlib.Omega.{arith}
-use lib.Dec.{T, eqb, eqb→eq, ltb, ltb→lt, lt→ltb, nltb→le}
+use lib.Dec.{T, eqb, eqb→eq, ltb, ltb→lt, nltb→le}
 use borrow.Author.Tests.{le-ltb, lt-ltb}
-use lib.ListN.{length, getD, take, drop, length-append, length-drop}
+use lib.ListN.{length, take, drop, length-append, length-drop}
 use lib.Seq.{take-append-seam, drop-append-seam}
-use Rattle.facts.specs.Bounded.{implies, some, every}
-use Rattle.facts.specs.Numbers.{elem, rising, listed, tabulate}
-use Rattle.facts.proofs.Tests.{and-i, and-l, and-r, or-e, not-i, not-e, cases, same, T-true, T-false, implies-i, implies-e, eqb-of, differ}
-use Rattle.facts.proofs.Bounded.{every-i, every-e, some-e}
-use Rattle.facts.proofs.Numbers.{listed→, →listed, listed-rising, listed-same}
+use Rattle.facts.specs.Numbers.{elem}
+use Rattle.facts.proofs.Tests.{and-i, and-l, and-r, not-e, cases, T-true, T-false, eqb-of, differ}
+use Rattle.facts.proofs.Numbers.{listed→, →listed, listed-rising}
 use Rattle.hierarchy.specs.Hierarchy.{Cells, closure}
-use Rattle.hierarchy.proofs.Sets.{Inside, MeshSet, Admissible}
+use Rattle.hierarchy.proofs.Sets.{Inside}
 use Rattle.hierarchy.proofs.Closure.{closure-in, closure-admissible, closure-least}
 use Rattle.grid.specs.declared.Plan.{Plan}
-use Rattle.grid.specs.Plan.{cellTotal, functionTotal, supported, near, hierarchy}
-use Rattle.grid.specs.Range.{InRange}
-use Rattle.grid.proofs.Laws.{lawful, near-in}
-use Rattle.mesh.specs.Mesh.{absent, refined, tableOf, labelOf, labels, isMesh, isAdmissible, check}
-use Rattle.mesh.proofs.Bridge.{Good, check-good, good-check, good-table, refined-tableOf, good-inside, length-labels, getD-labels, admissible-of, is-mesh, is-admissible, deactivated-grow}
+use Rattle.grid.specs.Plan.{cellTotal, functionTotal, hierarchy}
+use Rattle.grid.proofs.Laws.{lawful}
+use Rattle.mesh.specs.Mesh.{refined, tableOf, labels}
+use Rattle.mesh.proofs.Bridge.{Good, check-good, good-check, good-table, refined-tableOf, admissible-of, is-mesh, is-admissible, deactivated-grow}
 use Rattle.outcomes.specs.Calls.{Direction, refine, coarsen, By, selected, base, smallest, changed, written, Outcome, refused, settle, newCells, refusal, outcome}
-use Rattle.outcomes.specs.Demands.{Has, Smallest, turned, Exact, Accepted, Refused}
-use Rattle.outcomes.specs.Runs.{opposite}
-use Rattle.outcomes.proofs.Sets.{put, difference, May, result-mesh, changed-may, put-back, difference-is, put-has}
+use Rattle.outcomes.specs.Demands.{Smallest, turned, Exact, Accepted, Refused}
+use Rattle.outcomes.proofs.Sets.{put, difference, May, result-mesh, difference-is, put-has}
 use Rattle.outcomes.proofs.Marks.{Fits, refusal-e, selected-may, smallest-is}
 
 -- ---- the new cells

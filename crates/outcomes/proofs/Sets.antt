@@ -1,13 +1,12 @@
 -- The two directions, over sets of cells, as one: what each settles, what it changed, and that the opposite takes it back.
 -- Assumes nothing.
-use mathlib.Core.Path.{_≡_, refl, sym, ap, _∙_, subst}
-use mathlib.Core.Bool.{Bool, true, false, not, _&&_, _||_, Bool·beq}
-use Prim.Native.Nat.{ℕ, _+_, _≤_, _<_}
+use mathlib.Core.Path.{_≡_, refl}
+use mathlib.Core.Bool.{Bool, true, false, not, _&&_, Bool·beq}
+use Prim.Native.Nat.{ℕ, _+_, _<_}
 use lib.Dec.{T}
-use Rattle.facts.proofs.Tests.{and-i, and-l, and-r, or-l, cases}
 use Rattle.hierarchy.specs.Hierarchy.{Hierarchy, Cells, closure}
-use Rattle.hierarchy.proofs.Sets.{Lawful, _∪_, _∖_, MeshSet, Admissible, Within, Inside, active, reactivable}
-use Rattle.hierarchy.proofs.Closure.{closure-in, closure-admissible, closure-least, closure-has}
+use Rattle.hierarchy.proofs.Sets.{Lawful, _∪_, _∖_, MeshSet, Admissible, active, reactivable}
+use Rattle.hierarchy.proofs.Closure.{closure-has}
 use Rattle.hierarchy.proofs.Undo as undo
 use Rattle.outcomes.specs.Calls.{Direction, refine, coarsen}
 use Rattle.outcomes.specs.Runs.{opposite}

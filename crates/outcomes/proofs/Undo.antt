@@ -1,12 +1,11 @@
 -- How a call is taken back, with the kept cell list or the kept function list as marks: what must be known of the change it
 -- made, and that this is enough. Assumes nothing.
 use mathlib.Core.Path.{_≡_, refl, sym, ap, ap₂, _∙_, subst}
-use mathlib.Core.Bool.{Bool, true, false, not, _&&_, _||_, Bool·beq, or-false, and-true}
-use mathlib.Core.List.{List, [], _∷_, _++_}
+use mathlib.Core.Bool.{Bool, true, false, not, _&&_, Bool·beq, or-false, and-true}
+use mathlib.Core.List.{List, []}
 use Prim.Native.Nat.{ℕ, zero, suc, _≤_, _<_}
 use lib.Dec.{T, ltb, lt→ltb}
 use lib.ListN.{length, take}
-use Rattle.facts.specs.Bounded.{some}
 use Rattle.facts.specs.Numbers.{elem, listed}
 use Rattle.facts.proofs.Tests.{and-l, and-r, T-true, T-false}
 use Rattle.facts.proofs.Bounded.{some-e}
@@ -18,7 +17,7 @@ use Rattle.grid.specs.Plan.{cellTotal, functionTotal, supported, hierarchy}
 use Rattle.grid.proofs.Laws.{lawful}
 use Rattle.mesh.specs.Mesh.{active, refined, reactivable, tableOf, labels, check}
 use Rattle.mesh.proofs.Bridge.{Good, check-good, good-check, good-inside}
-use Rattle.outcomes.specs.Calls.{Direction, refine, coarsen, By, cells, functions, underMarked, selected, changed, Outcome, refused, newCells, refusal, outcome}
+use Rattle.outcomes.specs.Calls.{Direction, refine, coarsen, By, cells, functions, underMarked, selected, changed, Outcome, refused, newCells, outcome}
 use Rattle.outcomes.specs.Runs.{Tables, LentLists, Call, Entry, result, after, entry, opposite, taking, taken}
 use Rattle.outcomes.proofs.Sets.{put}
 use Rattle.outcomes.proofs.Marks.{Fits, refusal-e, refusal-i, inside-ext, closure-same-below}

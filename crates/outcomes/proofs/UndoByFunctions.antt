@@ -1,32 +1,32 @@
 -- Demand 3 by functions: in class 0, every run of refinements by functions, from a mesh whose refined cells are covered by
 -- deactivated functions of their level, is undone by its own function lists. Assumes nothing.
-use mathlib.Core.Path.{_≡_, refl, sym, ap, ap₂, _∙_, subst}
+use mathlib.Core.Path.{_≡_, sym, ap, _∙_, subst}
 use mathlib.Core.Bool.{Bool, true, false, not, _&&_, _||_, Bool·beq}
-use mathlib.Core.List.{List, [], _∷_}
-use Prim.Native.Nat.{ℕ, zero, suc, _+_, _<_, _≤_}
+use mathlib.Core.List.{List}
+use Prim.Native.Nat.{ℕ, zero, suc, _<_, _≤_}
 use native.Mathlib.Omega.{arith}
-use lib.Dec.{T, eqb, eqb→eq, ltb, lt→ltb}
-use lib.ListN.{length, getD}
-use Rattle.facts.specs.Bounded.{implies, some, every}
-use Rattle.facts.specs.Numbers.{elem, listed}
-use Rattle.facts.proofs.Tests.{and-i, and-l, and-r, or-l, or-r, or-e, not-i, not-e, cases, same, T-true, T-false, eqb-of, implies-i, implies-e}
+use lib.Dec.{T, eqb, eqb→eq}
+use lib.ListN.{getD}
+use Rattle.facts.specs.Bounded.{implies, some}
+use Rattle.facts.specs.Numbers.{elem}
+use Rattle.facts.proofs.Tests.{and-i, and-l, and-r, or-l, or-r, or-e, not-i, not-e, cases, same, T-true, implies-i, implies-e}
 use Rattle.facts.proofs.Bounded.{some-i, some-e, every-i, every-e}
 use Rattle.facts.proofs.Numbers.{listed→, →listed}
 use Rattle.hierarchy.specs.Hierarchy.{Cells, closure}
 use Rattle.hierarchy.proofs.Sets.{Admissible}
 use Rattle.hierarchy.proofs.Closure.{closure-same}
 use Rattle.grid.specs.declared.Plan.{Plan}
-use Rattle.grid.specs.Plan.{cellTotal, functionTotal, supported, near, hierarchy}
+use Rattle.grid.specs.Plan.{cellTotal, functionTotal, supported, hierarchy}
 use Rattle.grid.proofs.Laws.{lawful, near-places}
 use Rattle.mesh.specs.Mesh.{absent, active, refined, reactivable, labelOf, labels, check}
-use Rattle.mesh.proofs.Bridge.{Good, check-good, good-inside, getD-labels, reactivable-is, byte-at-most, deactivated-e, deactivated-i, deactivated-grow}
-use Rattle.outcomes.specs.Calls.{Direction, refine, coarsen, By, cells, functions, eligible, isTooDeep, underMarked, underKept, selected, changed, newCells}
-use Rattle.outcomes.specs.Runs.{Tables, LentLists, Call, after, log, backwards, opposite, LongEnough, Undone, covered, RefinesByFunctions, end, and}
-use Rattle.outcomes.proofs.Sets.{put, difference, May, changed-may}
-use Rattle.outcomes.proofs.Marks.{Fits, closure-same-below}
-use Rattle.outcomes.proofs.Results.{may, new-good, new-refined, new-difference, cells-one-way}
+use Rattle.mesh.proofs.Bridge.{Good, check-good, getD-labels, reactivable-is, byte-at-most, deactivated-e, deactivated-i, deactivated-grow}
+use Rattle.outcomes.specs.Calls.{refine, coarsen, cells, functions, eligible, isTooDeep, underMarked, underKept, selected, changed, newCells}
+use Rattle.outcomes.specs.Runs.{Tables, LentLists, Call, after, log, backwards, LongEnough, Undone, covered, RefinesByFunctions, end, and}
+use Rattle.outcomes.proofs.Sets.{put, May, changed-may}
+use Rattle.outcomes.proofs.Marks.{Fits}
+use Rattle.outcomes.proofs.Results.{may, new-good, new-refined}
 use Rattle.outcomes.proofs.Runs.{Each, done, next, run-undone}
-use Rattle.outcomes.proofs.Undo.{elem-changed, Undoable, Turn, turn, turn-back, turn-checked, After, as-before, as-made, after-is}
+use Rattle.outcomes.proofs.Undo.{Undoable, Turn, turn, turn-back, turn-checked, After, as-before, as-made, after-is}
 
 -- ---- class 0: every set is admissible
 
