@@ -19,9 +19,9 @@ use Rattle.mesh.specs.Mesh.{active, refined, reactivable, tableOf, labels, chec
 use Rattle.mesh.proofs.Bridge.{Good, check-good, good-check, good-inside}
 use Rattle.outcomes.specs.Calls.{Direction, refine, coarsen, By, cells, functions, underMarked, selected, changed, Outcome, refused, newCells, outcome}
 use Rattle.outcomes.specs.Runs.{Tables, LentLists, Call, Entry, result, after, entry, opposite, taking, taken}
-use Rattle.outcomes.proofs.Sets.{put}
+use Rattle.outcomes.proofs.Sets.{put, beq-sym}
 use Rattle.outcomes.proofs.Marks.{Fits, refusal-e, refusal-i, inside-ext, closure-same-below}
-use Rattle.outcomes.proofs.Results.{new-is, new-good, accepted, Made, refusal-of, accepted-as, made, outcome-accepted, written-take, beq-sym}
+use Rattle.outcomes.proofs.Results.{new-is, new-good, accepted, Made, refusal-of, accepted-as, made, outcome-accepted, written-take}
 use Rattle.outcomes.proofs.Runs.{Back}
 
 -- ---- changes

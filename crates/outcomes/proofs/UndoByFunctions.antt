@@ -1,7 +1,7 @@
 -- Demand 3 by functions: in class 0, every run of refinements by functions, from a mesh whose refined cells are covered by
 -- deactivated functions of their level, is undone by its own function lists. Assumes nothing.
 use mathlib.Core.Path.{_≡_, sym, ap, _∙_, subst}
-use mathlib.Core.Bool.{Bool, true, false, not, _&&_, _||_, Bool·beq}
+use mathlib.Core.Bool.{Bool, true, not, _&&_, _||_, Bool·beq}
 use mathlib.Core.List.{List}
 use Prim.Native.Nat.{ℕ, zero, suc, _<_, _≤_}
 use native.Mathlib.Omega.{arith}
@@ -22,7 +22,7 @@ use Rattle.mesh.specs.Mesh.{absent, active, refined, reactivable, labelOf, labe
 use Rattle.mesh.proofs.Bridge.{Good, check-good, getD-labels, reactivable-is, byte-at-most, deactivated-e, deactivated-i, deactivated-grow}
 use Rattle.outcomes.specs.Calls.{refine, coarsen, cells, functions, eligible, isTooDeep, underMarked, underKept, selected, changed, newCells}
 use Rattle.outcomes.specs.Runs.{Tables, LentLists, Call, after, log, backwards, LongEnough, Undone, covered, RefinesByFunctions, end, and}
-use Rattle.outcomes.proofs.Sets.{put, May, changed-may}
+use Rattle.outcomes.proofs.Sets.{put, differs, May, changed-may}
 use Rattle.outcomes.proofs.Marks.{Fits}
 use Rattle.outcomes.proofs.Results.{may, new-good, new-refined}
 use Rattle.outcomes.proofs.Runs.{Each, done, next, run-undone}
@@ -83,15 +83,10 @@ present-active p cs G c i a r = go (getD cs c 0) (byte-at-most p cs G c i) a r
     go (suc (suc (suc n))) h a r = absurd (omega arith)
 
 changed-bits : (a b : Bool) → (T a → T b) → T (not (Bool·beq a b)) → T b × (T a → ⊥)
-changed-bits true true h t = absurd t
-changed-bits true false h t = absurd (h tt)
-changed-bits false true h t = (tt, λ u. u)
-changed-bits false false h t = absurd t
+changed-bits a b h t = let u : T (b && not a) = subst T (differs a b h) t in (and-l b _ u, not-e a (and-r b _ u))
 
 bits-changed : (a b : Bool) → T b → (T a → ⊥) → T (not (Bool·beq a b))
-bits-changed true b t n = absurd (n tt)
-bits-changed false true t n = tt
-bits-changed false false t n = t
+bits-changed a b t n = subst T (sym (differs a b (λ u. absurd (n u)))) (and-i b (not a) t (not-i a n))
 
 -- ---- an accepted refinement by functions in class 0
 
