@@ -1,3 +1,4 @@
+pub mod AfterP7
 pub mod Bridge
 pub mod Label
 pub mod Area

@@ -103,17 +103,17 @@ module _ (by : By) (d : Direction) (p : Plan) (cs : List ℕ) (G : Good p cs) wh
   unfolding underMarked elem
   under-none c t = some-e (functionTotal p) (λ f. elem f [] && supported p f c) t .2
 
-  meant-none : (e : Direction) (b : By) (fs : List ℕ) (c : ℕ) → T (selected e b p cs fs [] c) → ⊥
+  selected-none : (e : Direction) (b : By) (fs : List ℕ) (c : ℕ) → T (selected e b p cs fs [] c) → ⊥
   unfolding selected elem
-  meant-none e cells fs c t = t
-  meant-none refine functions fs c t = under-none c (and-r (active cs c) _ t)
-  meant-none coarsen functions fs c t = under-none c (and-l (underMarked p [] c) _ (and-r (reactivable p cs c) _ t))
+  selected-none e cells fs c t = t
+  selected-none refine functions fs c t = under-none c (and-r (active cs c) _ t)
+  selected-none coarsen functions fs c t = under-none c (and-l (underMarked p [] c) _ (and-r (reactivable p cs c) _ t))
 
   nothing : Undoable by d p cs cs G G
   nothing = record {
     fit = λ x t. absurd (unfold elem in rw (none-kept by) at t);
     back = λ c i.
-        ap (λ X. X c) (closure-same-below p _ (refined cs) (λ x _. put-none (opposite d) _ x (rw (none-kept by) (meant-none (opposite d) by (labels p cs) x))))
+        ap (λ X. X c) (closure-same-below p _ (refined cs) (λ x _. put-none (opposite d) _ x (rw (none-kept by) (selected-none (opposite d) by (labels p cs) x))))
         ∙ closure-same (hierarchy p) (lawful p (G .range)) (refined cs) (G .admissible) c i;
   }
 

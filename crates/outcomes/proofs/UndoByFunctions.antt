@@ -117,8 +117,8 @@ module _ (p : Plan) (zero-class : p .class ≡ 0) (cs marks : List ℕ) (G : Goo
   deactivated-stays = deactivated-grow p cs new stays
 
   -- what was added was selected, and is reactivable
-  added-meant : (c : ℕ) → c < cellTotal p → T (refined new c) → (T (refined cs c) → ⊥) → T (M c)
-  added-meant c i t n = or-e (refined cs c) (M c) (subst T (new-cells c i) t) (λ r. absurd (n r)) (λ m. m)
+  added-selected : (c : ℕ) → c < cellTotal p → T (refined new c) → (T (refined cs c) → ⊥) → T (M c)
+  added-selected c i t n = or-e (refined cs c) (M c) (subst T (new-cells c i) t) (λ r. absurd (n r)) (λ m. m)
 
   added-reactivable : (c : ℕ) → c < cellTotal p → T (refined new c) → (T (refined cs c) → ⊥) → T (reactivable p new c)
   added-reactivable c i t n =
@@ -174,13 +174,13 @@ module _ (p : Plan) (zero-class : p .class ≡ 0) (cs marks : List ℕ) (G : Goo
 
   -- ---- the cells that the list means are the added ones (document 000, proposition 10)
 
-  abbrev back-meant : Cells
-  back-meant = selected coarsen functions p new fs′ df
+  abbrev back-selected : Cells
+  back-selected = selected coarsen functions p new fs′ df
 
-  added-back : (c : ℕ) → c < cellTotal p → T (refined new c) → (T (refined cs c) → ⊥) → T (back-meant c)
+  added-back : (c : ℕ) → c < cellTotal p → T (refined new c) → (T (refined cs c) → ⊥) → T (back-selected c)
   unfolding selected underMarked underKept
   added-back c j t n =
-      let (f, i, u) = some-e (functionTotal p) (λ f. elem f marks && supported p f c) (and-r (active cs c) _ (added-meant c j t n)) in
+      let (f, i, u) = some-e (functionTotal p) (λ f. elem f marks && supported p f c) (and-r (active cs c) _ (added-selected c j t n)) in
       let (i′, a, b) = marked-done f (and-l (elem f marks) _ u) in
       let kept : ℕ → Bool = λ f. not (elem f df) && (refined fs′ f && supported p f c) in
       and-i (reactivable p new c) _ (added-reactivable c j t n)
@@ -200,9 +200,9 @@ module _ (p : Plan) (zero-class : p .class ≡ 0) (cs marks : List ℕ) (G : Goo
         (implies-e (refined cs c) _ (every-e (cellTotal p) (λ c. implies (refined cs c) (some (functionTotal p) (λ f. refined fs f && supported p f c))) K c j) r) in
         (g, k, and-l (refined fs g) _ v, and-r (refined fs g) (supported p g c) v)
 
-    old-not-meant : (c : ℕ) → c < cellTotal p → T (refined cs c) → T (back-meant c) → ⊥
+    old-not-selected : (c : ℕ) → c < cellTotal p → T (refined cs c) → T (back-selected c) → ⊥
     unfolding selected underKept
-    old-not-meant c j r m =
+    old-not-selected c j r m =
         let (g, k, a, s) = cover c j r in
         let kept : ℕ → Bool = λ f. not (elem f df) && (refined fs′ f && supported p f c) in
         not-e (some (functionTotal p) kept) (and-r (underMarked p df c) _ (and-r (reactivable p new c) _ m))
@@ -213,9 +213,9 @@ module _ (p : Plan) (zero-class : p .class ≡ 0) (cs marks : List ℕ) (G : Goo
       fit = df-fits;
       back = λ c i. closure-is p zero-class cs G (put coarsen (refined new) (selected coarsen functions p new fs′ df)) c i
           ∙ same _ (refined cs c)
-          (λ t. cases (refined cs c) (λ r. r) (λ r. absurd (not-e (back-meant c) (and-r (refined new c) (not (back-meant c)) t)
+          (λ t. cases (refined cs c) (λ r. r) (λ r. absurd (not-e (back-selected c) (and-r (refined new c) (not (back-selected c)) t)
           (added-back c i (and-l (refined new c) _ t) (not-e (refined cs c) r)))))
-          (λ r. and-i (refined new c) _ (stays c i r) (not-i (back-meant c) (old-not-meant c i r)));
+          (λ r. and-i (refined new c) _ (stays c i r) (not-i (back-selected c) (old-not-selected c i r)));
     }
 
     -- the premise is kept
@@ -224,7 +224,7 @@ module _ (p : Plan) (zero-class : p .class ≡ 0) (cs marks : List ℕ) (G : Goo
     covered-kept = every-i (cellTotal p) _ (λ c j. implies-i (refined new c) _ (λ t. cases (refined cs c)
         (λ r. let (g, k, a, s) = cover c j r in
         some-i (functionTotal p) (λ f. refined fs′ f && supported p f c) g k (and-i (refined fs′ g) (supported p g c) (deactivated-stays g k a) s))
-        (λ r. let (f, i, u) = some-e (functionTotal p) (λ f. elem f marks && supported p f c) (and-r (active cs c) _ (added-meant c j t (not-e (refined cs c) r))) in
+        (λ r. let (f, i, u) = some-e (functionTotal p) (λ f. elem f marks && supported p f c) (and-r (active cs c) _ (added-selected c j t (not-e (refined cs c) r))) in
         some-i (functionTotal p) (λ f. refined fs′ f && supported p f c) f i
         (and-i (refined fs′ f) (supported p f c) (marked-done f (and-l (elem f marks) _ u) .1) (and-r (elem f marks) _ u)))))
 

@@ -1,8 +1,8 @@
 -- The final theorems, each by the theorem that proves it. Assumes nothing.
-use mathlib.Core.Path.{_≡_, ap, _∙_}
+use mathlib.Core.Path.{_≡_}
 use mathlib.Core.List.{List}
 use Prim.Native.Nat.{ℕ, _-_, _*_, _^_, _<_}
-use lib.Dec.{T, eqb, eqb→eq}
+use lib.Dec.{eqb, eqb→eq}
 use lib.ListN.{getD}
 use Rattle.facts.proofs.Tests.{cases, not-e, eqb-of, T-true, T-false}
 use Rattle.grid.specs.declared.Plan.{Plan}
