@@ -13,12 +13,10 @@ use Rattle.facts.proofs.Sums.{sum-same, sum-zero, sum-const, sum-add, sum-mul, 
 use Rattle.grid.specs.declared.Plan.{Plan}
 use Rattle.grid.specs.declared.Place.{Place}
 use Rattle.grid.specs.Numbering.{offset, number}
-use Rattle.grid.specs.Plan.{ratio, grown, columnsAt, rowsAt, cellTotal, cellPlace, cellNumber, cellLevel, below, child}
+use Rattle.grid.specs.Plan.{ratio, grown, columnsAt, rowsAt, cellTotal, cellPlace, cellNumber, cellLevel, CellInside, below, child}
 use Rattle.grid.specs.Range.{InRange}
-use Rattle.grid.proofs.Numbering as numbering
-use Rattle.grid.specs.Numbering.{Inside}
 use Rattle.grid.proofs.Direction.{grown-up}
-use Rattle.grid.proofs.Laws.{ratio-pos}
+use Rattle.grid.proofs.Laws.{ratio-pos, cell-place-number, cell-number-lt}
 use Rattle.mesh.proofs.Bridge.{mesh-fits}
 use Rattle.mesh.specs.Mesh.{absent, active, refined, isMesh, areaOf}
 
@@ -65,14 +63,14 @@ module _ (p : Plan) (range : InRange p) (cells : List ℕ) (mesh : T (isMesh p c
   abbrev on : ℕ → (ℕ → Bool) → ℕ
   on k test = sum (h k) (λ r. sum (w k) (λ c. one (test (cellNumber p (at k r c)))))
 
-  inside : (k r c : ℕ) → k < p .levels → r < h k → c < w k → Inside w h (p .levels) (at k r c)
+  inside : (k r c : ℕ) → k < p .levels → r < h k → c < w k → CellInside p (at k r c)
   inside k r c i j l = record { level< = i; row< = j; column< = l }
 
   cell-place : (k r c : ℕ) → k < p .levels → r < h k → c < w k → cellPlace p (cellNumber p (at k r c)) ≡ at k r c
-  cell-place k r c i j l = numbering.place-number w h (p .levels) (at k r c) (inside k r c i j l)
+  cell-place k r c i j l = cell-place-number p range (at k r c) (inside k r c i j l)
 
   cell-lt : (k r c : ℕ) → k < p .levels → r < h k → c < w k → cellNumber p (at k r c) < cellTotal p
-  cell-lt k r c i j l = numbering.number-lt w h (p .levels) (at k r c) (inside k r c i j l)
+  cell-lt k r c i j l = cell-number-lt p range (at k r c) (inside k r c i j l)
 
   next : (b k : ℕ) → grown (ratio p) b (suc k) ≡ grown (ratio p) b k * ratio p
   unfolding grown

@@ -19,7 +19,7 @@ use Rattle.grid.specs.declared.Plan.{Plan}
 use Rattle.grid.specs.Plan.{inRange, ratio, tooLarge, cellTotal, functionTotal, cellLevel, lastLevel, parent, child, supported, near, hierarchy}
 use Rattle.grid.specs.Range.{InRange}
 use Rattle.grid.proofs.Laws.{in-range, range-test, cell-inside, parent-lt, parent-level, is-child, child-lt, child-level, parent-of-child, near-in}
-use Rattle.mesh.specs.Mesh.{absent, active, refined, children, cellFits, isMesh, isAdmissible, reactivable, tableOf, labelOf, labels, isLabelled, refusal3, refusal6, check}
+use Rattle.mesh.specs.Mesh.{absent, active, refined, deactivated, children, cellFits, isMesh, isAdmissible, reactivable, tableOf, labelOf, labels, isLabelled, refusal3, refusal6, check}
 use Rattle.grid.specs.Bounds.{mostCells}
 
 -- ---- children
@@ -434,7 +434,7 @@ module _ (p : Plan) (cs : List ℕ) (f : ℕ) where
 
 -- they only grow with the refined cells
 pub deactivated-grow : (p : Plan) (old new : List ℕ) → ((c : ℕ) → c < cellTotal p → T (refined old c) → T (refined new c))
-    → (f : ℕ) → f < functionTotal p → T (refined (labels p old) f) → T (refined (labels p new) f)
+    → (f : ℕ) → f < functionTotal p → T (deactivated (labels p old) f) → T (deactivated (labels p new) f)
 unfolding refined
 deactivated-grow p old new h f i t =
     subst (λ n. T (eqb n 2)) (sym (getD-labels p new f i))

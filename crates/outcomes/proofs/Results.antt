@@ -18,7 +18,7 @@ use Rattle.hierarchy.proofs.Closure.{closure-in, closure-admissible, closure-le
 use Rattle.grid.specs.declared.Plan.{Plan}
 use Rattle.grid.specs.Plan.{cellTotal, functionTotal, hierarchy}
 use Rattle.grid.proofs.Laws.{lawful}
-use Rattle.mesh.specs.Mesh.{refined, tableOf, labels, check}
+use Rattle.mesh.specs.Mesh.{refined, deactivated, tableOf, labels, check}
 use Rattle.mesh.proofs.Bridge.{Good, check-good, good-check, good-table, refined-tableOf, admissible-of, is-mesh, is-admissible, deactivated-grow}
 use Rattle.outcomes.specs.Calls.{Direction, refine, coarsen, By, markRefusal, selected, base, smallest, changed, written, Outcome, refused, settle, newCells, refusal, outcome}
 use Rattle.outcomes.specs.Demands.{Smallest, turned, Exact, Accepted, Refused}
@@ -122,11 +122,11 @@ exact d n o w h = record {
 grows : (d : Direction) (p : Plan) (o w : List ℕ) → ((c : ℕ) → c < cellTotal p → T (turned d w o c) → ⊥) → (f : ℕ) → f < functionTotal p
     → T (turned d (labels p w) (labels p o) f) → ⊥
 grows refine p o w h f i t =
-    not-e (refined (labels p w) f) (and-r (refined (labels p o) f) _ t)
-    (deactivated-grow p o w (λ c j. none-lost→ (refined o c) (refined w c) (h c j)) f i (and-l (refined (labels p o) f) _ t))
+    not-e (deactivated (labels p w) f) (and-r (deactivated (labels p o) f) _ t)
+    (deactivated-grow p o w (λ c j. none-lost→ (refined o c) (refined w c) (h c j)) f i (and-l (deactivated (labels p o) f) _ t))
 grows coarsen p o w h f i t =
-    not-e (refined (labels p o) f) (and-r (refined (labels p w) f) _ t)
-    (deactivated-grow p w o (λ c j. none-lost→ (refined w c) (refined o c) (h c j)) f i (and-l (refined (labels p w) f) _ t))
+    not-e (deactivated (labels p o) f) (and-r (deactivated (labels p w) f) _ t)
+    (deactivated-grow p w o (λ c j. none-lost→ (refined w c) (refined o c) (h c j)) f i (and-l (deactivated (labels p w) f) _ t))
 
 -- ---- the outcome of an accepted call
 

@@ -18,7 +18,7 @@ use Rattle.hierarchy.proofs.Closure.{closure-same}
 use Rattle.grid.specs.declared.Plan.{Plan}
 use Rattle.grid.specs.Plan.{cellTotal, functionTotal, supported, hierarchy}
 use Rattle.grid.proofs.Laws.{lawful, near-places}
-use Rattle.mesh.specs.Mesh.{absent, active, refined, reactivable, labelOf, labels, check}
+use Rattle.mesh.specs.Mesh.{absent, active, refined, deactivated, reactivable, labelOf, labels, check}
 use Rattle.mesh.proofs.Bridge.{Good, check-good, getD-labels, reactivable-is, byte-at-most, deactivated-e, deactivated-i, deactivated-grow}
 use Rattle.outcomes.specs.Calls.{refine, coarsen, cells, functions, eligible, isTooDeep, underMarked, underKept, selected, changed, newCells}
 use Rattle.outcomes.specs.Runs.{Tables, LentLists, Call, after, log, backwards, LongEnough, Undone, covered, RefinesByFunctions, end, and}
@@ -40,16 +40,16 @@ module _ (p : Plan) (zero-class : p .class ≡ 0) (cs : List ℕ) (G : Good p cs
 -- ---- labels as facts
 
 module _ (p : Plan) (cs : List ℕ) (f : ℕ) (i : f < functionTotal p) where
-  label-e : T (refined (labels p cs) f) → (c : ℕ) → c < cellTotal p → T (supported p f c) → T (refined cs c)
+  label-e : T (deactivated (labels p cs) f) → (c : ℕ) → c < cellTotal p → T (supported p f c) → T (refined cs c)
   unfolding refined
   label-e t = deactivated-e p cs f (subst (λ n. T (eqb n 2)) (getD-labels p cs f i) t)
 
-  label-i : ((c : ℕ) → c < cellTotal p → T (supported p f c) → T (refined cs c)) → T (refined (labels p cs) f)
+  label-i : ((c : ℕ) → c < cellTotal p → T (supported p f c) → T (refined cs c)) → T (deactivated (labels p cs) f)
   unfolding refined
   label-i h = subst (λ n. T (eqb n 2)) (sym (getD-labels p cs f i)) (deactivated-i p cs f h)
 
   -- a function that is not deactivated has a cell that is not refined
-  not-label : (T (refined (labels p cs) f) → ⊥) → (c : ℕ) × (c < cellTotal p) × T (supported p f c) × (T (refined cs c) → ⊥)
+  not-label : (T (deactivated (labels p cs) f) → ⊥) → (c : ℕ) × (c < cellTotal p) × T (supported p f c) × (T (refined cs c) → ⊥)
   not-label n =
       let test : ℕ → Bool = λ c. supported p f c && not (refined cs c) in
       cases (some (cellTotal p) test)
@@ -67,7 +67,7 @@ module _ (p : Plan) (cs : List ℕ) (f : ℕ) (i : f < functionTotal p) where
       let z : _≡_ {A = ℕ} 0 1 = rw e at o in
       omega arith
 
-  active-not : T (active (labels p cs) f) → T (refined (labels p cs) f) → ⊥
+  active-not : T (active (labels p cs) f) → T (deactivated (labels p cs) f) → ⊥
   unfolding active refined
   active-not a r = omega (arith, eqb→eq (getD (labels p cs) f 0) 1 a, eqb→eq (getD (labels p cs) f 0) 2 r)
 
@@ -113,7 +113,7 @@ module _ (p : Plan) (zero-class : p .class ≡ 0) (cs marks : List ℕ) (G : Goo
   stays : (c : ℕ) → c < cellTotal p → T (refined cs c) → T (refined new c)
   stays c i r = subst T (sym (new-cells c i)) (or-l (refined cs c) (M c) r)
 
-  deactivated-stays : (f : ℕ) → f < functionTotal p → T (refined fs f) → T (refined fs′ f)
+  deactivated-stays : (f : ℕ) → f < functionTotal p → T (deactivated fs f) → T (deactivated fs′ f)
   deactivated-stays = deactivated-grow p cs new stays
 
   -- what was added was selected, and is reactivable
@@ -130,7 +130,7 @@ module _ (p : Plan) (zero-class : p .class ≡ 0) (cs marks : List ℕ) (G : Goo
       (subst (λ X. May coarsen H X c) (sym r) (changed-may H (lawful p (G .range)) (refined cs) M (G .admissible) (G .mesh) refine (may refine functions p cs fs marks G fit) c i u))
 
   -- a marked function is deactivated afterwards, and was not before
-  marked-done : (f : ℕ) → T (elem f marks) → (f < functionTotal p) × T (refined fs′ f) × (T (refined fs f) → ⊥)
+  marked-done : (f : ℕ) → T (elem f marks) → (f < functionTotal p) × T (deactivated fs′ f) × (T (deactivated fs f) → ⊥)
   unfolding eligible selected underMarked
   marked-done f m =
       let k = fit f m in
@@ -149,16 +149,16 @@ module _ (p : Plan) (zero-class : p .class ≡ 0) (cs marks : List ℕ) (G : Goo
   abbrev df : List ℕ
   df = changed (functionTotal p) fs fs′
 
-  df→ : (f : ℕ) → T (elem f df) → (f < functionTotal p) × T (refined fs′ f) × (T (refined fs f) → ⊥)
+  df→ : (f : ℕ) → T (elem f df) → (f < functionTotal p) × T (deactivated fs′ f) × (T (deactivated fs f) → ⊥)
   unfolding changed
   df→ f t =
-      let (i, u) = listed→ (functionTotal p) (λ x. not (Bool·beq (refined fs x) (refined fs′ x))) f t in
-      let (a, b) = changed-bits (refined fs f) (refined fs′ f) (deactivated-stays f i) u in
+      let (i, u) = listed→ (functionTotal p) (λ x. not (Bool·beq (deactivated fs x) (deactivated fs′ x))) f t in
+      let (a, b) = changed-bits (deactivated fs f) (deactivated fs′ f) (deactivated-stays f i) u in
       (i, a, b)
 
-  →df : (f : ℕ) → f < functionTotal p → T (refined fs′ f) → (T (refined fs f) → ⊥) → T (elem f df)
+  →df : (f : ℕ) → f < functionTotal p → T (deactivated fs′ f) → (T (deactivated fs f) → ⊥) → T (elem f df)
   unfolding changed
-  →df f i t n = →listed (functionTotal p) (λ x. not (Bool·beq (refined fs x) (refined fs′ x))) f i (bits-changed (refined fs f) (refined fs′ f) t n)
+  →df f i t n = →listed (functionTotal p) (λ x. not (Bool·beq (deactivated fs x) (deactivated fs′ x))) f i (bits-changed (deactivated fs f) (deactivated fs′ f) t n)
 
   df-fits : (f : ℕ) → T (elem f df) → Fits coarsen functions p new fs′ f
   unfolding eligible isTooDeep
@@ -167,7 +167,7 @@ module _ (p : Plan) (zero-class : p .class ≡ 0) (cs marks : List ℕ) (G : Goo
       let (c, j, s, o) = not-label p cs f i n in
       record {
         inside = i;
-        kind = and-i (refined fs′ f) _ a (some-i (cellTotal p) (λ c. supported p f c && reactivable p new c) c j
+        kind = and-i (deactivated fs′ f) _ a (some-i (cellTotal p) (λ c. supported p f c && reactivable p new c) c j
             (and-i (supported p f c) (reactivable p new c) s (added-reactivable c j (label-e p new f i a c j s) o)));
         shallow = λ t. t;
       }
@@ -182,31 +182,31 @@ module _ (p : Plan) (zero-class : p .class ≡ 0) (cs marks : List ℕ) (G : Goo
   added-back c j t n =
       let (f, i, u) = some-e (functionTotal p) (λ f. elem f marks && supported p f c) (and-r (active cs c) _ (added-selected c j t n)) in
       let (i′, a, b) = marked-done f (and-l (elem f marks) _ u) in
-      let kept : ℕ → Bool = λ f. not (elem f df) && (refined fs′ f && supported p f c) in
+      let kept : ℕ → Bool = λ f. not (elem f df) && (deactivated fs′ f && supported p f c) in
       and-i (reactivable p new c) _ (added-reactivable c j t n)
       (and-i (underMarked p df c) _
       (some-i (functionTotal p) (λ f. elem f df && supported p f c) f i (and-i (elem f df) (supported p f c) (→df f i a b) (and-r (elem f marks) _ u)))
       (not-i (some (functionTotal p) kept) (λ w.
       let (g, k, v) = some-e (functionTotal p) kept w in
-      let x : T (refined fs′ g && supported p g c) = and-r (not (elem g df)) _ v in
-      n (label-e p cs g k (cases (refined fs g) (λ r. r) (λ r. absurd (not-e (elem g df) (and-l (not (elem g df)) _ v) (→df g k (and-l (refined fs′ g) _ x) (not-e (refined fs g) r)))))
-      c j (and-r (refined fs′ g) (supported p g c) x)))))
+      let x : T (deactivated fs′ g && supported p g c) = and-r (not (elem g df)) _ v in
+      n (label-e p cs g k (cases (deactivated fs g) (λ r. r) (λ r. absurd (not-e (elem g df) (and-l (not (elem g df)) _ v) (→df g k (and-l (deactivated fs′ g) _ x) (not-e (deactivated fs g) r)))))
+      c j (and-r (deactivated fs′ g) (supported p g c) x)))))
 
   module _ (K : T (covered p cs fs)) where
-    cover : (c : ℕ) → c < cellTotal p → T (refined cs c) → (g : ℕ) × (g < functionTotal p) × T (refined fs g) × T (supported p g c)
+    cover : (c : ℕ) → c < cellTotal p → T (refined cs c) → (g : ℕ) × (g < functionTotal p) × T (deactivated fs g) × T (supported p g c)
     unfolding covered
     cover c j r =
-        let (g, k, v) = some-e (functionTotal p) (λ f. refined fs f && supported p f c)
-        (implies-e (refined cs c) _ (every-e (cellTotal p) (λ c. implies (refined cs c) (some (functionTotal p) (λ f. refined fs f && supported p f c))) K c j) r) in
-        (g, k, and-l (refined fs g) _ v, and-r (refined fs g) (supported p g c) v)
+        let (g, k, v) = some-e (functionTotal p) (λ f. deactivated fs f && supported p f c)
+        (implies-e (refined cs c) _ (every-e (cellTotal p) (λ c. implies (refined cs c) (some (functionTotal p) (λ f. deactivated fs f && supported p f c))) K c j) r) in
+        (g, k, and-l (deactivated fs g) _ v, and-r (deactivated fs g) (supported p g c) v)
 
     old-not-selected : (c : ℕ) → c < cellTotal p → T (refined cs c) → T (back-selected c) → ⊥
     unfolding selected underKept
     old-not-selected c j r m =
         let (g, k, a, s) = cover c j r in
-        let kept : ℕ → Bool = λ f. not (elem f df) && (refined fs′ f && supported p f c) in
+        let kept : ℕ → Bool = λ f. not (elem f df) && (deactivated fs′ f && supported p f c) in
         not-e (some (functionTotal p) kept) (and-r (underMarked p df c) _ (and-r (reactivable p new c) _ m))
-        (some-i (functionTotal p) kept g k (and-i (not (elem g df)) _ (not-i (elem g df) (λ t. df→ g t .2 a)) (and-i (refined fs′ g) (supported p g c) (deactivated-stays g k a) s)))
+        (some-i (functionTotal p) kept g k (and-i (not (elem g df)) _ (not-i (elem g df) (λ t. df→ g t .2 a)) (and-i (deactivated fs′ g) (supported p g c) (deactivated-stays g k a) s)))
 
     pub functions-undoable : Undoable functions refine p cs new G N
     functions-undoable = record {
@@ -223,10 +223,10 @@ module _ (p : Plan) (zero-class : p .class ≡ 0) (cs marks : List ℕ) (G : Goo
     unfolding covered selected underMarked
     covered-kept = every-i (cellTotal p) _ (λ c j. implies-i (refined new c) _ (λ t. cases (refined cs c)
         (λ r. let (g, k, a, s) = cover c j r in
-        some-i (functionTotal p) (λ f. refined fs′ f && supported p f c) g k (and-i (refined fs′ g) (supported p g c) (deactivated-stays g k a) s))
+        some-i (functionTotal p) (λ f. deactivated fs′ f && supported p f c) g k (and-i (deactivated fs′ g) (supported p g c) (deactivated-stays g k a) s))
         (λ r. let (f, i, u) = some-e (functionTotal p) (λ f. elem f marks && supported p f c) (and-r (active cs c) _ (added-selected c j t (not-e (refined cs c) r))) in
-        some-i (functionTotal p) (λ f. refined fs′ f && supported p f c) f i
-        (and-i (refined fs′ f) (supported p f c) (marked-done f (and-l (elem f marks) _ u) .1) (and-r (elem f marks) _ u)))))
+        some-i (functionTotal p) (λ f. deactivated fs′ f && supported p f c) f i
+        (and-i (deactivated fs′ f) (supported p f c) (marked-done f (and-l (elem f marks) _ u) .1) (and-r (elem f marks) _ u)))))
 
 -- ---- the run
 
