@@ -8,6 +8,7 @@ use mathlib.Core.List.{List}
 use mathlib.Core.Logic.{_↔_, Iff·rfl, Iff·trans, Iff·symm, ⊎-elim}
 use mathlib.Core.Path.{_≡_, refl, ap, _∙_}
 use lib.Dec.{T, eqb, eqb→eq}
+use lib.ListN.{getD}
 use Rattle.facts.specs.Bounded.{implies, some, every}
 use Rattle.facts.proofs.Tests.{and-i, and-l, and-r, or-l, or-r, or-e, cases, not-i, not-e, same, eqb-of, implies-i, implies-e}
 use Rattle.facts.proofs.Bounded.{some-i, some-e, every-i, every-e}
@@ -15,7 +16,8 @@ use Rattle.grid.specs.declared.Plan.{Plan}
 use Rattle.grid.specs.Plan.{cellTotal, functionTotal, cellNumber, functionLevel, supported}
 use Rattle.grid.specs.Range.{InRange}
 use Rattle.grid.proofs.Laws.{function-inside}
-use Rattle.mesh.specs.Mesh.{absent, refined, isMesh, labelOf}
+use Rattle.mesh.specs.Mesh.{absent, refined, isMesh, labelOf, check}
+use Rattle.mesh.proofs.Bridge.{check-good, getD-labels, is-mesh}
 use Rattle.basis.specs.Basis.{finest, cellOver, inRegion, insideRegion, member, activeFunction, deactivatedFunction, passiveFunction, Empty, Subdomains, Published}
 use Rattle.basis.proofs.Points.{Point}
 use Rattle.basis.proofs.Regions.{region-present, region-refined, region-shrinks, region-empty, inside-i, inside-within, never-inside, inside-cells, cells-inside}
@@ -39,6 +41,11 @@ label-zero : (i n : Bool) → (byte i n ≡ 0) ↔ (¬ T i)
 label-zero true true = (λ e. absurd (omega arith), λ t. absurd (t tt))
 label-zero true false = (λ e. absurd (omega arith), λ t. absurd (t tt))
 label-zero false n = (λ e t. t, λ t. refl)
+
+label-most : (i n : Bool) → byte i n ≤ 2
+label-most true true = omega arith
+label-most true false = omega arith
+label-most false n = omega arith
 
 module _ (p : Plan) (range : InRange p) (cells : List ℕ) (mesh : T (isMesh p cells)) where
   finest-suc : suc (finest p) ≡ p .levels
@@ -194,9 +201,17 @@ module _ (p : Plan) (range : InRange p) (cells : List ℕ) (mesh : T (isMesh p c
     passive-is =
         (λ t i. not-e (member p cells own f) t (member-own .1 i), λ n. not-i (member p cells own f) (λ m. n (member-own .0 m)))
 
-    pub published : Published p cells f
+    pub published : Published p cells f (labelOf p cells f)
     published = record {
       active = rw label-is (Iff·trans (label-one (inside own) (inside (suc own))) (Iff·symm active-is));
       deactivated = rw label-is (Iff·trans (label-two (inside own) (inside (suc own))) (Iff·symm deactivated-is));
       passive = rw label-is (Iff·trans (label-zero (inside own) (inside (suc own))) (Iff·symm passive-is));
+      no-other = rw label-is (label-most (inside own) (inside (suc own)));
     }
+
+-- of tables that check passes
+pub checked-published : (p : Plan) (cells functions : List ℕ) → check p cells functions ≡ 0
+    → (f : ℕ) → f < functionTotal p → Published p cells f (getD functions f 0)
+checked-published p cells functions k f b =
+    let (G, l) = check-good p cells functions k in
+    rw (l, getD-labels p cells f b) (published p (G .range) cells (is-mesh p cells G) f b)

@@ -6,7 +6,7 @@ use mathlib.Core.List.{List, [], _∷_, _++_}
 use Prim.Native.Nat.{ℕ, _-_}
 use lib.Dec.{T, eqb, eqb-refl}
 use lib.ListN.{length, set, take, replicate}
-use Rattle.facts.specs.Bounded.{implies, some, every, sum}
+use Rattle.facts.specs.Bounded.{some, every, sum}
 use Rattle.facts.specs.Numbers.{elem, all, listed, tabulate, stored, first}
 use Rattle.facts.proofs.Tests.{T-true}
 use Rattle.hierarchy.specs.Hierarchy.{reach, needs, closure}

@@ -1,11 +1,11 @@
 -- Demand 3 by cells: every run, of any calls in any class, is undone by its own cell lists. Assumes nothing.
-use mathlib.Core.Path.{_≡_, refl, sym, ap, ap₂, _∙_, subst}
-use mathlib.Core.Bool.{Bool, true, not, _&&_, _||_, Bool·beq}
+use mathlib.Core.Path.{_≡_, sym, ap, ap₂, _∙_, subst}
+use mathlib.Core.Bool.{true, not, _&&_, _||_, Bool·beq}
 use mathlib.Core.List.{List, [], _∷_}
 use Prim.Native.Nat.{ℕ, _+_, _<_}
 use native.Mathlib.Omega.{arith}
 use lib.Dec.{T, eqb→eq}
-use Rattle.facts.specs.Numbers.{elem, listed}
+use Rattle.facts.specs.Numbers.{elem}
 use Rattle.facts.proofs.Numbers.{listed→}
 use Rattle.hierarchy.specs.Hierarchy.{Cells, closure}
 use Rattle.grid.specs.declared.Plan.{Plan}

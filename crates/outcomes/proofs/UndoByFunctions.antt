@@ -1,32 +1,32 @@
 -- Demand 3 by functions: in class 0, every run of refinements by functions, from a mesh whose refined cells are covered by
 -- deactivated functions of their level, is undone by its own function lists. Assumes nothing.
-use mathlib.Core.Path.{_≡_, refl, sym, ap, ap₂, _∙_, subst}
-use mathlib.Core.Bool.{Bool, true, false, not, _&&_, _||_, Bool·beq}
-use mathlib.Core.List.{List, [], _∷_}
-use Prim.Native.Nat.{ℕ, zero, suc, _+_, _<_, _≤_}
+use mathlib.Core.Path.{_≡_, sym, ap, _∙_, subst}
+use mathlib.Core.Bool.{Bool, true, not, _&&_, _||_, Bool·beq}
+use mathlib.Core.List.{List}
+use Prim.Native.Nat.{ℕ, zero, suc, _<_, _≤_}
 use native.Mathlib.Omega.{arith}
-use lib.Dec.{T, eqb, eqb→eq, ltb, lt→ltb}
-use lib.ListN.{length, getD}
-use Rattle.facts.specs.Bounded.{implies, some, every}
-use Rattle.facts.specs.Numbers.{elem, listed}
-use Rattle.facts.proofs.Tests.{and-i, and-l, and-r, or-l, or-r, or-e, not-i, not-e, cases, same, T-true, T-false, eqb-of, implies-i, implies-e}
+use lib.Dec.{T, eqb, eqb→eq}
+use lib.ListN.{getD}
+use Rattle.facts.specs.Bounded.{implies, some}
+use Rattle.facts.specs.Numbers.{elem}
+use Rattle.facts.proofs.Tests.{and-i, and-l, and-r, or-l, or-r, or-e, not-i, not-e, cases, same, T-true, implies-i, implies-e}
 use Rattle.facts.proofs.Bounded.{some-i, some-e, every-i, every-e}
 use Rattle.facts.proofs.Numbers.{listed→, →listed}
 use Rattle.hierarchy.specs.Hierarchy.{Cells, closure}
 use Rattle.hierarchy.proofs.Sets.{Admissible}
 use Rattle.hierarchy.proofs.Closure.{closure-same}
 use Rattle.grid.specs.declared.Plan.{Plan}
-use Rattle.grid.specs.Plan.{cellTotal, functionTotal, supported, near, hierarchy}
+use Rattle.grid.specs.Plan.{cellTotal, functionTotal, supported, hierarchy}
 use Rattle.grid.proofs.Laws.{lawful, near-places}
-use Rattle.mesh.specs.Mesh.{absent, active, refined, reactivable, labelOf, labels, check}
-use Rattle.mesh.proofs.Bridge.{Good, check-good, good-inside, getD-labels, reactivable-is, byte-at-most, deactivated-e, deactivated-i, deactivated-grow}
-use Rattle.outcomes.specs.Calls.{Direction, refine, coarsen, By, cells, functions, eligible, isTooDeep, underMarked, underKept, selected, changed, newCells}
-use Rattle.outcomes.specs.Runs.{Tables, LentLists, Call, after, log, backwards, opposite, LongEnough, Undone, covered, RefinesByFunctions, end, and}
-use Rattle.outcomes.proofs.Sets.{put, difference, May, changed-may}
-use Rattle.outcomes.proofs.Marks.{Fits, closure-same-below}
-use Rattle.outcomes.proofs.Results.{may, new-good, new-refined, new-difference, cells-one-way}
+use Rattle.mesh.specs.Mesh.{absent, active, refined, deactivated, reactivable, labelOf, labels, check}
+use Rattle.mesh.proofs.Bridge.{Good, check-good, getD-labels, reactivable-is, byte-at-most, deactivated-e, deactivated-i, deactivated-grow}
+use Rattle.outcomes.specs.Calls.{refine, coarsen, cells, functions, eligible, isTooDeep, underMarked, underKept, selected, changed, newCells}
+use Rattle.outcomes.specs.Runs.{Tables, LentLists, Call, after, log, backwards, LongEnough, Undone, covered, RefinesByFunctions, end, and}
+use Rattle.outcomes.proofs.Sets.{put, differs, May, changed-may}
+use Rattle.outcomes.proofs.Marks.{Fits}
+use Rattle.outcomes.proofs.Results.{may, new-good, new-refined}
 use Rattle.outcomes.proofs.Runs.{Each, done, next, run-undone}
-use Rattle.outcomes.proofs.Undo.{elem-changed, Undoable, Turn, turn, turn-back, turn-checked, After, as-before, as-made, after-is}
+use Rattle.outcomes.proofs.Undo.{Undoable, Turn, turn, turn-back, turn-checked, After, as-before, as-made, after-is}
 
 -- ---- class 0: every set is admissible
 
@@ -40,16 +40,16 @@ module _ (p : Plan) (zero-class : p .class ≡ 0) (cs : List ℕ) (G : Good p cs
 -- ---- labels as facts
 
 module _ (p : Plan) (cs : List ℕ) (f : ℕ) (i : f < functionTotal p) where
-  label-e : T (refined (labels p cs) f) → (c : ℕ) → c < cellTotal p → T (supported p f c) → T (refined cs c)
+  label-e : T (deactivated (labels p cs) f) → (c : ℕ) → c < cellTotal p → T (supported p f c) → T (refined cs c)
   unfolding refined
   label-e t = deactivated-e p cs f (subst (λ n. T (eqb n 2)) (getD-labels p cs f i) t)
 
-  label-i : ((c : ℕ) → c < cellTotal p → T (supported p f c) → T (refined cs c)) → T (refined (labels p cs) f)
+  label-i : ((c : ℕ) → c < cellTotal p → T (supported p f c) → T (refined cs c)) → T (deactivated (labels p cs) f)
   unfolding refined
   label-i h = subst (λ n. T (eqb n 2)) (sym (getD-labels p cs f i)) (deactivated-i p cs f h)
 
   -- a function that is not deactivated has a cell that is not refined
-  not-label : (T (refined (labels p cs) f) → ⊥) → (c : ℕ) × (c < cellTotal p) × T (supported p f c) × (T (refined cs c) → ⊥)
+  not-label : (T (deactivated (labels p cs) f) → ⊥) → (c : ℕ) × (c < cellTotal p) × T (supported p f c) × (T (refined cs c) → ⊥)
   not-label n =
       let test : ℕ → Bool = λ c. supported p f c && not (refined cs c) in
       cases (some (cellTotal p) test)
@@ -67,7 +67,7 @@ module _ (p : Plan) (cs : List ℕ) (f : ℕ) (i : f < functionTotal p) where
       let z : _≡_ {A = ℕ} 0 1 = rw e at o in
       omega arith
 
-  active-not : T (active (labels p cs) f) → T (refined (labels p cs) f) → ⊥
+  active-not : T (active (labels p cs) f) → T (deactivated (labels p cs) f) → ⊥
   unfolding active refined
   active-not a r = omega (arith, eqb→eq (getD (labels p cs) f 0) 1 a, eqb→eq (getD (labels p cs) f 0) 2 r)
 
@@ -83,15 +83,10 @@ present-active p cs G c i a r = go (getD cs c 0) (byte-at-most p cs G c i) a r
     go (suc (suc (suc n))) h a r = absurd (omega arith)
 
 changed-bits : (a b : Bool) → (T a → T b) → T (not (Bool·beq a b)) → T b × (T a → ⊥)
-changed-bits true true h t = absurd t
-changed-bits true false h t = absurd (h tt)
-changed-bits false true h t = (tt, λ u. u)
-changed-bits false false h t = absurd t
+changed-bits a b h t = let u : T (b && not a) = subst T (differs a b h) t in (and-l b _ u, not-e a (and-r b _ u))
 
 bits-changed : (a b : Bool) → T b → (T a → ⊥) → T (not (Bool·beq a b))
-bits-changed true b t n = absurd (n tt)
-bits-changed false true t n = tt
-bits-changed false false t n = t
+bits-changed a b t n = subst T (sym (differs a b (λ u. absurd (n u)))) (and-i b (not a) t (not-i a n))
 
 -- ---- an accepted refinement by functions in class 0
 
@@ -118,12 +113,12 @@ module _ (p : Plan) (zero-class : p .class ≡ 0) (cs marks : List ℕ) (G : Goo
   stays : (c : ℕ) → c < cellTotal p → T (refined cs c) → T (refined new c)
   stays c i r = subst T (sym (new-cells c i)) (or-l (refined cs c) (M c) r)
 
-  deactivated-stays : (f : ℕ) → f < functionTotal p → T (refined fs f) → T (refined fs′ f)
+  deactivated-stays : (f : ℕ) → f < functionTotal p → T (deactivated fs f) → T (deactivated fs′ f)
   deactivated-stays = deactivated-grow p cs new stays
 
   -- what was added was selected, and is reactivable
-  added-meant : (c : ℕ) → c < cellTotal p → T (refined new c) → (T (refined cs c) → ⊥) → T (M c)
-  added-meant c i t n = or-e (refined cs c) (M c) (subst T (new-cells c i) t) (λ r. absurd (n r)) (λ m. m)
+  added-selected : (c : ℕ) → c < cellTotal p → T (refined new c) → (T (refined cs c) → ⊥) → T (M c)
+  added-selected c i t n = or-e (refined cs c) (M c) (subst T (new-cells c i) t) (λ r. absurd (n r)) (λ m. m)
 
   added-reactivable : (c : ℕ) → c < cellTotal p → T (refined new c) → (T (refined cs c) → ⊥) → T (reactivable p new c)
   added-reactivable c i t n =
@@ -135,7 +130,7 @@ module _ (p : Plan) (zero-class : p .class ≡ 0) (cs marks : List ℕ) (G : Goo
       (subst (λ X. May coarsen H X c) (sym r) (changed-may H (lawful p (G .range)) (refined cs) M (G .admissible) (G .mesh) refine (may refine functions p cs fs marks G fit) c i u))
 
   -- a marked function is deactivated afterwards, and was not before
-  marked-done : (f : ℕ) → T (elem f marks) → (f < functionTotal p) × T (refined fs′ f) × (T (refined fs f) → ⊥)
+  marked-done : (f : ℕ) → T (elem f marks) → (f < functionTotal p) × T (deactivated fs′ f) × (T (deactivated fs f) → ⊥)
   unfolding eligible selected underMarked
   marked-done f m =
       let k = fit f m in
@@ -154,16 +149,16 @@ module _ (p : Plan) (zero-class : p .class ≡ 0) (cs marks : List ℕ) (G : Goo
   abbrev df : List ℕ
   df = changed (functionTotal p) fs fs′
 
-  df→ : (f : ℕ) → T (elem f df) → (f < functionTotal p) × T (refined fs′ f) × (T (refined fs f) → ⊥)
+  df→ : (f : ℕ) → T (elem f df) → (f < functionTotal p) × T (deactivated fs′ f) × (T (deactivated fs f) → ⊥)
   unfolding changed
   df→ f t =
-      let (i, u) = listed→ (functionTotal p) (λ x. not (Bool·beq (refined fs x) (refined fs′ x))) f t in
-      let (a, b) = changed-bits (refined fs f) (refined fs′ f) (deactivated-stays f i) u in
+      let (i, u) = listed→ (functionTotal p) (λ x. not (Bool·beq (deactivated fs x) (deactivated fs′ x))) f t in
+      let (a, b) = changed-bits (deactivated fs f) (deactivated fs′ f) (deactivated-stays f i) u in
       (i, a, b)
 
-  →df : (f : ℕ) → f < functionTotal p → T (refined fs′ f) → (T (refined fs f) → ⊥) → T (elem f df)
+  →df : (f : ℕ) → f < functionTotal p → T (deactivated fs′ f) → (T (deactivated fs f) → ⊥) → T (elem f df)
   unfolding changed
-  →df f i t n = →listed (functionTotal p) (λ x. not (Bool·beq (refined fs x) (refined fs′ x))) f i (bits-changed (refined fs f) (refined fs′ f) t n)
+  →df f i t n = →listed (functionTotal p) (λ x. not (Bool·beq (deactivated fs x) (deactivated fs′ x))) f i (bits-changed (deactivated fs f) (deactivated fs′ f) t n)
 
   df-fits : (f : ℕ) → T (elem f df) → Fits coarsen functions p new fs′ f
   unfolding eligible isTooDeep
@@ -172,55 +167,55 @@ module _ (p : Plan) (zero-class : p .class ≡ 0) (cs marks : List ℕ) (G : Goo
       let (c, j, s, o) = not-label p cs f i n in
       record {
         inside = i;
-        kind = and-i (refined fs′ f) _ a (some-i (cellTotal p) (λ c. supported p f c && reactivable p new c) c j
+        kind = and-i (deactivated fs′ f) _ a (some-i (cellTotal p) (λ c. supported p f c && reactivable p new c) c j
             (and-i (supported p f c) (reactivable p new c) s (added-reactivable c j (label-e p new f i a c j s) o)));
         shallow = λ t. t;
       }
 
   -- ---- the cells that the list means are the added ones (document 000, proposition 10)
 
-  abbrev back-meant : Cells
-  back-meant = selected coarsen functions p new fs′ df
+  abbrev back-selected : Cells
+  back-selected = selected coarsen functions p new fs′ df
 
-  added-back : (c : ℕ) → c < cellTotal p → T (refined new c) → (T (refined cs c) → ⊥) → T (back-meant c)
+  added-back : (c : ℕ) → c < cellTotal p → T (refined new c) → (T (refined cs c) → ⊥) → T (back-selected c)
   unfolding selected underMarked underKept
   added-back c j t n =
-      let (f, i, u) = some-e (functionTotal p) (λ f. elem f marks && supported p f c) (and-r (active cs c) _ (added-meant c j t n)) in
+      let (f, i, u) = some-e (functionTotal p) (λ f. elem f marks && supported p f c) (and-r (active cs c) _ (added-selected c j t n)) in
       let (i′, a, b) = marked-done f (and-l (elem f marks) _ u) in
-      let kept : ℕ → Bool = λ f. not (elem f df) && (refined fs′ f && supported p f c) in
+      let kept : ℕ → Bool = λ f. not (elem f df) && (deactivated fs′ f && supported p f c) in
       and-i (reactivable p new c) _ (added-reactivable c j t n)
       (and-i (underMarked p df c) _
       (some-i (functionTotal p) (λ f. elem f df && supported p f c) f i (and-i (elem f df) (supported p f c) (→df f i a b) (and-r (elem f marks) _ u)))
       (not-i (some (functionTotal p) kept) (λ w.
       let (g, k, v) = some-e (functionTotal p) kept w in
-      let x : T (refined fs′ g && supported p g c) = and-r (not (elem g df)) _ v in
-      n (label-e p cs g k (cases (refined fs g) (λ r. r) (λ r. absurd (not-e (elem g df) (and-l (not (elem g df)) _ v) (→df g k (and-l (refined fs′ g) _ x) (not-e (refined fs g) r)))))
-      c j (and-r (refined fs′ g) (supported p g c) x)))))
+      let x : T (deactivated fs′ g && supported p g c) = and-r (not (elem g df)) _ v in
+      n (label-e p cs g k (cases (deactivated fs g) (λ r. r) (λ r. absurd (not-e (elem g df) (and-l (not (elem g df)) _ v) (→df g k (and-l (deactivated fs′ g) _ x) (not-e (deactivated fs g) r)))))
+      c j (and-r (deactivated fs′ g) (supported p g c) x)))))
 
   module _ (K : T (covered p cs fs)) where
-    cover : (c : ℕ) → c < cellTotal p → T (refined cs c) → (g : ℕ) × (g < functionTotal p) × T (refined fs g) × T (supported p g c)
+    cover : (c : ℕ) → c < cellTotal p → T (refined cs c) → (g : ℕ) × (g < functionTotal p) × T (deactivated fs g) × T (supported p g c)
     unfolding covered
     cover c j r =
-        let (g, k, v) = some-e (functionTotal p) (λ f. refined fs f && supported p f c)
-        (implies-e (refined cs c) _ (every-e (cellTotal p) (λ c. implies (refined cs c) (some (functionTotal p) (λ f. refined fs f && supported p f c))) K c j) r) in
-        (g, k, and-l (refined fs g) _ v, and-r (refined fs g) (supported p g c) v)
+        let (g, k, v) = some-e (functionTotal p) (λ f. deactivated fs f && supported p f c)
+        (implies-e (refined cs c) _ (every-e (cellTotal p) (λ c. implies (refined cs c) (some (functionTotal p) (λ f. deactivated fs f && supported p f c))) K c j) r) in
+        (g, k, and-l (deactivated fs g) _ v, and-r (deactivated fs g) (supported p g c) v)
 
-    old-not-meant : (c : ℕ) → c < cellTotal p → T (refined cs c) → T (back-meant c) → ⊥
+    old-not-selected : (c : ℕ) → c < cellTotal p → T (refined cs c) → T (back-selected c) → ⊥
     unfolding selected underKept
-    old-not-meant c j r m =
+    old-not-selected c j r m =
         let (g, k, a, s) = cover c j r in
-        let kept : ℕ → Bool = λ f. not (elem f df) && (refined fs′ f && supported p f c) in
+        let kept : ℕ → Bool = λ f. not (elem f df) && (deactivated fs′ f && supported p f c) in
         not-e (some (functionTotal p) kept) (and-r (underMarked p df c) _ (and-r (reactivable p new c) _ m))
-        (some-i (functionTotal p) kept g k (and-i (not (elem g df)) _ (not-i (elem g df) (λ t. df→ g t .2 a)) (and-i (refined fs′ g) (supported p g c) (deactivated-stays g k a) s)))
+        (some-i (functionTotal p) kept g k (and-i (not (elem g df)) _ (not-i (elem g df) (λ t. df→ g t .2 a)) (and-i (deactivated fs′ g) (supported p g c) (deactivated-stays g k a) s)))
 
     pub functions-undoable : Undoable functions refine p cs new G N
     functions-undoable = record {
       fit = df-fits;
       back = λ c i. closure-is p zero-class cs G (put coarsen (refined new) (selected coarsen functions p new fs′ df)) c i
           ∙ same _ (refined cs c)
-          (λ t. cases (refined cs c) (λ r. r) (λ r. absurd (not-e (back-meant c) (and-r (refined new c) (not (back-meant c)) t)
+          (λ t. cases (refined cs c) (λ r. r) (λ r. absurd (not-e (back-selected c) (and-r (refined new c) (not (back-selected c)) t)
           (added-back c i (and-l (refined new c) _ t) (not-e (refined cs c) r)))))
-          (λ r. and-i (refined new c) _ (stays c i r) (not-i (back-meant c) (old-not-meant c i r)));
+          (λ r. and-i (refined new c) _ (stays c i r) (not-i (back-selected c) (old-not-selected c i r)));
     }
 
     -- the premise is kept
@@ -228,10 +223,10 @@ module _ (p : Plan) (zero-class : p .class ≡ 0) (cs marks : List ℕ) (G : Goo
     unfolding covered selected underMarked
     covered-kept = every-i (cellTotal p) _ (λ c j. implies-i (refined new c) _ (λ t. cases (refined cs c)
         (λ r. let (g, k, a, s) = cover c j r in
-        some-i (functionTotal p) (λ f. refined fs′ f && supported p f c) g k (and-i (refined fs′ g) (supported p g c) (deactivated-stays g k a) s))
-        (λ r. let (f, i, u) = some-e (functionTotal p) (λ f. elem f marks && supported p f c) (and-r (active cs c) _ (added-meant c j t (not-e (refined cs c) r))) in
-        some-i (functionTotal p) (λ f. refined fs′ f && supported p f c) f i
-        (and-i (refined fs′ f) (supported p f c) (marked-done f (and-l (elem f marks) _ u) .1) (and-r (elem f marks) _ u)))))
+        some-i (functionTotal p) (λ f. deactivated fs′ f && supported p f c) g k (and-i (deactivated fs′ g) (supported p g c) (deactivated-stays g k a) s))
+        (λ r. let (f, i, u) = some-e (functionTotal p) (λ f. elem f marks && supported p f c) (and-r (active cs c) _ (added-selected c j t (not-e (refined cs c) r))) in
+        some-i (functionTotal p) (λ f. deactivated fs′ f && supported p f c) f i
+        (and-i (deactivated fs′ f) (supported p f c) (marked-done f (and-l (elem f marks) _ u) .1) (and-r (elem f marks) _ u)))))
 
 -- ---- the run
 
