@@ -5,11 +5,9 @@ use borrow.Author.Needs.{needs}
 use Rattle.grid.proofs.Side.functions.Statement.{statement}
 use Rattle.grid.proofs.Side.functions.Tie as tie
 
--- src/lib.rt:102:9
 add-result : tie.Need-add-result
 add-result c = search needs
 
--- src/lib.rt:98:5
 returns : tie.Need-returns
 unfolding functions
 returns c = refl
