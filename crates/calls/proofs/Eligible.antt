@@ -7,7 +7,7 @@ use native.Mathlib.Omega.{arith}
 use lib.Dec.{eqb, ltb, leb, ltb→lt, leb→le}
 use lib.ListN.{length, getD}
 use Rattle.facts.specs.Bounded.{some}
-use Rattle.facts.specs.Numbers.{elem, first, tabulate, stored}
+use Rattle.facts.specs.Numbers.{first, tabulate, stored}
 use Rattle.facts.proofs.Tests.{T-false, cases, not-e}
 use Rattle.facts.proofs.Bounded.{some-same}
 use Rattle.facts.proofs.Numbers.{first-zero, length-tabulate, getD-tabulate, stored-is}

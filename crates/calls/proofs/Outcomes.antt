@@ -2,14 +2,14 @@
 use mathlib.Core.Path.{_≡_, refl, sym, ap, _∙_, subst}
 use mathlib.Core.Logic.{_≢_}
 use mathlib.Core.List.{List}
-use Prim.Native.Nat.{ℕ, _<_}
+use Prim.Native.Nat.{ℕ}
 use lib.Dec.{T, eqb, eqb→eq}
 use lib.ListN.{length}
 use Rattle.facts.specs.Numbers.{elem, first}
 use Rattle.facts.proofs.Tests.{T-true, T-false, eqb-of}
 use Rattle.facts.proofs.Numbers.{first-zero}
 use Rattle.grid.specs.declared.Plan.{Plan}
-use Rattle.grid.specs.Plan.{cellTotal, functionTotal}
+use Rattle.grid.specs.Plan.{functionTotal}
 use Rattle.grid.proofs.Totals.{functions-bound}
 use Rattle.mesh.specs.Mesh.{isMesh, labels, check}
 use Rattle.mesh.proofs.Bridge.{Good, check-good, is-mesh, length-labels}

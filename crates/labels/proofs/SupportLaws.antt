@@ -14,7 +14,7 @@ use Rattle.facts.proofs.Mapped.{run-in, mapped-at, filled-length}
 use Rattle.facts.proofs.Numbers.{getD-tabulate}
 use Rattle.facts.proofs.Ranges.{mid-len, written-same, written-part}
 use Rattle.grid.specs.declared.Plan.{Plan}
-use Rattle.grid.specs.Plan.{columnsAt, rowsAt, functionColumnsAt, functionRowsAt, functionOffset, cellTotal, functionTotal}
+use Rattle.grid.specs.Plan.{functionColumnsAt, functionRowsAt, functionOffset, cellTotal, functionTotal}
 use Rattle.mesh.specs.Mesh.{isMesh, cellFits, labelOf, labels, isLabelled}
 use Rattle.mesh.proofs.Bridge.{fits-e}
 use Rattle.mesh.proofs.Label.{label}

@@ -1,12 +1,12 @@
 -- `count_bytes` meets its contract. The invariant: the count is that of the numbers passed. Assumes nothing.
 use mathlib.Core.Path.{_≡_, sym, ap, _∙_}
 use mathlib.Core.Logic.{⊎-elim}
-use Prim.Native.Nat.{ℕ, _+_, _-_, _≤_}
+use Prim.Native.Nat.{_+_, _-_, _≤_}
 use native.Mathlib.Omega.{arith}
 use lib.ListN.{length}
 use borrow.Author.Needs.{needs}
 use Rattle.outcomes.specs.Calls.{changed}
-use Rattle.changes.proofs.Changes.{changed-none, changed-no, changed-longer}
+use Rattle.changes.proofs.Changes.{changed-no, changed-longer}
 use Rattle.changes.proofs.count_bytes.Statement.{statement}
 use Rattle.changes.proofs.count_bytes.Tie as tie
 

@@ -1,7 +1,7 @@
 -- `list_changed` meets its contract. The invariant: the list starts with the numbers passed that changed, and keeps its entries
 -- behind them. Assumes nothing.
-use mathlib.Core.Path.{_≡_, refl, sym, ap, _∙_}
-use Prim.Native.Nat.{ℕ, _-_, _≤_}
+use mathlib.Core.Path.{_≡_, refl, sym, ap}
+use Prim.Native.Nat.{_-_, _≤_}
 use native.Mathlib.Omega.{arith}
 use lib.ListN.{length}
 use Rattle.outcomes.specs.Calls.{changed, written}
