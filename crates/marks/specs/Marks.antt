@@ -29,13 +29,13 @@ unmarked byte = cond (eqb byte 2) 0 2
 abbrev pub unmarkedAt : List ℕ → ℕ → ℕ
 unmarkedAt table x = unmarked (getD table x 0)
 
--- 1 where it is marked
+-- what each number of a table weighs: 1 where it is marked
 abbrev pub weighed : ℕ → List ℕ → List ℕ → List ℕ
 weighed n table marks = tabulate n (λ x. cond (elem x marks) 1 (cond (eqb (getD table x 0) 2) 0 2))
 
 -- 1 where both are 1
 abbrev pub common : ℕ → ℕ → ℕ
-common kind over = cond (eqb kind 1 && eqb over 1) 1 0
+common a b = cond (eqb a 1 && eqb b 1) 1 0
 
 abbrev pub commonAt : List ℕ → List ℕ → ℕ → ℕ
-commonAt kinds over x = common (getD kinds x 0) (getD over x 0)
+commonAt flags table x = common (getD flags x 0) (getD table x 0)

@@ -78,25 +78,25 @@ pub fn weigh(table: &[u8], marks: &[u32], out: &mut [u8])
     flag(marks, out);
 }
 
-fn common_of(kind: u8, over: u8) -> u8
-    ensures { λ r. ⌜ r ≡ common kind over ⌝ }
+fn common_of(a: u8, b: u8) -> u8
+    ensures { λ r. ⌜ r ≡ common a b ⌝ }
 {
-    if kind == 1 {
-        if over == 1 {
+    if a == 1 {
+        if b == 1 {
             return 1;
         }
     }
     0
 }
 
-// Of the numbers that have byte 1, those keep it that have byte 1 in the other table too.
-pub fn keep(over: &[u8], kinds: &mut [u8])
-    requires { ⌜ length (now over) ≡ length (now kinds) ⌝ }
-    ensures { λ _. ⌜ now (kinds .exit) ≡ tabulate (length (now (kinds .entry))) (commonAt (now (kinds .entry)) (now (over .entry))) ⌝ }
+// Of the numbers that are flagged, those stay so that have byte 1 in a table too.
+pub fn keep(table: &[u8], flags: &mut [u8])
+    requires { ⌜ length (now table) ≡ length (now flags) ⌝ }
+    ensures { λ _. ⌜ now (flags .exit) ≡ tabulate (length (now (flags .entry))) (commonAt (now (flags .entry)) (now (table .entry))) ⌝ }
 {
     let mut i = 0;
-    while i < kinds.len() {
-        kinds[i] = common_of(kinds[i], over[i]);
+    while i < flags.len() {
+        flags[i] = common_of(flags[i], table[i]);
         i += 1;
     }
 }

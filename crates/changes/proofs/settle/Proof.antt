@@ -55,7 +55,9 @@ take-over-requires c κs = search needs
 
 -- the new bytes are the labels of the cells as they are settled
 relabel-requires : tie.Need-relabel-requires
-relabel-requires c κs = (c .before .before .before .before .before .before .before .before .before .before .before .before .before .before .before .before .before .before .before .before .before .before .pre .0 ∙ ap (labels (c .before .before .before .before .before .before .before .before .before .before .before .before .before .before .before .before .before .before .before .before .before .before .args .plan)) (sym (c .before .before .before .before .before .before .before .take-over .ensures .bytes)), search needs)
+relabel-requires c κs =
+    let s = c .before .before .before .before .before .before .before .before .before .before .before .before .before .before .before .before .before .before .before .before .before .before in
+    (s .pre .0 ∙ ap (labels (s .args .plan)) (sym (c .before .before .before .before .before .before .before .take-over .ensures .bytes)), search needs)
 
 cast-t27 : tie.Need-cast-t27
 cast-t27 c = omega (arith, counts-small (counted (c .before .before .before .before .before .before .before .before .before .before .before .before .before .before .before .before .before)))
@@ -84,7 +86,8 @@ returns-3 c =
     let u = c .before .before .before .before .relabel .ensures in
     -- the labels of the settled cells are the new bytes
     let e = ap (labels (s .args .plan)) (t .bytes) ∙ sym (s .pre .0) in
-    accepts k (c .before .before .before .before .before .before .before .before .before .before .before .before .before .before .before .before .if1 .left) (c .before .before .before .before .before .before .before .before .before .before .before .before .before .before .before .if2 .left) (t .listed) (u .listed ∙ ap (λ (n : List ℕ). written (changed (length fs) fs n) (s .args .function-list .now)) e) (t .bytes) (u .bytes ∙ e)
+    accepts k (c .before .before .before .before .before .before .before .before .before .before .before .before .before .before .before .before .if1 .left) (c .before .before .before .before .before .before .before .before .before .before .before .before .before .before .before .if2 .left) (t .listed)
+    (u .listed ∙ ap (λ (n : List ℕ). written (changed (length fs) fs n) (s .args .function-list .now)) e) (t .bytes) (u .bytes ∙ e)
 
 pub settle-spec : {M : Type 1} → statement M
 settle-spec =

@@ -30,9 +30,10 @@ verdict-of-requires c κs = search needs
 
 returns : tie.Need-returns Inv-loop μ-loop
 returns c =
+    let a = c .before .before .before .before .before .before .before .args in
     let at = c .before .before .before .before .loop in
     c .before .verdict-of .ensures
-    ∙ sym (at .inv .1 ∙ first-stop (verdict (c .before .before .before .before .before .before .before .args .kinds .now) (c .before .before .before .before .before .before .before .args .deep)) (c .before .before .before .before .before .before .before .args .marks .now) (at .i) (omega arith) (λ z. c .if1 .taken (c .before .verdict-of .ensures ∙ z)))
+    ∙ sym (at .inv .1 ∙ first-stop (verdict (a .kinds .now) (a .deep)) (a .marks .now) (at .i) (omega arith) (λ z. c .if1 .taken (c .before .verdict-of .ensures ∙ z)))
 
 add-i : tie.Need-add-i Inv-loop μ-loop
 add-i c = search needs
@@ -42,11 +43,14 @@ loop-less c = search needs
 
 loop-again : tie.Need-loop-again Inv-loop μ-loop
 loop-again c =
+    let a = c .before .before .before .before .before .before .before .args in
     let at = c .before .before .before .before .loop in
-    (omega arith, at .inv .1 ∙ first-skip (verdict (c .before .before .before .before .before .before .before .args .kinds .now) (c .before .before .before .before .before .before .before .args .deep)) (c .before .before .before .before .before .before .before .args .marks .now) (at .i) (omega arith) (sym (c .before .verdict-of .ensures) ∙ c .if1 .left))
+    (omega arith, at .inv .1 ∙ first-skip (verdict (a .kinds .now) (a .deep)) (a .marks .now) (at .i) (omega arith) (sym (c .before .verdict-of .ensures) ∙ c .if1 .left))
 
 returns-2 : tie.Need-returns-2 Inv-loop μ-loop
-returns-2 c = sym (c .before .loop .inv .1 ∙ first-end (verdict (c .before .before .before .before .args .kinds .now) (c .before .before .before .before .args .deep)) (c .before .before .before .before .args .marks .now) (c .before .loop .i) (omega arith))
+returns-2 c =
+    let a = c .before .before .before .before .args in
+    sym (c .before .loop .inv .1 ∙ first-end (verdict (a .kinds .now) (a .deep)) (a .marks .now) (c .before .loop .i) (omega arith))
 
 pub judge-spec : {M : Type 1} → statement M
 judge-spec =

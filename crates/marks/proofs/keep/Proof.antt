@@ -12,13 +12,13 @@ use Rattle.marks.proofs.keep.Statement.{statement}
 use Rattle.marks.proofs.keep.Tie as tie
 
 abbrev Inv-loop : tie.InvT-loop
-Inv-loop over kinds₀ i₀ kinds i = (i ≤ length kinds₀) × (length kinds ≡ length kinds₀) × (take i kinds ≡ tabulate i (commonAt kinds₀ over)) × ((x : ℕ) → i ≤ x → getD kinds x 0 ≡ getD kinds₀ x 0)
+Inv-loop table flags₀ i₀ flags i = (i ≤ length flags₀) × (length flags ≡ length flags₀) × (take i flags ≡ tabulate i (commonAt flags₀ table)) × ((x : ℕ) → i ≤ x → getD flags x 0 ≡ getD flags₀ x 0)
 
 abbrev μ-loop : tie.MeasureT-loop
-μ-loop over kinds₀ i₀ kinds i = length kinds₀ - i
+μ-loop table flags₀ i₀ flags i = length flags₀ - i
 
 loop-holds : tie.Need-loop-holds Inv-loop μ-loop
-loop-holds c = (search needs, refl, tabulate-none (c .before .before .args .kinds .now) _, λ x h. refl)
+loop-holds c = (search needs, refl, tabulate-none (c .before .before .args .flags .now) _, λ x h. refl)
 
 slice-read-common-of : tie.Need-slice-read-common-of Inv-loop μ-loop
 slice-read-common-of c = search needs
@@ -29,8 +29,8 @@ shared-slice-read-common-of c = search needs
 common-of-requires : tie.Need-common-of-requires Inv-loop μ-loop
 common-of-requires c κs = search needs
 
-slice-write-kinds : tie.Need-slice-write-kinds Inv-loop μ-loop
-slice-write-kinds c = search needs
+slice-write-flags : tie.Need-slice-write-flags Inv-loop μ-loop
+slice-write-flags c = search needs
 
 add-i : tie.Need-add-i Inv-loop μ-loop
 add-i c = search needs
@@ -44,9 +44,9 @@ loop-again c =
     let at = c .before .before .before .before .loop in (
       omega (arith, at .inv .0),
       rw length-set (at .inv .1),
-      tabulate-more (at .kinds) (commonAt (a .kinds .now) (a .over .now)) (at .i) _ (omega (arith, at .inv .0, at .inv .1))
-          (c .common-of .ensures ∙ ap (λ (n : ℕ). common n (getD (a .over .now) (at .i) 0)) (at .inv .3 (at .i) (omega arith))) (at .inv .2),
-      λ x h. getD-set-other (at .kinds) (at .i) x _ 0 (omega arith) ∙ at .inv .3 x (omega arith),
+      tabulate-more (at .flags) (commonAt (a .flags .now) (a .table .now)) (at .i) _ (omega (arith, at .inv .0, at .inv .1))
+          (c .common-of .ensures ∙ ap (λ (n : ℕ). common n (getD (a .table .now) (at .i) 0)) (at .inv .3 (at .i) (omega arith))) (at .inv .2),
+      λ x h. getD-set-other (at .flags) (at .i) x _ 0 (omega arith) ∙ at .inv .3 x (omega arith),
     )
 
 same-length : tie.Need-same-length Inv-loop μ-loop
@@ -56,7 +56,7 @@ returns : tie.Need-returns Inv-loop μ-loop
 returns c =
     let a = c .before .before .before .before .args in
     let at = c .before .loop in
-    tabulate-all _ (commonAt (a .kinds .now) (a .over .now)) (length (a .kinds .now)) (at .i) (at .inv .1) (at .inv .0) (omega arith) (at .inv .2)
+    tabulate-all _ (commonAt (a .flags .now) (a .table .now)) (length (a .flags .now)) (at .i) (at .inv .1) (at .inv .0) (omega arith) (at .inv .2)
 
 pub keep-spec : {M : Type 1} → statement M
 keep-spec =
@@ -68,7 +68,7 @@ keep-spec =
     slice-read-common-of
     shared-slice-read-common-of
     common-of-requires
-    slice-write-kinds
+    slice-write-flags
     add-i
     loop-less
     loop-again
