@@ -4,7 +4,7 @@ DESTDIR ?=
 ARCHIVE := target/staticlib/libwallmirror.a
 HEADER := include/wallmirror.h
 
-.PHONY: all test bench install clean
+.PHONY: all test bench pictures install clean
 
 # Proves the library and writes the archive; what has not changed is not proved again.
 all:
@@ -18,6 +18,11 @@ test:
 bench: all
 	cd rust && WALLMIRROR_LIB_DIR="$(CURDIR)/target/staticlib" CARGO_TARGET_DIR="$(CURDIR)/target/cargo" \
 		cargo run --release --offline --locked --quiet -p bench
+
+# The pictures in docs/, drawn anew.
+pictures:
+	docs/crates.sh > docs/crates.svg
+	docs/mesh.sh > docs/mesh.svg
 
 install: all
 	install -d "$(DESTDIR)$(PREFIX)/include" "$(DESTDIR)$(PREFIX)/lib"

@@ -8,17 +8,57 @@
  * In the words of the scope document a mesh is a wall, refining and coarsening are splitting and
  * joining, admissible of class m is graded, and reactivable is joinable.
  *
- * Cells are numbered from 0, level by level, row by row; functions likewise. Cell 5 and function 5
- * name different things.
- *
  * Every call takes any plan, tables and marks whatever and returns. What it cannot serve it refuses
  * with a number (WallmirrorRefusal), and then every table and list holds the bytes it held before.
+ *
+ * Cells. Level k has columns * 2^k columns and rows * 2^k rows of cells. They are numbered from 0,
+ * level by level, row by row. The cell at column c, row r has four children one level down, at
+ * columns 2c and 2c + 1 and rows 2r and 2r + 1.
+ *
+ * Functions. On a level of n columns, with degree_across p, there are n + p functions across;
+ * function i covers columns max(0, i - p) to min(n - 1, i). Up it is the same with the rows and
+ * degree_up. The support of a function is the rectangle of both, made of cells of its own level.
+ * Functions are numbered like cells, with n + p to a row. Cell 5 and function 5 name different
+ * things.
+ *
+ * Example: columns 3, rows 1, both degrees 1. Level 0 has cells 0 to 2 and two rows of four
+ * functions, 0 to 3 and 4 to 7; level 1 has cells 3 to 14, six to a row, and functions from 8 on,
+ * seven to a row. Function 1 covers cells 0 and 1, and so does function 5. The children of cell 0
+ * are 3, 4, 9, 10.
+ *
+ * Admissibility. In class m, not 0, a refined cell of level j with j - m + 1 at least 0 has a
+ * neighbourhood: the cells of level j - m + 1 whose column differs by at most degree_across, and
+ * row by at most degree_up, from those of its ancestor there. A mesh is admissible where the
+ * neighbourhood of every refined cell is refined. In class 0 every mesh is.
+ *
+ * Undo. Keep the lists of each call, cut to the answered lengths. To take a run of calls back, give
+ * the kept cell lists from the last call to the first, as marks, each to the opposite call by
+ * cells: wallmirror_coarsen_cells for either refining call, wallmirror_refine_cells for either
+ * coarsening one, with output lists at least as long as the kept ones. Every one of these is
+ * accepted and names the same cells and functions as the call it takes back, and both tables end as
+ * they began. A refused call has changed nothing and has lengths 0: its list is no marks at all,
+ * which is accepted and changes nothing. What is asked is that the first mesh passes
+ * wallmirror_check and that nothing else writes the tables. In class 0 a run of
+ * wallmirror_refine_functions alone may also be taken back by its function lists, from the last to
+ * the first, each given to wallmirror_coarsen_functions. This holds where on the first mesh each
+ * refined cell lies in the support of a deactivated function of its own level, as on a mesh just
+ * opened.
  *
  * Pointers. Each table, mark list and output list is a pointer and its number of entries. A null
  * pointer with length 0 is taken as an empty slice. With any other length the pointer must be
  * aligned for its type and lead to that many entries, readable, and writable where it is not const.
  * The tables and lists of one call must not overlap each other. So the cell list of an earlier call
  * may serve as marks, but not as the cell list of the same call too.
+ *
+ * Limits.
+ *   columns, rows                 1 to 16
+ *   levels                        1 to 8
+ *   degree_across, degree_up      1 to 4
+ *   admissibility_class           0, or 2 to 8
+ *   cells on all levels together  at most WALLMIRROR_MAX_CELLS
+ *   functions of such a plan      at most WALLMIRROR_MAX_FUNCTIONS
+ *   marks of a call               any number; their values are 32 bits
+ *   stack of a call               at most WALLMIRROR_STACK_BYTES
  */
 #ifndef WALLMIRROR_H
 #define WALLMIRROR_H
@@ -30,12 +70,21 @@
 extern "C" {
 #endif
 
+/* Of this header. */
+#define WALLMIRROR_VERSION_MAJOR 0
+#define WALLMIRROR_VERSION_MINOR 2
+#define WALLMIRROR_VERSION_PATCH 0
+#define WALLMIRROR_VERSION "0.2.0"
+
 /* The most cells a mesh may have on all levels together, and the most functions such a mesh has:
  * buffers of these sizes serve every plan. */
 #define WALLMIRROR_MAX_CELLS 21845
 #define WALLMIRROR_MAX_FUNCTIONS 26220
 
-/* The plan of a mesh, passed by value. */
+/* The most stack that any call takes, in bytes: what a thread must have left when it calls. */
+#define WALLMIRROR_STACK_BYTES 131072
+
+/* The plan of a mesh, passed by value. It is the same in every call on that mesh. */
 typedef struct WallmirrorPlan {
     uint32_t columns;             /* of level 0, 1 to 16 */
     uint32_t rows;                /* of level 0, 1 to 16 */
@@ -99,7 +148,8 @@ typedef struct WallmirrorCount {
     uint32_t area;             /* of the active cells, in cells of the last level */
 } WallmirrorCount;
 
-/* What a refining or coarsening call answers. After a refusal both lengths are 0. */
+/* What a refining or coarsening call answers. After a refusal both lengths are 0, which to the undo
+ * is a call with empty lists. */
 typedef struct WallmirrorAnswer {
     uint32_t number;    /* a WallmirrorRefusal */
     uint32_t cells;     /* how many entries of the cell list were written */
@@ -166,10 +216,7 @@ WallmirrorCount wallmirror_count(WallmirrorPlan plan,
  *   to the cell list the cells that became refined (refining) or ceased to be (coarsening),
  *   to the function list the functions that became deactivated, or ceased to be.
  * Entries past the answered lengths keep their values. They refuse 1 to 11 (coarsening never 9).
- *
- * A refining call is undone by wallmirror_coarsen_cells and a coarsening call by
- * wallmirror_refine_cells, with the cell list it wrote as marks; so is a whole run of calls, taken
- * from the last to the first.
+ * How a run of them is undone is said at the top.
  */
 
 /* Marks are active cells. The smallest admissible mesh of the plan's class in which the cells

@@ -1,8 +1,10 @@
 /*
- * The lengths that the header computes are those that the library takes, for every plan in range and
- * for the numbers just outside. The output is to be that of sizes.expected.
+ * The lengths that the header computes are those that the library takes, for every plan in range
+ * and for the numbers just outside, and its macros agree with each other. The output is to be that
+ * of sizes.expected.
  */
 #include <stdio.h>
+#include <string.h>
 
 #include "wallmirror.h"
 
@@ -32,9 +34,19 @@ static void try_plan(WallmirrorPlan plan)
         wrong++;
 }
 
+static void try_version(void)
+{
+    char version[40];
+    sprintf(version, "%d.%d.%d", WALLMIRROR_VERSION_MAJOR, WALLMIRROR_VERSION_MINOR,
+            WALLMIRROR_VERSION_PATCH);
+    if (strcmp(version, WALLMIRROR_VERSION) != 0)
+        wrong++;
+}
+
 int main(void)
 {
     WallmirrorPlan plan;
+    try_version();
     for (plan.columns = 0; plan.columns <= 17; plan.columns++)
         for (plan.rows = 0; plan.rows <= 17; plan.rows++)
             for (plan.levels = 0; plan.levels <= 9; plan.levels++)
@@ -46,5 +58,9 @@ int main(void)
     printf("%lu plans taken, %lu refused, %lu wrong\n", taken, refused, wrong);
     printf("at most %lu cells and %lu functions\n", (unsigned long)most_cells,
            (unsigned long)most_functions);
+    if (most_cells != WALLMIRROR_MAX_CELLS || most_functions != WALLMIRROR_MAX_FUNCTIONS)
+        wrong++;
+    printf("version %s, at most %lu bytes of stack\n", WALLMIRROR_VERSION,
+           (unsigned long)WALLMIRROR_STACK_BYTES);
     return wrong != 0;
 }

@@ -1,4 +1,4 @@
+pub mod Examples
 pub mod Points
 pub mod Regions
-pub mod Basis
-pub mod Worked
+pub mod Published

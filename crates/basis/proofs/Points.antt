@@ -7,8 +7,7 @@ use mathlib.Core.Path.{_≡_}
 use lib.Pow.{pow-add}
 use Rattle.grid.specs.declared.Plan.{Plan}
 use Rattle.grid.specs.declared.Place.{Place}
-use Rattle.grid.specs.Plan.{ratio, grown, columnsAt, rowsAt, above, ancestor}
-use Rattle.grid.proofs.Numbering.{Inside}
+use Rattle.grid.specs.Plan.{ratio, grown, columnsAt, rowsAt, CellInside, above, ancestor}
 use Rattle.grid.proofs.Laws.{ratio-pos}
 use Rattle.basis.specs.Basis.{finest, cellOver}
 
@@ -41,15 +40,12 @@ module _ (p : Plan) where
     pub row< : y < rowsAt p (finest p)
     pub column< : x < columnsAt p (finest p)
 
-  abbrev In : Place → Type 0
-  In = Inside (columnsAt p) (rowsAt p) (p .levels)
-
   module _ (k : ℕ) (b : k < p .levels) where
     split : k + (finest p - k) ≡ finest p
     unfolding finest
     split = omega arith
 
-    pub over-in : (y x : ℕ) → Point y x → In (cellOver p k y x)
+    pub over-in : (y x : ℕ) → Point y x → CellInside p (cellOver p k y x)
     unfolding cellOver ancestor
     over-in y x i = record {
       level< = b;
@@ -75,7 +71,7 @@ module _ (p : Plan) where
     pub point : Point row column
     pub over : cellOver p (c .level) row column ≡ c
 
-  pub point-of : (c : Place) → In c → PointOf c
+  pub point-of : (c : Place) → CellInside p c → PointOf c
   unfolding cellOver ancestor
   point-of c i = record {
     row = c .row * ratio p ^ d;

@@ -1,28 +1,25 @@
 -- The regions of a mesh: Ω_k is the union of its cells of level k, so the regions shrink and the last one is empty (document 000,
 -- definition 1); a function's support lies in a region where its cells do. Assumes nothing.
-use Prim.Native.Nat.{ℕ, zero, suc, _+_, _-_, _<_, _≤_}
+use Prim.Native.Nat.{ℕ, zero, suc, _<_, _≤_}
 use native.Mathlib.Nat.{eq-or-lt-of-le, le-of-suc-le-suc}
 use native.Mathlib.Omega.{arith}
 use mathlib.Core.Bool.{Bool, not}
 use mathlib.Core.List.{List}
 use mathlib.Core.Logic.{⊎-elim}
 use mathlib.Core.Path.{_≡_, refl, ap, sym}
-use lib.Dec.{T, leb, eqb, eqb→eq, le→leb}
+use lib.Dec.{T, eqb→eq}
 use lib.ListN.{getD}
 use Rattle.facts.specs.Bounded.{implies, every}
-use Rattle.facts.proofs.Tests.{and-i, and-l, eqb-of, implies-i, implies-e, T-true}
+use Rattle.facts.proofs.Tests.{implies-i, implies-e, T-true}
 use Rattle.facts.proofs.Bounded.{every-i, every-e}
 use Rattle.grid.specs.declared.Plan.{Plan}
 use Rattle.grid.specs.declared.Place.{Place}
-use Rattle.grid.specs.Plan.{ratio, columnsAt, rowsAt, cellTotal, functionTotal, cellPlace, cellNumber, cellLevel, functionPlace, functionLevel, parent, supportedAt, supported}
+use Rattle.grid.specs.Plan.{columnsAt, rowsAt, cellTotal, functionTotal, cellPlace, cellNumber, cellLevel, functionLevel, parent, supported}
 use Rattle.grid.specs.Range.{InRange}
-use Rattle.grid.proofs.Numbering as numbering
-use Rattle.grid.proofs.Numbering.{Inside}
-use Rattle.grid.proofs.Direction.{grown-pos}
-use Rattle.grid.proofs.Laws.{ratio-pos, cell-inside, function-inside, parent-lt, parent-level, is-child}
-use Rattle.grid.proofs.Spans.{support-some}
-use Rattle.mesh.specs.Mesh.{absent, refined, cellFits, isMesh}
-use Rattle.mesh.proofs.Bridge.{CellFits, fits-e}
+use Rattle.grid.proofs.Laws.{cell-inside, function-inside, cell-number-place, cell-place-number, cell-number-lt, parent-lt, parent-level, is-child}
+use Rattle.grid.proofs.Spans.{supported-places, support-some}
+use Rattle.mesh.specs.Mesh.{absent, refined, isMesh}
+use Rattle.mesh.proofs.Bridge.{mesh-fits}
 use Rattle.basis.specs.Basis.{finest, cellOver, inSupport, inRegion, insideRegion}
 use Rattle.basis.proofs.Points.{Point, over-in, over-above, point-of}
 
@@ -30,28 +27,13 @@ refined-present : (cells : List ℕ) (c : ℕ) → T (refined cells c) → T (no
 unfolding refined absent
 refined-present cells c t = rw (eqb→eq (getD cells c 0) 2 t) tt
 
-supported-level : (p : Plan) (f c : Place) → T (supportedAt p f c) → f .level ≡ c .level
-unfolding supportedAt
-supported-level p f c t = eqb→eq (f .level) (c .level) (and-l (eqb (f .level) (c .level)) _ t)
-
-module _ (p : Plan) (range : InRange p) where
-  columns-pos : (k : ℕ) → 0 < columnsAt p k
-  columns-pos k = grown-pos (ratio p) (ratio-pos p) (p .columns) k (range .columns≥)
-
-  number-of : (c : ℕ) → c < cellTotal p → cellNumber p (cellPlace p c) ≡ c
-  number-of c b = numbering.number-place _ _ columns-pos (p .levels) c b
-
 module _ (p : Plan) (range : InRange p) (cells : List ℕ) (mesh : T (isMesh p cells)) where
-  fits : (c : ℕ) → c < cellTotal p → CellFits p cells c
-  unfolding isMesh
-  fits c b = fits-e p cells c (every-e (cellTotal p) (cellFits p cells) mesh c b)
-
   -- a cell is there just where its parent is refined
   present-is : (c : ℕ) → c < cellTotal p → 0 < cellLevel p c → not (absent cells c) ≡ refined cells (parent p c)
   present-is c b z =
       let l : suc (cellLevel p (parent p c)) < p .levels = omega (arith, parent-level p range c b z, cell-inside p range c b .level<) in
       let k = is-child p range c b z in
-      rw (k .4) at (fits (parent p c) (parent-lt p range c b z) .below l (k .0) (k .1) (k .2) (k .3))
+      rw (k .4) at (mesh-fits p cells mesh (parent p c) (parent-lt p range c b z) .below l (k .0) (k .1) (k .2) (k .3))
 
   -- ---- regions
 
@@ -60,10 +42,10 @@ module _ (p : Plan) (range : InRange p) (cells : List ℕ) (mesh : T (isMesh p c
     cell k = cellNumber p (cellOver p k y x)
 
     pub cell-lt : (k : ℕ) → k < p .levels → cell k < cellTotal p
-    cell-lt k b = numbering.number-lt _ _ _ _ (over-in p k b y x pt)
+    cell-lt k b = cell-number-lt p range _ (over-in p k b y x pt)
 
     pub cell-place : (k : ℕ) → k < p .levels → cellPlace p (cell k) ≡ cellOver p k y x
-    cell-place k b = numbering.place-number _ _ _ _ (over-in p k b y x pt)
+    cell-place k b = cell-place-number p range _ (over-in p k b y x pt)
 
     cell-level : (k : ℕ) → k < p .levels → cellLevel p (cell k) ≡ k
     unfolding cellOver
@@ -76,7 +58,7 @@ module _ (p : Plan) (range : InRange p) (cells : List ℕ) (mesh : T (isMesh p c
     -- Ω_k is made of the cells of level k that are there, and Ω_(k+1) of the refined ones
     pub region-present : (k : ℕ) → k < p .levels → inRegion p cells k y x ≡ not (absent cells (cell k))
     unfolding inRegion
-    region-present zero b = sym (T-true _ (fits (cell 0) (cell-lt 0 b) .first (cell-level 0 b)))
+    region-present zero b = sym (T-true _ (mesh-fits p cells mesh (cell 0) (cell-lt 0 b) .first (cell-level 0 b)))
     region-present (suc k) b =
         let z : 0 < cellLevel p (cell (suc k)) = omega (arith, cell-level (suc k) b) in
         rw (present-is (cell (suc k)) (cell-lt (suc k) b) z, cell-parent k b)
@@ -98,7 +80,7 @@ module _ (p : Plan) (range : InRange p) (cells : List ℕ) (mesh : T (isMesh p c
     pub region-empty : (k : ℕ) → suc k ≡ p .levels → ¬ T (inRegion p cells (suc k) y x)
     region-empty k e t =
         let b : k < p .levels = omega arith in
-        fits (cell k) (cell-lt k b) .shallow (rw (region-refined k) at t) (omega (arith, cell-level k b))
+        mesh-fits p cells mesh (cell k) (cell-lt k b) .shallow (rw (region-refined k) at t) (omega (arith, cell-level k b))
 
   -- ---- supports
 
@@ -131,7 +113,7 @@ module _ (p : Plan) (range : InRange p) (cells : List ℕ) (mesh : T (isMesh p c
     never-inside k e t =
         let (c, l, s) = support-some p range f b in
         let w = point-of p (cellPlace p c) (cell-inside p range c l) in
-        let o : cellOver p own (w .row) (w .column) ≡ cellPlace p c = rw (supported-level p (functionPlace p f) (cellPlace p c) s) (w .over) in
+        let o : cellOver p own (w .row) (w .column) ≡ cellPlace p c = rw (supported-places p range f c l s .level) (w .over) in
         e (w .row) (w .column) (w .point) (inside-e k t (w .row) (w .column) (w .point) (rw o s))
 
     -- where the region is told by a test of the cells of f's level, f lies inside if the cells of its support pass, and only then
@@ -141,9 +123,9 @@ module _ (p : Plan) (range : InRange p) (cells : List ℕ) (mesh : T (isMesh p c
       unfolding supported inSupport
       inside-cells t c l s =
           let w = point-of p (cellPlace p c) (cell-inside p range c l) in
-          let o : cellOver p own (w .row) (w .column) ≡ cellPlace p c = rw (supported-level p (functionPlace p f) (cellPlace p c) s) (w .over) in
+          let o : cellOver p own (w .row) (w .column) ≡ cellPlace p c = rw (supported-places p range f c l s .level) (w .over) in
           let r = inside-e k t (w .row) (w .column) (w .point) (rw o s) in
-          rw (told (w .row) (w .column) (w .point), o, number-of p range c l) at r
+          rw (told (w .row) (w .column) (w .point), o, cell-number-place p range c l) at r
 
       pub cells-inside : ((c : ℕ) → c < cellTotal p → T (supported p f c) → T (test c)) → T (insideRegion p cells f k)
       unfolding supported inSupport

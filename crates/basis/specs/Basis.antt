@@ -4,13 +4,13 @@ use mathlib.Core.Bool.{Bool, true, not, _&&_, _||_}
 use mathlib.Core.List.{List}
 use mathlib.Core.Logic.{_↔_}
 use mathlib.Core.Path.{_≡_}
-use Prim.Native.Nat.{ℕ, zero, suc, _-_, _<_}
+use Prim.Native.Nat.{ℕ, zero, suc, _-_, _<_, _≤_}
 use lib.Dec.{T, eqb}
 use Rattle.facts.specs.Bounded.{implies, every}
 use Rattle.grid.specs.declared.Plan.{Plan}
 use Rattle.grid.specs.declared.Place.{Place}
 use Rattle.grid.specs.Plan.{columnsAt, rowsAt, cellNumber, functionPlace, functionLevel, supportedAt, ancestor}
-use Rattle.mesh.specs.Mesh.{refined, labelOf}
+use Rattle.mesh.specs.Mesh.{refined}
 
 -- Regions and supports are made of whole cells of different levels, so they are compared by points: a point is a cell of the last
 -- level's grid, at row y and column x. It lies in just one cell of each level.
@@ -69,8 +69,9 @@ pub record Subdomains (p : Plan) (cells : List ℕ) : Type 0 where
       → T (inRegion p cells (suc k) y x) → T (inRegion p cells k y x)
   pub empty : Empty p cells (p .levels)
 
--- The label of f is the one that the published basis gives it
-pub record Published (p : Plan) (cells : List ℕ) (f : ℕ) : Type 0 where
-  pub active : (labelOf p cells f ≡ 1) ↔ T (activeFunction p cells f)
-  pub deactivated : (labelOf p cells f ≡ 2) ↔ T (deactivatedFunction p cells f)
-  pub passive : (labelOf p cells f ≡ 0) ↔ T (passiveFunction p cells f)
+-- The byte of f says what f is in the published basis over the cells: 1 active, 2 deactivated, 0 passive, and it is no other
+pub record Published (p : Plan) (cells : List ℕ) (f byte : ℕ) : Type 0 where
+  pub active : (byte ≡ 1) ↔ T (activeFunction p cells f)
+  pub deactivated : (byte ≡ 2) ↔ T (deactivatedFunction p cells f)
+  pub passive : (byte ≡ 0) ↔ T (passiveFunction p cells f)
+  pub no-other : byte ≤ 2

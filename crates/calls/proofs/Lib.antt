@@ -1,1 +1,4 @@
+pub mod LastLevel
+pub mod Eligible
+pub mod Flags
 pub mod Outcomes

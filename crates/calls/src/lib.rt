@@ -9,16 +9,15 @@ ghost use mathlib.Core.Path.{_≡_};
 ghost use mathlib.Core.List.{List};
 ghost use Prim.Native.Nat.{ℕ, _≤_};
 ghost use lib.ListN.{length};
+ghost use Rattle.grid.specs.Bounds.{mostCells};
 ghost use Rattle.grid.specs.Plan.{cellTotal, functionTotal};
 ghost use Rattle.grid.specs.Range.{InRange};
-ghost use Rattle.mesh.specs.Mesh.{check};
+ghost use Rattle.mesh.specs.Mesh.{labels, check};
 ghost use Rattle.outcomes.specs.Calls as calls;
-ghost use Rattle.outcomes.specs.Calls.{outcome, smallest, base};
-ghost use Rattle.outcomes.specs.Contracts.{Meets};
-ghost use Rattle.closure.specs.Walk.{flagged};
+ghost use Rattle.outcomes.specs.Calls.{settle, outcome};
+ghost use Rattle.outcomes.specs.Contracts.{left, Meets};
 ghost use Rattle.closure.specs.Ready.{Ready};
-ghost use Rattle.calls.specs.Parts.{directionOf, byOf, Eligible, Bytes, Scratch, Flags};
-ghost use Rattle.grid.specs.Bounds.{mostCells};
+ghost use Rattle.calls.specs.Parts.{directionOf, byOf, Eligible, Kept, Scratch, Flags, renewed, Applicable};
 
 // Which way a call goes.
 pub enum Direction {
@@ -32,12 +31,14 @@ pub enum By {
     Functions,
 }
 
+// One of the four calls.
+pub struct Call(pub Direction, pub By);
+
 // Gives byte 1 to the cells that may be marked: the active ones, or the reactivable ones. Answers the first number that is too deep.
 fn eligible_cells(direction: Direction, plan: Plan, cells: &[u8], kinds: &mut [u8]) -> u32
     requires { ⌜ InRange plan ⌝ }
     requires { ⌜ (length (now cells) ≡ cellTotal plan) × (length (now kinds) ≡ cellTotal plan) ⌝ }
     ensures { λ r. ⌜ ((fs : List ℕ) → Eligible (directionOf direction) calls.cells plan (now (cells .entry)) fs r (now (kinds .exit))) ⌝ }
-    ensures { λ _. ⌜ Bytes (directionOf direction) plan (now (kinds .exit)) ⌝ }
 {
     match direction {
         Direction::Refine => {
@@ -45,23 +46,25 @@ fn eligible_cells(direction: Direction, plan: Plan, cells: &[u8], kinds: &mut [u
             plan.cell_offset(plan.levels - 1)
         }
         Direction::Coarsen => {
-            cover::reactivable_cells(plan, cells, kinds);
+            nesting::reactivable_cells(plan, cells, kinds);
             plan.cell_total()
         }
     }
 }
 
-// The same of functions: the active ones, or the deactivated ones with a reactivable cell, which has byte 1 in `over`.
+// The same of functions: the active ones, or the deactivated ones with a reactivable cell, for which `scratch` is used.
 fn eligible_functions(
     direction: Direction,
     plan: Plan,
+    cells: &[u8],
     functions: &[u8],
-    over: &[u8],
+    scratch: &mut [u8],
     kinds: &mut [u8],
 ) -> u32
     requires { ⌜ (InRange plan) × (cellTotal plan ≤ mostCells) ⌝ }
-    requires { ⌜ (length (now functions) ≡ functionTotal plan) × (Bytes (directionOf direction) plan (now over)) × (length (now kinds) ≡ functionTotal plan) ⌝ }
-    ensures { λ r. ⌜ ((cs : List ℕ) (n : ℕ) → Eligible (directionOf direction) calls.cells plan cs (now (functions .entry)) n (now (over .entry)) → Eligible (directionOf direction) calls.functions plan cs (now (functions .entry)) r (now (kinds .exit))) ⌝ }
+    requires { ⌜ (length (now cells) ≡ cellTotal plan) × (length (now functions) ≡ functionTotal plan) ⌝ }
+    requires { ⌜ Scratch plan (now scratch) (now kinds) ⌝ }
+    ensures { λ r. ⌜ Eligible (directionOf direction) calls.functions plan (now (cells .entry)) (now (functions .entry)) r (now (kinds .exit)) ⌝ }
 {
     match direction {
         Direction::Refine => {
@@ -69,56 +72,100 @@ fn eligible_functions(
             plan.function_offset(plan.levels - 1)
         }
         Direction::Coarsen => {
-            cover::coarsenable_functions(plan, functions, over, kinds);
+            nesting::reactivable_cells(plan, cells, scratch);
+            cover::coarsenable_functions(plan, functions, scratch, kinds);
             plan.function_total()
         }
     }
 }
 
-// Judges the marks and flags the cells that they mean. By functions: of the cells that may be marked, those over which the least
-// weight is 1, where a marked function weighs 1, a deactivated one that is not marked 0, and any other 2.
-fn flag_marks(
+// Of the cells that may be marked, those with byte 1 in `flags` keep it. Their table is made again here, and not kept from before: so it
+// takes no room while the functions are weighed.
+fn keep_eligible(direction: Direction, plan: Plan, cells: &[u8], flags: &mut [u8])
+    requires { ⌜ (InRange plan) × (cellTotal plan ≤ mostCells) ⌝ }
+    requires { ⌜ (length (now cells) ≡ cellTotal plan) × (length (now flags) ≡ cellTotal plan) ⌝ }
+    ensures { λ _. ⌜ Kept (directionOf direction) plan (now (cells .entry)) (now (flags .entry)) (now (flags .exit)) ⌝ }
+{
+    let total = plan.cell_total() as usize;
+    let mut room = [0u8; MOST_CELLS];
+    let kinds = &mut room[..total];
+    eligible_cells(direction, plan, cells, kinds);
+    marks::keep(kinds, flags);
+}
+
+// Judges marks that are cells, and flags them.
+fn flag_cells(
     direction: Direction,
-    by: By,
+    plan: Plan,
+    cells: &[u8],
+    marks: &[u32],
+    flags: &mut [u8],
+) -> u32
+    requires { ⌜ InRange plan ⌝ }
+    requires { ⌜ (length (now cells) ≡ cellTotal plan) × (length (now flags) ≡ cellTotal plan) ⌝ }
+    ensures { λ r. ⌜ ((fs : List ℕ) → Flags (directionOf direction) calls.cells plan (now (cells .entry)) fs (now (marks .entry)) r (now (flags .exit))) ⌝ }
+{
+    let deep = eligible_cells(direction, plan, cells, flags);
+    let number = marks::judge(flags, deep, marks);
+    if number != 0 {
+        return number;
+    }
+    marks::weigh(cells, marks, flags);
+    0
+}
+
+// Judges marks that are functions, and flags the cells that they mean: of the cells that may be marked, those over which the least weight
+// is 1, where a marked function weighs 1, a deactivated one that is not marked 0, and any other 2.
+fn flag_functions(
+    direction: Direction,
     plan: Plan,
     cells: &[u8],
     functions: &[u8],
     marks: &[u32],
     flags: &mut [u8],
-    over: &mut [u8],
     values: &mut [u8],
 ) -> u32
     requires { ⌜ check plan (now cells) (now functions) ≡ 0 ⌝ }
-    requires { ⌜ Scratch plan (now flags) (now over) (now values) ⌝ }
-    ensures { λ r. ⌜ Flags (directionOf direction) (byOf by) plan (now (cells .entry)) (now (functions .entry)) (now (marks .entry)) r (now (flags .exit)) ⌝ }
+    requires { ⌜ Scratch plan (now flags) (now values) ⌝ }
+    ensures { λ r. ⌜ Flags (directionOf direction) calls.functions plan (now (cells .entry)) (now (functions .entry)) (now (marks .entry)) r (now (flags .exit)) ⌝ }
 {
-    let deep = eligible_cells(direction, plan, cells, flags);
-    match by {
-        By::Cells => {
-            let number = marks::judge(flags, deep, marks);
-            if number != 0 {
-                return number;
-            }
-            marks::weigh(cells, marks, flags);
-        }
-        By::Functions => {
-            let last = eligible_functions(direction, plan, functions, flags, values);
-            let number = marks::judge(values, last, marks);
-            if number != 0 {
-                return number;
-            }
-            marks::weigh(functions, marks, values);
-            cover::cover(plan, values, over);
-            marks::keep(over, flags);
-        }
+    let deep = eligible_functions(direction, plan, cells, functions, flags, values);
+    let number = marks::judge(values, deep, marks);
+    if number != 0 {
+        return number;
     }
+    marks::weigh(functions, marks, values);
+    cover::cover(plan, values, flags);
+    keep_eligible(direction, plan, cells, flags);
     0
 }
 
+// Judges the marks, and flags the cells that they mean.
+fn flag_marks(
+    call: Call,
+    plan: Plan,
+    cells: &[u8],
+    functions: &[u8],
+    marks: &[u32],
+    flags: &mut [u8],
+    values: &mut [u8],
+) -> u32
+    requires { ⌜ check plan (now cells) (now functions) ≡ 0 ⌝ }
+    requires { ⌜ Scratch plan (now flags) (now values) ⌝ }
+    ensures { λ r. ⌜ Flags (directionOf (call .0)) (byOf (call .1)) plan (now (cells .entry)) (now (functions .entry)) (now (marks .entry)) r (now (flags .exit)) ⌝ }
+{
+    let direction = call.0;
+    let by = call.1;
+    match by {
+        By::Cells => flag_cells(direction, plan, cells, marks, flags),
+        By::Functions => { flag_functions(direction, plan, cells, functions, marks, flags, values) }
+    }
+}
+
 // The smallest admissible mesh with the flagged cells refined, or without them.
-fn turn(direction: Direction, plan: Plan, cells: &mut [u8], flags: &[u8])
+fn renew(direction: Direction, plan: Plan, cells: &mut [u8], flags: &[u8])
     requires { ⌜ Ready (directionOf direction) plan (now cells) (now flags) ⌝ }
-    ensures { λ _. ⌜ now (cells .exit) ≡ smallest plan (base (directionOf direction) (now (cells .entry)) (flagged (now (flags .entry)))) ⌝ }
+    ensures { λ _. ⌜ now (cells .exit) ≡ renewed (directionOf direction) plan (now (cells .entry)) (now (flags .entry)) ⌝ }
 {
     match direction {
         Direction::Refine => closure::refine_marked(plan, cells, flags),
@@ -126,48 +173,25 @@ fn turn(direction: Direction, plan: Plan, cells: &mut [u8], flags: &[u8])
     }
 }
 
-// A call. The rooms hold the most cells that a plan may have, and the most functions of such a plan; while the marks are judged, those of
-// the new tables hold what the functions weigh and the cells bear.
-pub fn change(
+// Makes the new tables beside the old ones, and settles.
+fn apply(
     direction: Direction,
-    by: By,
     plan: Plan,
     cells: &mut [u8],
     functions: &mut [u8],
-    marks: &[u32],
     cell_list: &mut [u32],
     function_list: &mut [u32],
+    flags: &[u8],
+    new_functions: &mut [u8],
 ) -> Answer
-    ensures { λ r. ⌜ Meets (outcome (directionOf direction) (byOf by) plan) r cells functions marks «cell_list» «function_list» ⌝ }
+    requires { ⌜ Applicable (directionOf direction) plan (now cells) (now functions) (now flags) (now «new_functions») ⌝ }
+    ensures { λ r. ⌜ left r cells functions «cell_list» «function_list» ≡ settle plan (now (cells .entry)) (now (functions .entry)) (now («cell_list» .entry)) (now («function_list» .entry)) (renewed (directionOf direction) plan (now (cells .entry)) (now (flags .entry))) (labels plan (renewed (directionOf direction) plan (now (cells .entry)) (now (flags .entry)))) ⌝ }
 {
-    let number = tables::check(plan, cells, functions);
-    if number != 0 {
-        return changes::refuse(number);
-    }
     let total = plan.cell_total() as usize;
-    let count = plan.function_total() as usize;
-    let mut flag_room = [0u8; MOST_CELLS];
-    let mut cell_room = [0u8; MOST_CELLS];
-    let mut function_room = [0u8; MOST_FUNCTIONS];
-    let flags = &mut flag_room[..total];
-    let new_cells = &mut cell_room[..total];
-    let new_functions = &mut function_room[..count];
-    let judged = flag_marks(
-        direction,
-        by,
-        plan,
-        cells,
-        functions,
-        marks,
-        flags,
-        new_cells,
-        new_functions,
-    );
-    if judged != 0 {
-        return changes::refuse(judged);
-    }
+    let mut room = [0u8; MOST_CELLS];
+    let new_cells = &mut room[..total];
     changes::copy_bytes(new_cells, cells);
-    turn(direction, plan, new_cells, flags);
+    renew(direction, plan, new_cells, flags);
     labels::write_labels(plan, new_cells, new_functions);
     changes::settle(
         plan,
@@ -177,5 +201,46 @@ pub fn change(
         function_list,
         new_cells,
         new_functions,
+    )
+}
+
+// A call, when its tables are checked. The caller checks them, so that the rooms of the check and those of the change are not on the stack
+// at the same time. Both rooms are used twice: for the flags, and for what the functions weigh and then their new table.
+pub fn change(
+    checked: u32,
+    call: Call,
+    plan: Plan,
+    cells: &mut [u8],
+    functions: &mut [u8],
+    marks: &[u32],
+    cell_list: &mut [u32],
+    function_list: &mut [u32],
+) -> Answer
+    requires { ⌜ checked ≡ check plan (now cells) (now functions) ⌝ }
+    ensures { λ r. ⌜ Meets (outcome (directionOf (call .0)) (byOf (call .1)) plan) r cells functions marks «cell_list» «function_list» ⌝ }
+{
+    if checked != 0 {
+        return changes::refuse(checked);
+    }
+    let total = plan.cell_total() as usize;
+    let count = plan.function_total() as usize;
+    let mut cell_room = [0u8; MOST_CELLS];
+    let mut function_room = [0u8; MOST_FUNCTIONS];
+    let flags = &mut cell_room[..total];
+    let values = &mut function_room[..count];
+    let judged = flag_marks(call, plan, cells, functions, marks, flags, values);
+    if judged != 0 {
+        return changes::refuse(judged);
+    }
+    let direction = call.0;
+    apply(
+        direction,
+        plan,
+        cells,
+        functions,
+        cell_list,
+        function_list,
+        flags,
+        values,
     )
 }

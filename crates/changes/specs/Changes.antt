@@ -9,11 +9,22 @@ use Rattle.outcomes.specs.Calls.{changed, written}
 use Rattle.outcomes.specs.Contracts.{Lent}
 use Rattle.grid.specs.Bounds.{mostCells, mostFunctions}
 
+-- the numbers from `from` up to, not including, `to`, in an old and a new table of one length
+pub record Block (old new : List ℕ) (from to : ℕ) : Type 0 where
+  pub same : length old ≡ length new
+  pub rises : from ≤ to
+  pub inside : to ≤ length old
+
 -- an old and a new table of one length, and a list that has room for the numbers that changed
 pub record ListRoom (old new list : List ℕ) : Type 0 where
   pub same : length old ≡ length new
   pub small : length old ≤ mostFunctions
   pub room : length (changed (length old) old new) ≤ length list
+
+-- the list begins with the n numbers below `from` that changed
+pub record ListedTo (from : ℕ) (old new : List ℕ) (n : ℕ) (list : List ℕ) : Type 0 where
+  pub count : n ≡ length (changed from old new)
+  pub begins : list ≡ written (changed from old new) list
 
 -- the old and the new tables of a plan: T and F bytes (document 01: T is at most 21,845; F, then, at most 26,220)
 pub record Sizes (p : Plan) (cells functions newCells newFunctions : List ℕ) : Type 0 where

@@ -2,14 +2,18 @@
 // Document 01, "The calls" and "The refusal table".
 ghost use mathlib.Core.Path.{_≡_};
 ghost use mathlib.Core.Bool.{not, Bool·beq};
+ghost use Prim.Native.Nat.{_+_, _≤_, _<_};
 ghost use lib.Dec.{eqb};
 ghost use lib.ListN.{length};
 ghost use Rattle.outcomes.specs.Calls.{changed, written, settle};
-ghost use Rattle.changes.specs.Changes.{ListRoom, Sizes, Taken};
+ghost use Rattle.changes.specs.Changes.{Block, ListRoom, ListedTo, Sizes, Taken};
 ghost use Rattle.outcomes.specs.Contracts.{left};
 ghost use Rattle.mesh.specs.Mesh.{labels};
 use grid::Plan;
 use outcomes::Answer;
+
+// Tables are compared in blocks of so many bytes, and only a block that differs is read byte by byte.
+const BLOCK: usize = 64;
 
 // The bytes of one table to another.
 pub fn copy_bytes(to: &mut [u8], from: &[u8])
@@ -33,14 +37,25 @@ fn differ(a: u8, b: u8) -> bool
     b == 2
 }
 
-// How many numbers changed.
-fn count_changed(old: &[u8], new: &[u8]) -> usize
-    requires { ⌜ length (now old) ≡ length (now new) ⌝ }
-    ensures { λ r. ⌜ r ≡ length (changed (length (now (old .entry))) (now (old .entry)) (now (new .entry))) ⌝ }
+// Where the block that begins at a number ends, in a table of so many bytes.
+fn block_end(at: usize, total: usize) -> usize
+    requires { ⌜ at < total ⌝ }
+    ensures { λ r. ⌜ (at < r) × (r ≤ total) ⌝ }
+{
+    if total - at < BLOCK {
+        return total;
+    }
+    at + BLOCK
+}
+
+// How many numbers of a block changed, byte by byte.
+fn count_bytes(old: &[u8], new: &[u8], from: usize, to: usize) -> usize
+    requires { ⌜ Block (now old) (now new) from to ⌝ }
+    ensures { λ r. ⌜ length (changed from (now (old .entry)) (now (new .entry))) + r ≡ length (changed to (now (old .entry)) (now (new .entry))) ⌝ }
 {
     let mut n = 0;
-    let mut i = 0;
-    while i < old.len() {
+    let mut i = from;
+    while i < to {
         if differ(old[i], new[i]) {
             n += 1;
         }
@@ -49,19 +64,77 @@ fn count_changed(old: &[u8], new: &[u8]) -> usize
     n
 }
 
+// The same; a block of equal bytes has none.
+fn count_block(old: &[u8], new: &[u8], from: usize, to: usize) -> usize
+    requires { ⌜ Block (now old) (now new) from to ⌝ }
+    ensures { λ r. ⌜ length (changed from (now (old .entry)) (now (new .entry))) + r ≡ length (changed to (now (old .entry)) (now (new .entry))) ⌝ }
+{
+    if compare::same(old, new, from, to) {
+        return 0;
+    }
+    count_bytes(old, new, from, to)
+}
+
+// How many numbers changed.
+fn count_changed(old: &[u8], new: &[u8]) -> usize
+    requires { ⌜ length (now old) ≡ length (now new) ⌝ }
+    ensures { λ r. ⌜ r ≡ length (changed (length (now (old .entry))) (now (old .entry)) (now (new .entry))) ⌝ }
+{
+    let mut n = 0;
+    let mut at = 0;
+    while at < old.len() {
+        let end = block_end(at, old.len());
+        n += count_block(old, new, at, end);
+        at = end;
+    }
+    n
+}
+
+// The numbers of a block that changed, byte by byte, behind the n that are listed; the entries past them stay. Answers how many are listed then.
+fn list_bytes(old: &[u8], new: &[u8], list: &mut [u32], n: usize, from: usize, to: usize) -> usize
+    requires { ⌜ ListRoom (now old) (now new) (now list) ⌝ }
+    requires { ⌜ Block (now old) (now new) from to ⌝ }
+    requires { ⌜ ListedTo from (now old) (now new) n (now list) ⌝ }
+    ensures { λ r. ⌜ r ≡ length (changed to (now (old .entry)) (now (new .entry))) ⌝ }
+    ensures { λ _. ⌜ now (list .exit) ≡ written (changed to (now (old .entry)) (now (new .entry))) (now (list .entry)) ⌝ }
+{
+    let mut k = n;
+    let mut i = from;
+    while i < to {
+        if differ(old[i], new[i]) {
+            list[k] = i as u32;
+            k += 1;
+        }
+        i += 1;
+    }
+    k
+}
+
+// The same; a block of equal bytes has none.
+fn list_block(old: &[u8], new: &[u8], list: &mut [u32], n: usize, from: usize, to: usize) -> usize
+    requires { ⌜ ListRoom (now old) (now new) (now list) ⌝ }
+    requires { ⌜ Block (now old) (now new) from to ⌝ }
+    requires { ⌜ ListedTo from (now old) (now new) n (now list) ⌝ }
+    ensures { λ r. ⌜ r ≡ length (changed to (now (old .entry)) (now (new .entry))) ⌝ }
+    ensures { λ _. ⌜ now (list .exit) ≡ written (changed to (now (old .entry)) (now (new .entry))) (now (list .entry)) ⌝ }
+{
+    if compare::same(old, new, from, to) {
+        return n;
+    }
+    list_bytes(old, new, list, n, from, to)
+}
+
 // The numbers that changed, in rising order; the entries past them stay.
 fn list_changed(old: &[u8], new: &[u8], list: &mut [u32])
     requires { ⌜ ListRoom (now old) (now new) (now list) ⌝ }
     ensures { λ _. ⌜ now (list .exit) ≡ written (changed (length (now (old .entry))) (now (old .entry)) (now (new .entry))) (now (list .entry)) ⌝ }
 {
-    let mut n: usize = 0;
-    let mut i = 0;
-    while i < old.len() {
-        if differ(old[i], new[i]) {
-            list[n] = i as u32;
-            n += 1;
-        }
-        i += 1;
+    let mut n = 0;
+    let mut at = 0;
+    while at < old.len() {
+        let end = block_end(at, old.len());
+        n = list_block(old, new, list, n, at, end);
+        at = end;
     }
 }
 

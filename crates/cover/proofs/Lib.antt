@@ -1,4 +1,3 @@
-pub mod Families
 pub mod Levels
 pub mod Meaning
 pub mod Passes

@@ -1,13 +1,12 @@
 -- One level of each pass, with the numbers that the plan's methods gave. Assumes nothing.
-use mathlib.Core.Path.{_≡_, refl, sym, ap, _∙_}
+use mathlib.Core.Path.{_≡_, sym, ap, _∙_}
 use mathlib.Core.List.{List}
 use Prim.Native.Nat.{ℕ, _+_, _-_, _*_, _≤_, _<_}
 use native.Mathlib.Omega.{arith}
 use lib.ListN.{length}
 use borrow.Rule.Slice.PartMut.{putMid, midOf}
-use Rattle.facts.specs.Numbers.{tabulate}
 use Rattle.facts.specs.Mapped.{filled}
-use Rattle.facts.proofs.Mapped.{filled-none, filled-more, filled-part, filled-all, fill-length, fill-part}
+use Rattle.facts.proofs.Mapped.{filled-none, filled-more, filled-part}
 use Rattle.facts.proofs.Ranges.{mid-len}
 use Rattle.grid.specs.declared.Plan.{Plan}
 use Rattle.grid.specs.declared.Side.{Side}
@@ -15,19 +14,13 @@ use Rattle.grid.specs.Numbering.{offset}
 use Rattle.grid.specs.Range.{InRange}
 use Rattle.grid.specs.Plan.{columnsAt, rowsAt, functionColumnsAt, functionRowsAt, cellOffset, functionOffset, cellTotal, functionTotal, acrossAt, upAt}
 use Rattle.grid.proofs.Sides.{across-in, up-in}
-use Rattle.windows.specs.Windows.{two}
 use Rattle.windows.specs.Level.{levelLeast, wide, high, LevelRoom, leastValue, ValueTable}
 use Rattle.windows.proofs.Under.{part-size, part-ends}
-use Rattle.cover.specs.Level.{levelReactivable, picked, levelRead, ReadIn}
-use Rattle.cover.specs.Cover.{reactivableByte, coarsenableByte, NonZero}
-use Rattle.cover.proofs.Levels.{offset-next, offset-first, offset-in, cells-in, next-in, last-none, reactivable-at, picked-at, read-at}
-
--- how far the level's cells and functions, and the cells of the next level, reach
-pub record Cells (columns rows here size : ℕ) : Type 0 where
-  pub in-table : here + rows * columns ≤ size
-
-pub record Children (columns rows next size : ℕ) : Type 0 where
-  pub in-table : next + 4 * (rows * columns) ≤ size
+use Rattle.cover.specs.Level.{picked, levelRead, ReadIn}
+use Rattle.cover.specs.Cover.{coarsenableByte, NonZero}
+use Rattle.grid.proofs.Numbering.{level-ends}
+use Rattle.grid.proofs.Levels.{offset-zero, offset-next}
+use Rattle.cover.proofs.Levels.{cells-in, picked-at, read-at}
 
 -- the level's functions
 module _ (p : Plan) (range : InRange p) (k : ℕ) (l : k < p .levels) where
@@ -55,7 +48,7 @@ module _ (p : Plan) (range : InRange p) (k : ℕ) (l : k < p .levels) where
 
   -- where the level's functions end
   pub functions-fit : {columns rows at : ℕ} → columns ≡ functionColumnsAt p k → rows ≡ functionRowsAt p k → at ≡ functionOffset p k → at + rows * columns ≤ functionTotal p
-  functions-fit ec er ea = rw (ec, er, ea) (offset-in (functionColumnsAt p) (functionRowsAt p) (p .levels) k l)
+  functions-fit ec er ea = rw (ec, er, ea) (level-ends (functionColumnsAt p) (functionRowsAt p) k (p .levels) l)
 
   pub read-in : {across up : Side} {here : ℕ} (values table out : List ℕ) → across ≡ acrossAt p k → up ≡ upAt p k → here ≡ cellOffset p k → ValueTable p values table k → length out ≡ cellTotal p
       → ReadIn (length table) (length (midOf here (length out - here) out)) across up × (here ≤ length out)
@@ -78,49 +71,13 @@ module _ (p : Plan) (range : InRange p) (k : ℕ) (l : k < p .levels) where
       rw eh (ap (putMid (cellOffset p k) (length out - cellOffset p k) out) (rw (ec, er, eh) at z)
       ∙ filled-part (cellOffset p k) (rowsAt p k * columnsAt p k) (leastValue p values) _ out (omega (arith, cells-in p range k l)) (read-at p range k l values table t))
 
-module _ (p : Plan) (range : InRange p) (k : ℕ) (l : k < p .levels) {columns rows here : ℕ}
-    (ec : columns ≡ columnsAt p k) (er : rows ≡ rowsAt p k) (eh : here ≡ cellOffset p k) where
-  pub cells-fit : (size : ℕ) → size ≡ cellTotal p → Cells columns rows here size
-  cells-fit size e = rw (ec, er, eh, e) (record { in-table = cells-in p range k l })
-
-  module _ {next : ℕ} (q : k + 1 < p .levels) (en : next ≡ cellOffset p (k + 1)) where
-    pub children-fit : (size : ℕ) → size ≡ cellTotal p → Children columns rows next size
-    children-fit size e = rw (ec, er, en, e) (record { in-table = next-in p range k l q })
-
-    pub reactivable-pass : (cells out zs : List ℕ) → length out ≡ cellTotal p
-        → zs ≡ filled 0 (rows * columns) (levelReactivable (midOf here (length cells - here) cells) (midOf next (length cells - next) cells) columns) (midOf here (length out - here) out)
-        → putMid here (length out - here) out zs ≡ filled (cellOffset p k) (rowsAt p k * columnsAt p k) (reactivableByte p cells) out
-    reactivable-pass cells out zs e z =
-        rw eh (ap (putMid (cellOffset p k) (length out - cellOffset p k) out) (rw (ec, er, eh, en) at z)
-        ∙ filled-part (cellOffset p k) (rowsAt p k * columnsAt p k) (reactivableByte p cells) _ out (omega (arith, cells-in p range k l)) (reactivable-at p range k l q cells))
-
 -- ---- level after level
 
 module _ (w h : ℕ → ℕ) (f : ℕ → ℕ) (xs : List ℕ) where
   pub levels-none : xs ≡ filled 0 (offset w h 0) f xs
-  levels-none = rw (offset-first w h) (filled-none 0 f xs)
+  levels-none = rw (offset-zero w h) (filled-none 0 f xs)
 
   pub levels-more : (k : ℕ) (ys zs : List ℕ) → ys ≡ filled 0 (offset w h k) f xs → zs ≡ filled (offset w h k) (h k * w k) f ys → zs ≡ filled 0 (offset w h (k + 1)) f xs
   levels-more k ys zs e q =
       q ∙ (ap (filled (offset w h k) (h k * w k) f) e
       ∙ (filled-more 0 (offset w h k) (offset w h k) (h k * w k) f xs (omega arith) ∙ ap (λ n. filled 0 n f xs) (sym (offset-next w h k))))
-
-two-is : (i : ℕ) → two i ≡ 2
-unfolding two
-two-is i = refl
-
--- the last level's entries are 2, and with them all is written
-pub last-pass : (p : Plan) (range : InRange p) (k at : ℕ) → k + 1 ≡ p .levels → at ≡ cellOffset p k → (cells xs ys zs : List ℕ) → length xs ≡ cellTotal p
-    → ys ≡ filled 0 (cellOffset p k) (reactivableByte p cells) xs → zs ≡ filled 0 (length (midOf at (length ys - at) ys)) two (midOf at (length ys - at) ys)
-    → putMid at (length ys - at) ys zs ≡ tabulate (cellTotal p) (reactivableByte p cells)
-last-pass p range k at e ea cells xs ys zs size written cleared =
-    let l : k < p .levels = omega arith in
-    let here : ℕ = cellOffset p k in
-    let rest : ℕ = length (midOf here (length ys - here) ys) in
-    let all : cellTotal p ≡ here + rowsAt p k * columnsAt p k = ap (cellOffset p) (sym e) ∙ offset-next (columnsAt p) (rowsAt p) k in
-    let same : length ys ≡ length xs = fill-length _ _ _ _ written in
-    let left : rest ≡ length ys - here = mid-len here ys in
-    let one : putMid here (length ys - here) ys zs ≡ filled 0 (here + rest) (reactivableByte p cells) xs =
-    fill-part _ _ _ _ written rest _ zs (omega arith) (rw ea at cleared) (λ j m. two-is j ∙ last-none p range k l cells j e (omega arith)) in
-    let whole : here + rest ≡ cellTotal p = omega arith in
-    rw ea (one ∙ (ap (λ n. filled 0 n (reactivableByte p cells) xs) whole ∙ filled-all (cellTotal p) (reactivableByte p cells) xs size))

@@ -1,4 +1,4 @@
--- What the three passes make of a plan's tables. Definitions only.
+-- What the passes make of a plan's tables. Definitions only.
 use mathlib.Core.Path.{_≡_}
 use mathlib.Core.Bool.{_&&_, cond}
 use mathlib.Core.List.{List}
@@ -8,11 +8,7 @@ use lib.ListN.{length, getD}
 use Rattle.facts.specs.Bounded.{some}
 use Rattle.grid.specs.declared.Plan.{Plan}
 use Rattle.grid.specs.Plan.{cellTotal, supported}
-use Rattle.mesh.specs.Mesh.{deactivated, reactivable}
-
--- 1 for "a split cell whose four children are active", 2 for any other
-unfoldable pub reactivableByte : Plan → List ℕ → ℕ → ℕ
-reactivableByte p cells c = cond (reactivable p cells c) 1 2
+use Rattle.mesh.specs.Mesh.{deactivated}
 
 -- 1 for a "deactivated function with a joinable cell of its own level in its support"
 unfoldable pub coarsenableByte : Plan → List ℕ → List ℕ → ℕ → ℕ

@@ -1,28 +1,13 @@
 -- One level of the grid by itself, as the passes read it: its cells and its functions are counted from the level's first. proofs/ say
 -- what of the plan these are. Definitions only.
-use mathlib.Core.Bool.{Bool, _&&_, cond}
+use mathlib.Core.Bool.{_&&_, cond}
 use mathlib.Core.List.{List}
 use Prim.Native.Nat.{ℕ, _+_, _*_, _/_, _%_, _≤_}
 use lib.Dec.{eqb}
 use lib.ListN.{getD}
 use Rattle.grid.specs.declared.Side.{Side}
 use Rattle.grid.specs.Side.{firstOver, firsts, SideIn}
-use Rattle.mesh.specs.Mesh.{active, refined}
 use Rattle.windows.specs.Level.{valueAt}
-
--- ---- a cell and its children
-
--- the four children are active, the first of which is `first`; the next level is twice as wide
-unfoldable pub family : List ℕ → ℕ → ℕ → Bool
-family next columns first = (active next first && active next (first + 1)) && (active next (first + 2 * columns) && active next (first + 2 * columns + 1))
-
--- 1 where the cell i is reactivable, 2 where it is not, of a row of cells and the two rows of their children
-unfoldable pub rowReactivable : List ℕ → List ℕ → ℕ → ℕ → ℕ
-rowReactivable here next columns i = cond (refined here i && family next columns (2 * i)) 1 2
-
--- the same of a level, and the level below it
-unfoldable pub levelReactivable : List ℕ → List ℕ → ℕ → ℕ → ℕ
-levelReactivable here next columns i = cond (refined here i && family next columns ((i / columns) * (4 * columns) + 2 * (i % columns))) 1 2
 
 -- ---- functions: 1 where the byte is 2, deactivated, and the least byte of the support is 1
 

@@ -1,8 +1,5 @@
-// Three passes over the grid, each one sweep of levels, rows and columns: which cells are reactivable, which functions can be
-// coarsened, and what values of functions say of the cells in their supports. They are what the calls by functions need to judge
-// marks and to know which cells the marks mean.
-mod family; // a cell with its children
-
+// Two passes over the levels, by windows: which functions can be coarsened, and what values of functions say of the cells in their
+// supports. They are what the calls by functions need to judge marks and to know which cells the marks mean.
 use grid::MOST_FUNCTIONS;
 use grid::Plan;
 use grid::Side;
@@ -15,47 +12,11 @@ ghost use Rattle.facts.specs.Numbers.{tabulate};
 ghost use Rattle.facts.specs.Mapped.{filled};
 ghost use Rattle.grid.specs.Range.{InRange};
 ghost use Rattle.grid.specs.Plan.{columnsAt, rowsAt, functionColumnsAt, functionRowsAt, cellOffset, functionOffset, cellTotal, functionTotal};
-ghost use Rattle.cover.specs.Cover.{reactivableByte, coarsenableByte, NonZero};
+ghost use Rattle.cover.specs.Cover.{coarsenableByte, NonZero};
 ghost use Rattle.cover.specs.Level.{picked, rowRead, levelRead, ReadIn};
 ghost use Rattle.grid.specs.Side.{SideIn, firsts};
 ghost use Rattle.windows.specs.Level.{leastValue, NearRoom};
 ghost use Rattle.grid.specs.Bounds.{mostCells};
-
-// The cells of a level that has a next one. The next level's part of the table begins at its own offset.
-fn reactivable_on(plan: Plan, cells: &[u8], out: &mut [u8], level: u32)
-    requires { ⌜ InRange plan ⌝ }
-    requires { ⌜ (length (now cells) ≡ cellTotal plan) × (length (now out) ≡ cellTotal plan) ⌝ }
-    requires { ⌜ level + 1 < plan .levels ⌝ }
-    ensures { λ _. ⌜ now (out .exit) ≡ filled (cellOffset plan level) (rowsAt plan level * columnsAt plan level) (reactivableByte plan (now (cells .entry))) (now (out .entry)) ⌝ }
-{
-    let columns = plan.columns_at(level) as usize;
-    let rows = plan.rows_at(level) as usize;
-    let here = plan.cell_offset(level) as usize;
-    let next = plan.cell_offset(level + 1) as usize;
-    family::reactivable_level(
-        &cells[here..],
-        &cells[next..],
-        &mut out[here..],
-        columns,
-        rows,
-    );
-}
-
-// 1 for each reactivable cell, 2 for any other. The last level has none.
-pub fn reactivable_cells(plan: Plan, cells: &[u8], out: &mut [u8])
-    requires { ⌜ InRange plan ⌝ }
-    requires { ⌜ (length (now cells) ≡ cellTotal plan) × (length (now out) ≡ cellTotal plan) ⌝ }
-    ensures { λ _. ⌜ now (out .exit) ≡ tabulate (cellTotal plan) (reactivableByte plan (now (cells .entry))) ⌝ }
-{
-    let last = plan.levels - 1;
-    let mut level = 0;
-    while level < last {
-        reactivable_on(plan, cells, out, level);
-        level += 1;
-    }
-    let offset = plan.cell_offset(last) as usize;
-    family::clear(&mut out[offset..]);
-}
 
 // 1 where a function has byte 2 and the least byte of its support is 1, 0 for any other.
 fn pick(functions: &[u8], least: &[u8], out: &mut [u8], n: usize)

@@ -1,7 +1,7 @@
 -- Supports and neighbourhoods by the first functions over columns and rows: function i covers column x where it is one of the
 -- degree + 1 functions from the first over x on, and columns whose first functions are at most the degree apart are near. Tables that
 -- have a cell at its first functions' place are read by these laws alone. Assumes nothing.
-use Prim.Native.Nat.{ℕ, _+_, _-_, _<_, _≤_}
+use Prim.Native.Nat.{ℕ, _+_, _<_, _≤_}
 use native.Mathlib.Omega.{arith}
 use mathlib.Core.Path.{_≡_}
 use lib.Dec.{T}

@@ -1,6 +1,6 @@
 -- The laws of a plan's grid: numbers and places, parents and children, neighbourhoods. What the theory of meshes knows of the
 -- grid is `lawful`. Assumes nothing.
-use Prim.Native.Nat.{ℕ, suc, pred, _+_, _-_, _/_, _%_, _<_, _≤_}
+use Prim.Native.Nat.{ℕ, suc, pred, _+_, _-_, _%_, _<_, _≤_}
 use native.Mathlib.Nat.{mod-lt, div-add-mod'}
 use native.Mathlib.Omega.{arith}
 use mathlib.Core.Bool.{Bool, not, _&&_, _||_}

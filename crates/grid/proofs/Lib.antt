@@ -1,3 +1,4 @@
+pub mod Computed
 pub mod Numbering
 pub mod Levels
 pub mod Direction

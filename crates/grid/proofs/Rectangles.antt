@@ -4,7 +4,6 @@ use Prim.Native.Nat.{ℕ, suc, pred, min, _+_, _-_, _*_, _/_, _<_, _≤_}
 use native.Mathlib.Nat.{le-min, min-le-right, mod-lt, div-add-mod'}
 use native.Mathlib.Numerals.{add-one}
 use native.Mathlib.Omega.{arith}
-use mathlib.Core.Bool.{Bool, _&&_}
 use mathlib.Core.Path.{_≡_, refl, sym, ap, _∙_}
 use lib.Dec.{T}
 use lib.Arith.{digits-div}
@@ -14,7 +13,7 @@ use Rattle.grid.specs.declared.Span.{Span}
 use Rattle.grid.specs.declared.Rectangle.{Rectangle}
 use Rattle.grid.specs.Plan.{ratio, grown, columnsAt, rowsAt, cellTotal, cellPlace, cellNumber, cellLevel, CellInside, above, parent}
 use Rattle.grid.specs.Range.{InRange, HasNeighbourhood}
-use Rattle.grid.specs.Spans.{inSpan, inRectangle, aroundSpan, finerSpan, childrenOf, around, ancestorOf, neighbourhood}
+use Rattle.grid.specs.Spans.{inRectangle, aroundSpan, finerSpan, childrenOf, around, ancestorOf, neighbourhood}
 use Rattle.grid.proofs.Direction.{grown-down}
 use Rattle.grid.proofs.Laws.{ratio-pos, cell-number-lt, cell-number-place, cell-place-number, parent-place}
 use Rattle.grid.proofs.Spans.{InSpan, InRectangle, rectangle-fact, rectangle-test, ancestor-in}

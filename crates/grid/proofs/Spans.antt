@@ -2,7 +2,7 @@
 -- Assumes nothing.
 use Prim.Native.Nat.{ℕ, min, _+_, _-_, _<_, _≤_}
 use native.Mathlib.Omega.{arith}
-use mathlib.Core.Bool.{Bool, not, _&&_}
+use mathlib.Core.Bool.{Bool, _&&_}
 use mathlib.Core.Path.{_≡_, refl}
 use lib.Dec.{T, leb, ltb, eqb, leb→le, le→leb, ltb→lt, lt→ltb, eqb→eq}
 use Rattle.facts.proofs.Tests.{and-i, and-l, and-r, same, eqb-of, T-true}
@@ -256,20 +256,3 @@ near-own p range q b has =
     let i : CellInside p x = ancestor-in p (cellPlace p q) has (cell-inside p range q b) in
     near-of p range q (cellNumber p x) (cell-number-lt p range x i)
     (rw (cell-place-number p range x i) (near-fact p (cellPlace p q) x (near-ancestor p (cellPlace p q) has)))
-
--- two pairs of places computed, of a plan of class 2 and degree 1. The cell of level 1 in row 2 and column 6 stands on row 1 and
--- column 3 of level 0: the cell in row 0 and column 2 only shares a corner with that one and is near; the cell in row 1 and
--- column 5 is beside column 6, the first cell's own, and is not
-abbrev sixByFour : Plan
-sixByFour = record { columns = 6; rows = 4; levels = 2; «degree_across» = 1; «degree_up» = 1; class = 2 }
-
-abbrev at : ℕ → ℕ → ℕ → Place
-at k r c = record { level = k; row = r; column = c }
-
-pub near-corner : T (nearAt sixByFour (at 1 2 6) (at 0 0 2))
-unfolding nearAt apart ancestor ratio
-near-corner = tt
-
-pub near-not-own : T (not (nearAt sixByFour (at 1 2 6) (at 0 1 5)))
-unfolding nearAt apart ancestor ratio
-near-not-own = tt

@@ -1,8 +1,8 @@
 -- Sets of cells of a hierarchy, as the theory sees them, and the laws that a hierarchy must obey. Assumes nothing.
-use mathlib.Core.Path.{_≡_, refl}
-use mathlib.Core.Bool.{Bool, true, false, not, _&&_, _||_}
-use Prim.Native.Nat.{ℕ, zero, suc, _+_, _≤_, _<_}
-use lib.Dec.{T, eqb, ltb, leb}
+use mathlib.Core.Path.{_≡_}
+use mathlib.Core.Bool.{Bool, not, _&&_, _||_}
+use Prim.Native.Nat.{ℕ, _+_, _≤_, _<_}
+use lib.Dec.{T, eqb, leb}
 use Rattle.facts.specs.Bounded.{some}
 use Rattle.hierarchy.specs.Hierarchy.{Hierarchy, Cells}
 

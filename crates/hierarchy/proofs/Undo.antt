@@ -1,16 +1,16 @@
 -- Refining is undone by coarsening the cells that it added, and coarsening by refining the cells that it took.
 -- Assumes nothing.
-use mathlib.Core.Path.{_≡_, refl, subst, sym}
+use mathlib.Core.Path.{_≡_, refl}
 use mathlib.Core.Bool.{Bool, true, false, not, _&&_, _||_}
-use Prim.Native.Nat.{ℕ, zero, suc, _+_, _≤_, _<_}
+use Prim.Native.Nat.{ℕ, _+_, _≤_, _<_}
 use native.Mathlib.Omega.{arith}
 use lib.Dec.{T, eqb, eqb→eq, eqb-refl, leb, leb→le, le→leb}
 use Rattle.facts.specs.Bounded.{some}
 use Rattle.facts.proofs.Bounded.{some-i, some-e}
-use Rattle.facts.proofs.Tests.{and-i, and-l, and-r, or-l, or-r, or-e, not-i, not-e, cases, same, positive}
+use Rattle.facts.proofs.Tests.{and-i, and-l, and-r, or-l, or-r, or-e, not-i, not-e, cases, positive}
 use Rattle.hierarchy.specs.Hierarchy.{Hierarchy, Cells, closure}
-use Rattle.hierarchy.proofs.Sets.{Lawful, _∪_, _∖_, MeshSet, Admissible, Within, Inside, active, child, reactivable}
-use Rattle.hierarchy.proofs.Closure.{Needs, needs-level, needs-parent, closure→, closure-has, closure-admissible, closure-mesh, closure-least, closure-is, admissible-needs}
+use Rattle.hierarchy.proofs.Sets.{Lawful, _∪_, _∖_, MeshSet, Admissible, Within, active, child, reactivable}
+use Rattle.hierarchy.proofs.Closure.{needs-level, needs-parent, closure→, closure-has, closure-mesh, closure-least, closure-is, admissible-needs}
 
 -- ---- active and reactivable, said in words
 

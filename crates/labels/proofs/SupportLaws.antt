@@ -1,14 +1,11 @@
 -- The window at a function's place is its support, and the least byte there its label. Assumes nothing.
-use mathlib.Core.Path.{_≡_, refl, sym, ap, _∙_}
-use mathlib.Core.Bool.{Bool, true, _&&_, and-comm}
+use mathlib.Core.Path.{_≡_, sym, ap, _∙_}
 use lib.Dec.{eqb}
-use native.Mathlib.Numerals.{add-one}
 use mathlib.Core.List.{List}
 use Prim.Native.Nat.{ℕ, _+_, _-_, _*_, _≤_, _<_}
 use native.Mathlib.Omega.{arith}
 use lib.ListN.{length, getD}
 use borrow.Rule.Slice.PartMut.{putMid, midOf}
-use Rattle.facts.specs.Bounded.{every}
 use Rattle.facts.specs.Mapped.{filled}
 use Rattle.facts.specs.Ranges.{Written}
 use Rattle.facts.proofs.Tests.{true-T}
@@ -17,7 +14,7 @@ use Rattle.facts.proofs.Mapped.{run-in, mapped-at, filled-length}
 use Rattle.facts.proofs.Numbers.{getD-tabulate}
 use Rattle.facts.proofs.Ranges.{mid-len, written-same, written-part}
 use Rattle.grid.specs.declared.Plan.{Plan}
-use Rattle.grid.specs.Plan.{columnsAt, rowsAt, functionColumnsAt, functionRowsAt, functionOffset, cellTotal, functionTotal}
+use Rattle.grid.specs.Plan.{functionColumnsAt, functionRowsAt, functionOffset, cellTotal, functionTotal}
 use Rattle.mesh.specs.Mesh.{isMesh, cellFits, labelOf, labels, isLabelled}
 use Rattle.mesh.proofs.Bridge.{fits-e}
 use Rattle.mesh.proofs.Label.{label}
@@ -26,7 +23,8 @@ use Rattle.grid.proofs.Levels.{offset-next}
 use Rattle.windows.specs.Level.{levelLeast, wide, high, LevelRoom}
 use Rattle.windows.proofs.Levels.{under-top}
 use Rattle.windows.proofs.Under.{support-le, support-ge, part-size, part-ends, level-support}
-use Rattle.labels.specs.Least.{agree}
+use Rattle.compare.specs.Agree.{agree}
+use Rattle.compare.proofs.Agree.{agree-all}
 
 filled-written : {n : ℕ} {f : ℕ → ℕ} {xs ys : List ℕ} → ys ≡ filled 0 n f xs → n ≤ length xs → Written xs ys 0 n f
 unfolding filled
@@ -76,16 +74,12 @@ module _ (p : Plan) (cells : List ℕ) (table : MeshTable p cells) (level : ℕ)
         omega arith,
       )
 
--- ---- two tables byte by byte
+-- ---- refusal 6
 
-pub agree-none : (a b : List ℕ) → true ≡ agree 0 a b
-unfolding agree every
-agree-none a b = refl
-
-pub agree-next : (a b : List ℕ) (i : ℕ) (ok : Bool) → ok ≡ agree i a b → ok && eqb (getD a i 0) (getD b i 0) ≡ agree (i + 1) a b
-unfolding agree every
-agree-next a b i ok e = rw (add-one i, e) (and-comm (every i (λ i. eqb (getD a i 0) (getD b i 0))) (eqb (getD a i 0) (getD b i 0)))
-
-pub agree-labels : (p : Plan) (cells functions made : List ℕ) → made ≡ labels p cells → length functions ≡ functionTotal p → agree (length functions) functions made ≡ isLabelled p cells functions
-unfolding agree isLabelled labels
-agree-labels p cells functions made e s = rw (s, e) (every-same (functionTotal p) _ _ (λ i l. ap (eqb (getD functions i 0)) (getD-tabulate _ _ i 0 l)))
+-- the table agrees with the labels that were made
+pub agree-labels : (p : Plan) (cells functions made : List ℕ) → made ≡ labels p cells → length functions ≡ functionTotal p
+    → agree 0 (length functions) functions made ≡ isLabelled p cells functions
+unfolding isLabelled labels
+agree-labels p cells functions made e s =
+    agree-all functions made (length functions)
+    ∙ rw (s, e) (every-same (functionTotal p) _ _ (λ i l. ap (eqb (getD functions i 0)) (getD-tabulate _ _ i 0 l)))

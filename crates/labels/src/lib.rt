@@ -9,7 +9,6 @@ ghost use Rattle.facts.specs.Ranges.{Written};
 ghost use Rattle.grid.specs.Plan.{functionOffset, cellTotal, functionTotal};
 ghost use Rattle.mesh.specs.Mesh.{labelOf, labels, isLabelled};
 ghost use Rattle.nesting.specs.Table.{MeshTable};
-ghost use Rattle.labels.specs.Least.{agree};
 ghost use Rattle.grid.specs.Bounds.{mostCells};
 
 // Writes the labels of a level into its part of the table.
@@ -49,27 +48,14 @@ pub fn write_labels(plan: Plan, cells: &[u8], out: &mut [u8])
     write_levels(plan, cells, out, &mut scratch[..count]);
 }
 
-// Both tables have the same bytes.
-fn same(a: &[u8], b: &[u8]) -> bool
-    requires { ⌜ length (now a) ≡ length (now b) ⌝ }
-    ensures { λ r. ⌜ r ≡ agree (length (now (a .entry))) (now (a .entry)) (now (b .entry)) ⌝ }
-{
-    let mut ok = true;
-    let mut i = 0;
-    while i < a.len() {
-        ok = ok & (a[i] == b[i]);
-        i += 1;
-    }
-    ok
-}
-
+// The labels are made and compared.
 fn labelled(plan: Plan, cells: &[u8], functions: &[u8], made: &mut [u8]) -> bool
     requires { ⌜ MeshTable plan (now cells) ⌝ }
     requires { ⌜ (length (now functions) ≡ functionTotal plan) × (length (now made) ≡ functionTotal plan) × (cellTotal plan ≤ mostCells) ⌝ }
     ensures { λ r. ⌜ r ≡ isLabelled plan (now (cells .entry)) (now (functions .entry)) ⌝ }
 {
     write_labels(plan, cells, made);
-    same(functions, made)
+    compare::same(functions, made, 0, functions.len())
 }
 
 // Refusal 6 is its opposite.

@@ -9,19 +9,16 @@ use lib.Dec.{T, eqb}
 use lib.ListN.{getD}
 use Rattle.facts.specs.Bounded.{sum}
 use Rattle.facts.proofs.Tests.{T-true, T-false}
-use Rattle.facts.proofs.Bounded.{every-e}
 use Rattle.facts.proofs.Sums.{sum-same, sum-zero, sum-const, sum-add, sum-mul, sum-split, sum-rows, sum-digits}
 use Rattle.grid.specs.declared.Plan.{Plan}
 use Rattle.grid.specs.declared.Place.{Place}
 use Rattle.grid.specs.Numbering.{offset, number}
-use Rattle.grid.specs.Plan.{ratio, grown, columnsAt, rowsAt, cellTotal, cellPlace, cellNumber, cellLevel, below, child}
+use Rattle.grid.specs.Plan.{ratio, grown, columnsAt, rowsAt, cellTotal, cellPlace, cellNumber, cellLevel, CellInside, below, child}
 use Rattle.grid.specs.Range.{InRange}
-use Rattle.grid.proofs.Numbering as numbering
-use Rattle.grid.specs.Numbering.{Inside}
 use Rattle.grid.proofs.Direction.{grown-up}
-use Rattle.grid.proofs.Laws.{ratio-pos}
-use Rattle.mesh.proofs.Bridge.{CellFits, fits-e}
-use Rattle.mesh.specs.Mesh.{absent, active, refined, cellFits, isMesh, areaOf}
+use Rattle.grid.proofs.Laws.{ratio-pos, cell-place-number, cell-number-lt}
+use Rattle.mesh.proofs.Bridge.{mesh-fits}
+use Rattle.mesh.specs.Mesh.{absent, active, refined, isMesh, areaOf}
 
 abbrev at : ℕ → ℕ → ℕ → Place
 at k r c = record { level = k; row = r; column = c }
@@ -56,10 +53,6 @@ weigh true x = omega arith
 weigh false x = omega arith
 
 module _ (p : Plan) (range : InRange p) (cells : List ℕ) (mesh : T (isMesh p cells)) where
-  fits : (n : ℕ) → n < cellTotal p → CellFits p cells n
-  unfolding isMesh
-  fits n b = fits-e p cells n (every-e (cellTotal p) (cellFits p cells) mesh n b)
-
   abbrev w : ℕ → ℕ
   w = columnsAt p
 
@@ -70,14 +63,14 @@ module _ (p : Plan) (range : InRange p) (cells : List ℕ) (mesh : T (isMesh p c
   abbrev on : ℕ → (ℕ → Bool) → ℕ
   on k test = sum (h k) (λ r. sum (w k) (λ c. one (test (cellNumber p (at k r c)))))
 
-  inside : (k r c : ℕ) → k < p .levels → r < h k → c < w k → Inside w h (p .levels) (at k r c)
+  inside : (k r c : ℕ) → k < p .levels → r < h k → c < w k → CellInside p (at k r c)
   inside k r c i j l = record { level< = i; row< = j; column< = l }
 
   cell-place : (k r c : ℕ) → k < p .levels → r < h k → c < w k → cellPlace p (cellNumber p (at k r c)) ≡ at k r c
-  cell-place k r c i j l = numbering.place-number w h (p .levels) (at k r c) (inside k r c i j l)
+  cell-place k r c i j l = cell-place-number p range (at k r c) (inside k r c i j l)
 
   cell-lt : (k r c : ℕ) → k < p .levels → r < h k → c < w k → cellNumber p (at k r c) < cellTotal p
-  cell-lt k r c i j l = numbering.number-lt w h (p .levels) (at k r c) (inside k r c i j l)
+  cell-lt k r c i j l = cell-number-lt p range (at k r c) (inside k r c i j l)
 
   next : (b k : ℕ) → grown (ratio p) b (suc k) ≡ grown (ratio p) b k * ratio p
   unfolding grown
@@ -104,7 +97,7 @@ module _ (p : Plan) (range : InRange p) (cells : List ℕ) (mesh : T (isMesh p c
     -- a cell of the next level is present just where the cell above it is refined
     up : not (absent cells (cellNumber p (at (suc k) r c))) ≡ refined cells over
     up = rw (← over-child)
-        (fits over (unfold over in cell-lt k (r / ratio p) (c / ratio p) (omega arith) jr lc) .below (omega (arith, over-level))
+        (mesh-fits p cells mesh over (unfold over in cell-lt k (r / ratio p) (c / ratio p) (omega arith) jr lc) .below (omega (arith, over-level))
         (r % ratio p) (c % ratio p) (mod-lt _ (ratio-pos p)) (mod-lt _ (ratio-pos p)))
 
   abbrev present : ℕ → Bool
@@ -134,14 +127,14 @@ module _ (p : Plan) (range : InRange p) (cells : List ℕ) (mesh : T (isMesh p c
   on-present k i =
       sum-same (h k) _ (λ r. sum (w k) (λ c. one (active cells (cellNumber p (at k r c)))) + sum (w k) (λ c. one (refined cells (cellNumber p (at k r c)))))
       (λ r j. sum-same (w k) _ (λ c. one (active cells (cellNumber p (at k r c))) + one (refined cells (cellNumber p (at k r c))))
-      (λ c l. bytes (getD cells (cellNumber p (at k r c)) 0) (fits (cellNumber p (at k r c)) (cell-lt k r c i j l) .byte)) ∙ sum-add (w k) _ _)
+      (λ c l. bytes (getD cells (cellNumber p (at k r c)) 0) (mesh-fits p cells mesh (cellNumber p (at k r c)) (cell-lt k r c i j l) .byte)) ∙ sum-add (w k) _ _)
       ∙ sum-add (h k) _ _
 
   on-ground : on 0 present ≡ h 0 * w 0
   on-ground =
       sum-same (h 0) _ (λ r. w 0) (λ r j. sum-same (w 0) _ (λ c. 1) (λ c l.
       let e : cellLevel p (cellNumber p (at 0 r c)) ≡ 0 = ap (λ (x : Place). x .level) (cell-place 0 r c (range .levels≥) j l) in
-      ap one (T-true (present (cellNumber p (at 0 r c))) (fits (cellNumber p (at 0 r c)) (cell-lt 0 r c (range .levels≥) j l) .first e))) ∙ (sum-const (w 0) 1 ∙ mul-one (w 0)))
+      ap one (T-true (present (cellNumber p (at 0 r c))) (mesh-fits p cells mesh (cellNumber p (at 0 r c)) (cell-lt 0 r c (range .levels≥) j l) .first e))) ∙ (sum-const (w 0) 1 ∙ mul-one (w 0)))
       ∙ sum-const (h 0) (w 0)
 
   on-last : (k : ℕ) → suc k ≡ p .levels → on k (refined cells) ≡ 0
@@ -149,7 +142,7 @@ module _ (p : Plan) (range : InRange p) (cells : List ℕ) (mesh : T (isMesh p c
       let i : k < p .levels = omega arith in
       sum-zero (h k) _ (λ r j. sum-zero (w k) _ (λ c l.
       let f : cellLevel p (cellNumber p (at k r c)) ≡ k = ap (λ (x : Place). x .level) (cell-place k r c i j l) in
-      ap one (T-false (refined cells (cellNumber p (at k r c))) (λ t. fits (cellNumber p (at k r c)) (cell-lt k r c i j l) .shallow t (omega arith)))))
+      ap one (T-false (refined cells (cellNumber p (at k r c))) (λ t. mesh-fits p cells mesh (cellNumber p (at k r c)) (cell-lt k r c i j l) .shallow t (omega arith)))))
 
   -- what a cell of level k counts
   abbrev weight : ℕ → ℕ

@@ -5,22 +5,21 @@ use mathlib.Core.Bool.{Bool, true, false, not, _&&_, _||_, cond}
 use mathlib.Core.List.{List}
 use Prim.Native.Nat.{ℕ, zero, suc, _+_, _≤_, _<_}
 use native.Mathlib.Omega.{arith}
-use lib.Dec.{T, eqb, eqb→eq, eqb-refl, leb, leb→le, le→leb, ltb, ltb→lt, nltb→le, eqb·suc-zero}
+use lib.Dec.{T, eqb, eqb→eq, leb, leb→le, le→leb, ltb, ltb→lt, nltb→le, eqb·suc-zero}
 use lib.ListN.{length, getD, List·getD-eq-default}
 use Rattle.facts.specs.Bounded.{implies, some, every}
-use Rattle.facts.specs.Numbers.{tabulate}
 use Rattle.facts.proofs.Tests.{and-i, and-l, and-r, or-l, or-r, or-e, not-i, not-e, cases, same, positive, differ, eqb-of, T-true, T-false, implies-i, implies-e}
-use Rattle.facts.proofs.Bounded.{every-i, every-e, some-i, some-e}
-use Rattle.facts.proofs.Numbers.{length-tabulate, getD-tabulate, tabulate-is, tabulate-same}
+use Rattle.facts.proofs.Bounded.{every-i, every-e, some-e}
+use Rattle.facts.proofs.Numbers.{length-tabulate, getD-tabulate, tabulate-is}
 use Rattle.hierarchy.specs.Hierarchy.{Cells}
 use Rattle.hierarchy.proofs.Sets as sets
-use Rattle.hierarchy.proofs.Sets.{Lawful, Inside, MeshSet, Admissible}
+use Rattle.hierarchy.proofs.Sets.{Inside, MeshSet, Admissible}
 use Rattle.hierarchy.proofs.Undo as undo
 use Rattle.grid.specs.declared.Plan.{Plan}
-use Rattle.grid.specs.Plan.{inRange, ratio, tooLarge, cellTotal, functionTotal, cellLevel, cellPlace, lastLevel, parent, child, supported, near, hierarchy}
+use Rattle.grid.specs.Plan.{inRange, ratio, tooLarge, cellTotal, functionTotal, cellLevel, lastLevel, parent, child, supported, near, hierarchy}
 use Rattle.grid.specs.Range.{InRange}
-use Rattle.grid.proofs.Laws.{in-range, range-test, lawful, cell-inside, parent-lt, parent-level, is-child, child-lt, child-level, parent-of-child, near-in}
-use Rattle.mesh.specs.Mesh.{absent, active, refined, children, cellFits, isMesh, isAdmissible, reactivable, tableOf, labelOf, labels, isLabelled, refusal3, refusal6, check}
+use Rattle.grid.proofs.Laws.{in-range, range-test, cell-inside, parent-lt, parent-level, is-child, child-lt, child-level, parent-of-child, near-in}
+use Rattle.mesh.specs.Mesh.{absent, active, refined, deactivated, children, cellFits, isMesh, isAdmissible, reactivable, tableOf, labelOf, labels, isLabelled, refusal3, refusal6, check}
 use Rattle.grid.specs.Bounds.{mostCells}
 
 -- ---- children
@@ -100,6 +99,10 @@ module _ (p : Plan) (cs : List ℕ) (c : ℕ) where
       (and-i f3 f4 (child-of i k)
       (implies-i (eqb (cellLevel p c + 1) (p .levels)) (not (refined cs c)) (λ e. not-i (refined cs c) (λ r. k .shallow r (eqb→eq _ _ e))))))
 
+pub mesh-fits : (p : Plan) (cs : List ℕ) → T (isMesh p cs) → (c : ℕ) → c < cellTotal p → CellFits p cs c
+unfolding isMesh
+mesh-fits p cs t c i = fits-e p cs c (every-e (cellTotal p) (cellFits p cs) t c i)
+
 -- ---- a table of mesh cells, said of its refined set
 
 byte-is : (b : ℕ) (x : Bool) → b ≤ 2 → not (eqb b 0) ≡ x → b ≡ cond (eqb b 2) 2 (cond x 1 0)
@@ -108,7 +111,7 @@ byte-is (suc zero) x h e = rw (← e)
 byte-is (suc (suc zero)) x h e = refl
 byte-is (suc (suc (suc n))) x h e = absurd (omega arith)
 
-byte-two : (s x : Bool) → eqb (cond s 2 (cond x 1 0)) 2 ≡ s
+pub byte-two : (s x : Bool) → eqb (cond s 2 (cond x 1 0)) 2 ≡ s
 byte-two true x = refl
 byte-two false true = refl
 byte-two false false = refl
@@ -133,6 +136,10 @@ byte-le false false = omega arith
 abbrev pub rooted : Plan → Cells → ℕ → Bool
 rooted p S c = eqb (cellLevel p c) 0 || S (parent p c)
 
+pub length-tableOf : (p : Plan) (S : Cells) → length (tableOf p S) ≡ cellTotal p
+unfolding tableOf
+length-tableOf p S = length-tabulate (cellTotal p) (λ c. cond (S c) 2 (cond (rooted p S c) 1 0))
+
 -- what check says of the cells
 pub record Good (p : Plan) (cs : List ℕ) : Type 0 where
   pub range : InRange p
@@ -143,9 +150,6 @@ pub record Good (p : Plan) (cs : List ℕ) : Type 0 where
   pub is : cs ≡ tableOf p (refined cs)
 
 module _ (p : Plan) (range : InRange p) where
-  level-in : (c : ℕ) → c < cellTotal p → cellLevel p c < p .levels
-  level-in c i = cell-inside p range c i .level<
-
   module _ (cs : List ℕ) (fit : (c : ℕ) → c < cellTotal p → CellFits p cs c) where
     -- a cell is present just where it is rooted
     present-is : (c : ℕ) → c < cellTotal p → not (absent cs c) ≡ rooted p (refined cs) c
@@ -153,7 +157,7 @@ module _ (p : Plan) (range : InRange p) where
         (λ z. rw (T-true (eqb (cellLevel p c) 0) z) (T-true (not (absent cs c)) (fit c i .first (eqb→eq (cellLevel p c) 0 z))))
         (λ z. let l : 1 ≤ cellLevel p c = positive (cellLevel p c) z in
         let (a, b, ha, hb, e) = is-child p range c i l in
-        let k : suc (cellLevel p (parent p c)) < p .levels = omega (arith, parent-level p range c i l, level-in c i) in
+        let k : suc (cellLevel p (parent p c)) < p .levels = omega (arith, parent-level p range c i l, cell-inside p range c i .level<) in
         rw (T-false (eqb (cellLevel p c) 0) (not-e (eqb (cellLevel p c) 0) z))
         (ap (λ d. not (absent cs d)) (sym e) ∙ fit (parent p c) (parent-lt p range c i l) .below k a b ha hb))
 
@@ -168,7 +172,7 @@ module _ (p : Plan) (range : InRange p) where
           let two : getD cs c 0 ≡ 2 = eqb→eq (getD cs c 0) 2 r in
           let n : T (not (absent cs c)) = rw two tt in
           or-e (eqb (cellLevel p c) 0) (refined cs (parent p c)) (subst T (present-is c i) n) (λ z. absurd (omega (arith, eqb→eq (cellLevel p c) 0 z))) (λ u. u);
-      shallow = λ c i r. omega (arith, level-in c i, fit c i .shallow r);
+      shallow = λ c i r. omega (arith, cell-inside p range c i .level<, fit c i .shallow r);
     }
 
   module _ (S : Cells) (I : Inside (hierarchy p) S) where
@@ -176,22 +180,18 @@ module _ (p : Plan) (range : InRange p) where
     unfolding tableOf
     getD-tableOf c i = getD-tabulate (cellTotal p) (λ c. cond (S c) 2 (cond (rooted p S c) 1 0)) c 0 i
 
-    pub length-tableOf : length (tableOf p S) ≡ cellTotal p
-    unfolding tableOf
-    length-tableOf = length-tabulate (cellTotal p) (λ c. cond (S c) 2 (cond (rooted p S c) 1 0))
-
     pub refined-tableOf : refined (tableOf p S) ≡ S
     unfolding refined
     refined-tableOf = fun-ext (λ c. cases (ltb c (cellTotal p))
         (λ h. rw (getD-tableOf c (ltb→lt c (cellTotal p) h)) (byte-two (S c) (rooted p S c)))
-        (λ h. let l : length (tableOf p S) ≤ c = omega (arith, nltb→le c (cellTotal p) h, length-tableOf) in
+        (λ h. let l : length (tableOf p S) ≤ c = omega (arith, nltb→le c (cellTotal p) h, length-tableOf p S) in
         rw (List·getD-eq-default (tableOf p S) 0 l) (same false (S c) (λ u. absurd u) (λ s. absurd (omega (arith, nltb→le c (cellTotal p) h, I c s))))))
 
     pub good-table : cellTotal p ≤ mostCells → MeshSet (hierarchy p) S → Admissible (hierarchy p) S → Good p (tableOf p S)
     good-table s m a = record {
       range = range;
       small = s;
-      sized = length-tableOf;
+      sized = length-tableOf p S;
       mesh = rw refined-tableOf m;
       admissible = rw refined-tableOf a;
       is = rw refined-tableOf refl;
@@ -314,33 +314,50 @@ stop true n x e = absurd (omega arith)
 stop false n x e = (λ t. t, e)
 
 module _ (p : Plan) (cs fs : List ℕ) where
-  pub record Checked : Type 0 where
-    pub range : T (inRange p)
-    pub small : T (tooLarge p) → ⊥
-    pub lengths : T (eqb (length cs) (cellTotal p) && eqb (length fs) (functionTotal p))
+  -- what refusals 1 to 3 leave
+  pub record Passed : Type 0 where
+    pub range : InRange p
+    pub small : cellTotal p ≤ mostCells
+    pub cells : length cs ≡ cellTotal p
+    pub functions : length fs ≡ functionTotal p
+
+  -- and what 4 to 6 leave
+  record Checked : Type 0 where
+    pub passed : Passed
     pub mesh : T (isMesh p cs)
     pub admissible : T (isAdmissible p cs)
     pub labelled : T (isLabelled p cs fs)
 
-  checked : check p cs fs ≡ 0 → Checked
-  unfolding check refusal3 refusal6
-  checked e =
-      let (r3, r6) = chain (refusal3 p cs fs) (refusal6 p cs fs) e in
-      let (t1, e1) = pass (inRange p) 0 _ r3 in
+  pub passed : refusal3 p cs fs ≡ 0 → Passed
+  unfolding refusal3 tooLarge
+  passed e =
+      let (t1, e1) = pass (inRange p) 0 _ e in
       let (t2, e2) = stop (tooLarge p) 1 _ e1 in
       let (t3, e3) = pass (eqb (length cs) (cellTotal p) && eqb (length fs) (functionTotal p)) 2 0 e2 in
+      record {
+        range = in-range p t1;
+        small = nltb→le mostCells (cellTotal p) (not-i (ltb mostCells (cellTotal p)) t2);
+        cells = eqb→eq _ _ (and-l (eqb (length cs) (cellTotal p)) (eqb (length fs) (functionTotal p)) t3);
+        functions = eqb→eq _ _ (and-r (eqb (length cs) (cellTotal p)) (eqb (length fs) (functionTotal p)) t3);
+      }
+
+  checked : check p cs fs ≡ 0 → Checked
+  unfolding check refusal6
+  checked e =
+      let (r3, r6) = chain (refusal3 p cs fs) (refusal6 p cs fs) e in
       let (t4, e4) = pass (isMesh p cs) 3 _ r6 in
       let (t5, e5) = pass (isAdmissible p cs) 4 _ e4 in
       let (t6, e6) = pass (isLabelled p cs fs) 5 0 e5 in
-      record { range = t1; small = t2; lengths = t3; mesh = t4; admissible = t5; labelled = t6 }
+      record { passed = passed r3; mesh = t4; admissible = t5; labelled = t6 }
 
   unchecked : Checked → check p cs fs ≡ 0
-  unfolding check refusal3 refusal6
+  unfolding check refusal3 refusal6 tooLarge
   unchecked k =
       rw (
-        T-true (inRange p) (k .range),
-        T-false (tooLarge p) (k .small),
-        T-true (eqb (length cs) (cellTotal p) && eqb (length fs) (functionTotal p)) (k .lengths),
+        T-true (inRange p) (range-test p (k .passed .range)),
+        T-false (ltb mostCells (cellTotal p)) (λ t. absurd (omega (arith, ltb→lt mostCells (cellTotal p) t, k .passed .small))),
+        T-true (eqb (length cs) (cellTotal p)) (eqb-of _ _ (k .passed .cells)),
+        T-true (eqb (length fs) (functionTotal p)) (eqb-of _ _ (k .passed .functions)),
         T-true (isMesh p cs) (k .mesh),
         T-true (isAdmissible p cs) (k .admissible),
         T-true (isLabelled p cs fs) (k .labelled),
@@ -348,21 +365,20 @@ module _ (p : Plan) (cs fs : List ℕ) where
 
   -- check answers 0 just where the cells are good and the functions have the labels that they fix
   pub check-good : check p cs fs ≡ 0 → Good p cs × (fs ≡ labels p cs)
-  unfolding isMesh isLabelled labels tooLarge
+  unfolding isLabelled labels
   check-good e =
       let k = checked e in
-      let range = in-range p (k .range) in
-      let fit : (c : ℕ) → c < cellTotal p → CellFits p cs c = λ c i. fits-e p cs c (every-e (cellTotal p) (cellFits p cs) (k .mesh) c i) in
-      let sized : length cs ≡ cellTotal p = eqb→eq _ _ (and-l (eqb (length cs) (cellTotal p)) _ (k .lengths)) in (
+      let s = k .passed in
+      let fit = mesh-fits p cs (k .mesh) in (
         record {
-          range = range;
-          small = nltb→le mostCells (cellTotal p) (not-i (ltb mostCells (cellTotal p)) (k .small));
-          sized = sized;
-          mesh = fit-mesh p range cs fit;
-          admissible = admissible-of p range cs (k .admissible);
-          is = fit-is p range cs fit sized;
+          range = s .range;
+          small = s .small;
+          sized = s .cells;
+          mesh = fit-mesh p (s .range) cs fit;
+          admissible = admissible-of p (s .range) cs (k .admissible);
+          is = fit-is p (s .range) cs fit (s .cells);
         },
-        tabulate-is (functionTotal p) (labelOf p cs) fs (eqb→eq _ _ (and-r (eqb (length cs) (cellTotal p)) _ (k .lengths)))
+        tabulate-is (functionTotal p) (labelOf p cs) fs (s .functions)
             (λ f i. eqb→eq _ _ (every-e (functionTotal p) (λ f. eqb (getD fs f 0) (labelOf p cs f)) (k .labelled) f i)),
       )
 
@@ -375,11 +391,9 @@ unfolding labels
 getD-labels p cs f i = getD-tabulate (functionTotal p) (labelOf p cs) f 0 i
 
 pub good-check : (p : Plan) (cs : List ℕ) → Good p cs → check p cs (labels p cs) ≡ 0
-unfolding isLabelled tooLarge
+unfolding isLabelled
 good-check p cs G = unchecked p cs (labels p cs) (record {
-  range = range-test p (G .range);
-  small = λ t. absurd (omega (arith, ltb→lt mostCells (cellTotal p) t, G .small));
-  lengths = and-i (eqb (length cs) (cellTotal p)) _ (eqb-of _ _ (G .sized)) (eqb-of _ _ (length-labels p cs));
+  passed = record { range = G .range; small = G .small; cells = G .sized; functions = length-labels p cs };
   mesh = is-mesh p cs G;
   admissible = is-admissible p cs G;
   labelled = every-i (functionTotal p) _ (λ f i. eqb-of _ _ (getD-labels p cs f i));
@@ -420,7 +434,7 @@ module _ (p : Plan) (cs : List ℕ) (f : ℕ) where
 
 -- they only grow with the refined cells
 pub deactivated-grow : (p : Plan) (old new : List ℕ) → ((c : ℕ) → c < cellTotal p → T (refined old c) → T (refined new c))
-    → (f : ℕ) → f < functionTotal p → T (refined (labels p old) f) → T (refined (labels p new) f)
+    → (f : ℕ) → f < functionTotal p → T (deactivated (labels p old) f) → T (deactivated (labels p new) f)
 unfolding refined
 deactivated-grow p old new h f i t =
     subst (λ n. T (eqb n 2)) (sym (getD-labels p new f i))

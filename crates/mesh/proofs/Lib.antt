@@ -1,3 +1,5 @@
+pub mod AfterP7
 pub mod Bridge
 pub mod Label
 pub mod Area
+pub mod Fresh

@@ -1,7 +1,7 @@
 -- Document 01, "The two tables", and the calls that need no marks: open, check, count. Definitions only.
-use mathlib.Core.Bool.{Bool, true, false, not, _&&_, _||_, cond}
+use mathlib.Core.Bool.{Bool, not, _&&_, _||_, cond}
 use mathlib.Core.List.{List}
-use Prim.Native.Nat.{ℕ, _+_, _-_, _*_, _^_}
+use Prim.Native.Nat.{ℕ, _-_, _*_, _^_}
 use lib.Dec.{leb, eqb}
 use lib.ListN.{length, getD}
 use Rattle.facts.specs.Bounded.{implies, some, every, sum}

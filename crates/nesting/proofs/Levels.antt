@@ -1,69 +1,60 @@
--- Where the levels of a table lie. Assumes nothing.
+-- Where the levels of a numbering begin, and what is passed over up to there. Assumes nothing.
 use mathlib.Core.Path.{_≡_, refl, sym, ap, _∙_}
-use mathlib.Core.List.{List}
-use Prim.Native.Nat.{ℕ, _+_, _-_, _*_, _≤_, _<_}
-use native.Mathlib.Nat.{pow-suc, mul-le-mul-right}
-use native.Mathlib.Numerals.{add-one}
+use mathlib.Core.Logic.{_⊎_, inl, inr}
+use mathlib.Core.Bool.{Bool, true, _&&_}
+use Prim.Native.Nat.{ℕ, _+_, _*_, _≤_, _<_}
+use native.Mathlib.Nat.{eq-or-lt-of-le, le-of-eq}
 use native.Mathlib.Omega.{arith}
-use lib.ListN.{length}
-use Rattle.grid.specs.declared.Plan.{Plan}
-use Rattle.grid.specs.declared.Rectangle.{Rectangle}
-use Rattle.grid.specs.Numbering.{offset}
-use Rattle.grid.specs.Plan.{ratio, grown, columnsAt, rowsAt, cellOffset}
-use Rattle.grid.proofs.Direction.{grown-pos}
-use Rattle.grid.proofs.Laws.{ratio-pos}
-use Rattle.grid.proofs.Rectangles.{RectangleIn}
-use Rattle.grid.proofs.Levels.{offset-next}
+use lib.Arith.{digits-lt}
+use lib.Dec.{ltb, ltb→lt, nltb→le}
+use Rattle.facts.specs.Ranges.{everyFrom}
+use Rattle.facts.proofs.Tests.{and-i, and-l, and-r, cases, same, T-true, true-T}
+use Rattle.facts.proofs.Ranges.{from-i, from-e, from-none, from-one, from-more}
+use Rattle.grid.specs.Numbering.{Inside, offset, number, place}
 use Rattle.grid.proofs.Numbering.{level-ends}
-use Rattle.nesting.specs.Table.{CellTable, Holds}
+use Rattle.grid.proofs.Levels.{offset-next}
 
--- one level has twice the columns and rows of the one above it
-pub doubled : (p : Plan) (b k : ℕ) → grown (ratio p) b (k + 1) ≡ 2 * grown (ratio p) b k
-unfolding grown ratio
-doubled p b k = rw (add-one k, pow-suc) (omega arith)
+module _ (w h : ℕ → ℕ) where
+  pub offset-mono : (j k : ℕ) → j ≤ k → offset w h j ≤ offset w h k
+  offset-mono j k l = go (eq-or-lt-of-le l)
+    where
+      go : (j ≡ k) ⊎ (j < k) → offset w h j ≤ offset w h k
+      go (inl e) = le-of-eq (ap (offset w h) e)
+      go (inr m) = omega (arith, level-ends w h j k m)
 
--- what a level and the next one take of a table of n entries
-pub record Room (n at first rows columns width : ℕ) : Type 0 where
-  pub here : at + rows * columns ≤ n
-  pub next : first + rows * (2 * width) ≤ n
-  pub some : 1 ≤ columns
-  pub twice : 2 * columns ≤ width
+  -- a number stands before a level's first just where its level is above that level
+  module _ (L n : ℕ) (inside : Inside w h L (place w h L n)) (is : number w h (place w h L n) ≡ n) (k : ℕ) where
+    abbrev on : ℕ
+    on = place w h L n .level
 
-module _ (p : Plan) (cells : List ℕ) (sized : CellTable p cells) where
-  pub rows-pos : (k : ℕ) → 1 ≤ rowsAt p k
-  rows-pos k = grown-pos (ratio p) (ratio-pos p) (p .rows) k (sized .range .rows≥)
+    pub level-before : n < offset w h k → on < k
+    unfolding number
+    level-before m = cases (ltb on k) (ltb→lt on k) (λ t. absurd (omega (arith, is, offset-mono k on (nltb→le on k t))))
 
-  pub columns-pos : (k : ℕ) → 1 ≤ columnsAt p k
-  columns-pos k = grown-pos (ratio p) (ratio-pos p) (p .columns) k (sized .range .columns≥)
+    pub level-from : offset w h k ≤ n → k ≤ on
+    unfolding number
+    level-from m = cases (ltb on k)
+        (λ t. absurd (omega (arith, is, digits-lt (inside .row<) (inside .column<), level-ends w h on k (ltb→lt on k t))))
+        (nltb→le on k)
 
-  pub room : (k : ℕ) {at first rows columns width : ℕ} → k + 1 < p .levels → at ≡ cellOffset p k → first ≡ cellOffset p (k + 1) → rows ≡ rowsAt p k
-      → columns ≡ columnsAt p k → width ≡ columnsAt p (k + 1) → Room (length cells) at first rows columns width
-  room k z e f r c v =
-      let a = level-ends (columnsAt p) (rowsAt p) k (p .levels) (omega arith) in
-      let b = level-ends (columnsAt p) (rowsAt p) (k + 1) (p .levels) z in
-      let q : rowsAt p (k + 1) * columnsAt p (k + 1) ≡ rowsAt p k * (2 * columnsAt p (k + 1)) = rw (doubled p (p .rows) k) (omega arith) in
-      rw (e, f, r, c, v) (record {
-        here = omega (arith, sized .size);
-        next = omega (arith, sized .size);
-        some = columns-pos k;
-        twice = omega (arith, doubled p (p .columns) k);
-      })
+-- ---- a test of a range, part by part
 
-  -- the last level takes the rest
-  pub last-ends : cellOffset p (p .levels - 1) + rowsAt p (p .levels - 1) * columnsAt p (p .levels - 1) ≡ length cells
-  last-ends =
-      let e : p .levels - 1 + 1 ≡ p .levels = omega (arith, sized .range .levels≥) in
-      sym (offset-next (columnsAt p) (rowsAt p) (p .levels - 1)) ∙ (ap (cellOffset p) e ∙ sym (sized .size))
+module _ (a : ℕ) (p : ℕ → Bool) where
+  pub from-zero : (n : ℕ) → n ≡ 0 → true ≡ everyFrom a n p
+  from-zero n z = rw (z, from-none a p)
 
--- rows up to an end in the level lie in the table
-pub tall : (p : Plan) (cells : List ℕ) → CellTable p cells → (k e : ℕ) → k < p .levels → e ≤ rowsAt p k → cellOffset p k + e * columnsAt p k ≤ length cells
-tall p cells s k e l m = omega (arith, s .size, level-ends (columnsAt p) (rowsAt p) k (p .levels) l, mul-le-mul-right (columnsAt p k) m)
+  pub from-join : (m n b : ℕ) → b ≡ a + m → everyFrom a m p && everyFrom b n p ≡ everyFrom a (m + n) p
+  from-join m n b e = same _ _
+      (λ t. true-T _ (from-more a m n b p (T-true _ (and-l (everyFrom a m p) _ t)) e (T-true _ (and-r (everyFrom a m p) (everyFrom b n p) t))))
+      (λ t. and-i (everyFrom a m p) _ (from-i a m p (λ k l u. from-e a (m + n) p t k l (omega arith))) (from-i b n p (λ k l u. from-e a (m + n) p t k (omega arith) (omega arith))))
 
--- a rectangle of the plan's cells lies in the table
-pub holds : (p : Plan) (cells : List ℕ) → CellTable p cells → (r : Rectangle) → RectangleIn p r → Holds (length cells) (cellOffset p (r .level)) (columnsAt p (r .level)) r
-holds p cells s r i = record {
-  rows≤ = omega (arith, i .rows .some);
-  columns≤ = omega (arith, i .columns .some);
-  wide = i .columns .within;
-  tall = tall p cells s (r .level) (r .rows .end) (i .level<) (i .rows .within);
-}
+  pub from-next : (n : ℕ) → everyFrom a n p && p (a + n) ≡ everyFrom a (n + 1) p
+  from-next n = ap (λ b. everyFrom a n p && b) (sym (from-one (a + n) p)) ∙ from-join n 1 (a + n) refl
+
+  -- a level's rows, w numbers each
+  pub rows-join : (w row at : ℕ) {n : ℕ} {x y : Bool} → at ≡ a + row * w → n ≡ w → x ≡ everyFrom a (row * w) p → y ≡ everyFrom at n p → x && y ≡ everyFrom a ((row + 1) * w) p
+  rows-join w row at e en ex ey = let q : (row + 1) * w ≡ row * w + w = omega arith in rw (ex, ey, en, q) (from-join (row * w) w at e)
+
+-- and the levels
+pub levels-join : (w h : ℕ → ℕ) (p : ℕ → Bool) (k : ℕ) {x y : Bool} → x ≡ everyFrom 0 (offset w h k) p → y ≡ everyFrom (offset w h k) (h k * w k) p → x && y ≡ everyFrom 0 (offset w h (k + 1)) p
+levels-join w h p k ex ey = rw (ex, ey, offset-next w h k) (from-join 0 p (offset w h k) (h k * w k) (offset w h k) (omega arith))

@@ -1,2 +1,4 @@
 pub mod Levels
-pub mod FitLaws
+pub mod Rows
+pub mod Nested
+pub mod Reactivable

@@ -1,2 +1,3 @@
 pub mod Table
-pub mod Fits
+pub mod Nested
+pub mod Reactivable

@@ -1,12 +1,11 @@
--- Tables of cells of a plan, and rectangles in them: what the loops over them require. Definitions only.
+-- Tables of cells of a plan, and rows of their cells: what the loops over them require. Definitions only.
 use mathlib.Core.Path.{_≡_}
 use mathlib.Core.Bool.{true}
 use mathlib.Core.List.{List}
-use Prim.Native.Nat.{ℕ, _+_, _*_, _≤_}
+use Prim.Native.Nat.{ℕ, _+_, _*_, _<_}
 use lib.ListN.{length}
 use Rattle.grid.specs.declared.Plan.{Plan}
-use Rattle.grid.specs.declared.Rectangle.{Rectangle}
-use Rattle.grid.specs.Plan.{cellTotal}
+use Rattle.grid.specs.Plan.{columnsAt, rowsAt, cellOffset, cellTotal, ancestor}
 use Rattle.grid.specs.Range.{InRange}
 use Rattle.mesh.specs.Mesh.{isMesh}
 
@@ -20,15 +19,12 @@ pub record MeshTable (p : Plan) (cells : List ℕ) : Type 0 where
   pub sized : CellTable p cells
   pub mesh : isMesh p cells ≡ true
 
--- a rectangle lies in a table of n entries: it has `rows` rows of `columns` cells, on a level that is `width` cells wide, and its row a
--- begins at at + a * width + left
-pub record Within (n at left width rows columns : ℕ) : Type 0 where
-  pub wide : left + columns ≤ width
-  pub tall : at + rows * width ≤ n
-
--- the same of a rectangle of a level that begins at `offset`
-pub record Holds (n offset width : ℕ) (r : Rectangle) : Type 0 where
-  pub rows≤ : r .rows .first ≤ r .rows .end
-  pub columns≤ : r .columns .first ≤ r .columns .end
-  pub wide : r .columns .end ≤ width
-  pub tall : offset + r .rows .end * width ≤ n
+-- a row of level k + 1: its cells are numbered from `at` on, and the row of their parents from `over` on
+pub record RowUnder (p : Plan) (k at over columns : ℕ) : Type 0 where
+  pub range : InRange p
+  pub level< : k + 1 < p .levels
+  pub row : ℕ
+  pub row< : row < rowsAt p (k + 1)
+  pub at≡ : at ≡ cellOffset p (k + 1) + row * columnsAt p (k + 1)
+  pub over≡ : over ≡ cellOffset p k + ancestor p 1 row * columnsAt p k
+  pub columns≡ : columns ≡ columnsAt p (k + 1)

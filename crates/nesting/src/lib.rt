@@ -1,133 +1,94 @@
-// Refusal 4: the cell bytes are a mesh. Each cell is read once with its children.
+// The nesting of cells: refusal 4, and which refined cells are reactivable. Each cell is read with its parent. Levels that have one above
+// them are read row by row: a row of cells begins at `at`, and the row of their parents at `over`.
 use grid::Plan;
 ghost use mathlib.Core.Path.{_≡_};
-ghost use Prim.Native.Nat.{_+_, _*_, _≤_, _<_};
+ghost use mathlib.Core.Bool.{_&&_, cond};
+ghost use Prim.Native.Nat.{ℕ, _+_, _*_, _<_};
+ghost use lib.Dec.{eqb};
 ghost use lib.ListN.{length};
+ghost use Rattle.facts.specs.Numbers.{tabulate};
 ghost use Rattle.facts.specs.Ranges.{everyFrom};
-ghost use Rattle.grid.specs.Plan.{columnsAt, rowsAt, cellOffset};
-ghost use Rattle.mesh.specs.Mesh.{cellFits, isMesh};
-ghost use Rattle.nesting.specs.Fits.{stateIs, family, innerFits, lastFits, rowFits, rowsFit, lowestAt, lastOf};
-ghost use Rattle.nesting.specs.Table.{CellTable};
+ghost use Rattle.facts.specs.Mapped.{mapped};
+ghost use Rattle.grid.specs.Plan.{columnsAt, rowsAt, cellOffset, cellTotal};
+ghost use Rattle.grid.specs.Range.{InRange};
+ghost use Rattle.mesh.specs.Mesh.{isMesh};
+ghost use Rattle.nesting.specs.Table.{CellTable, RowUnder};
+ghost use Rattle.nesting.specs.Nested.{byteFits, mostAt, nested};
+ghost use Rattle.nesting.specs.Reactivable.{reactivableByte, refinedByte, ruledOut};
 
-// The cell is present, or it is absent.
-fn state_is(cells: &[u8], at: usize, present: bool) -> bool
-    requires { ⌜ at < length (now cells) ⌝ }
-    ensures { λ r. ⌜ r ≡ stateIs (now (cells .entry)) present at ⌝ }
+// The cell is present just where it must be, and its byte is at most `most`.
+fn byte_fits(byte: u8, most: u8, present: bool) -> bool
+    ensures { λ r. ⌜ r ≡ byteFits most present byte ⌝ }
 {
-    if cells[at] == 0 { !present } else { present }
-}
-
-// The four children are present, or they are absent.
-fn family(cells: &[u8], first: usize, width: usize, present: bool) -> bool
-    requires { ⌜ (1 ≤ width) × (first + width + 1 < length (now cells)) ⌝ }
-    ensures { λ r. ⌜ r ≡ family (stateIs (now (cells .entry)) present) first width ⌝ }
-{
-    let next = first + width;
-    let low = state_is(cells, first, present) & state_is(cells, first + 1, present);
-    low & (state_is(cells, next, present) & state_is(cells, next + 1, present))
-}
-
-// A cell that can have children.
-fn inner_fits(cells: &[u8], lowest: u8, at: usize, first: usize, width: usize) -> bool
-    requires { ⌜ (at < length (now cells)) × (1 ≤ width) × (first + width + 1 < length (now cells)) ⌝ }
-    ensures { λ r. ⌜ r ≡ innerFits (now (cells .entry)) lowest at first width ⌝ }
-{
-    let byte = cells[at];
-    let known = (lowest <= byte) & (byte <= 2);
-    known & family(cells, first, width, byte == 2)
-}
-
-// A row of them, two children to each in a row of the next level.
-fn row_fits(cells: &[u8], lowest: u8, at: usize, first: usize, columns: usize, width: usize) -> bool
-    requires { ⌜ (at + columns ≤ length (now cells)) × (1 ≤ width) × (first + 2 * columns + width ≤ length (now cells)) ⌝ }
-    ensures { λ r. ⌜ r ≡ rowFits (now (cells .entry)) lowest at first columns width ⌝ }
-{
-    let mut c = 0;
-    while c < columns {
-        if inner_fits(cells, lowest, at + c, first + 2 * c, width) {
-            c += 1;
-        } else {
-            return false;
-        }
+    if byte == 0 {
+        !present
+    } else {
+        present & (byte <= most)
     }
-    true
 }
 
-// The n cells of the last level, the first of which is `at`: none is refined.
-fn last_fits(cells: &[u8], lowest: u8, at: usize, n: usize) -> bool
-    requires { ⌜ at + n ≤ length (now cells) ⌝ }
-    ensures { λ r. ⌜ r ≡ everyFrom at n (lastFits (now (cells .entry)) lowest) ⌝ }
+// The largest byte of a cell of the level: "no cell of level L-1 is split".
+fn most_at(plan: Plan, level: u32) -> u8
+    requires { ⌜ level < plan .levels ⌝ }
+    ensures { λ r. ⌜ r ≡ mostAt plan level ⌝ }
 {
-    let mut c = 0;
-    while c < n {
-        let byte = cells[at + c];
-        if (lowest <= byte) & (byte <= 1) {
-            c += 1;
-        } else {
-            return false;
-        }
+    if level + 1 == plan.levels { 1 } else { 2 }
+}
+
+// The cells of level 0: each is present.
+fn first_level_fits(plan: Plan, cells: &[u8]) -> bool
+    requires { ⌜ CellTable plan (now cells) ⌝ }
+    ensures { λ r. ⌜ r ≡ everyFrom 0 (cellOffset plan 1) (nested plan (now (cells .entry))) ⌝ }
+{
+    let end = plan.cell_offset(1) as usize;
+    let mut ok = true;
+    let mut cell = 0;
+    while cell < end {
+        ok = ok & byte_fits(cells[cell], most_at(plan, 0), true);
+        cell += 1;
     }
-    true
+    ok
 }
 
-// "no level 0 cell is absent": the smallest byte that a cell of the level may have.
-fn lowest_at(level: u32) -> u8
-    ensures { λ r. ⌜ r ≡ lowestAt level ⌝ }
+// A row of the next level: a cell is present just where its parent is refined.
+fn row_fits(plan: Plan, cells: &[u8], level: u32, at: u32, over: u32, columns: u32) -> bool
+    requires { ⌜ RowUnder plan level at over columns ⌝ }
+    requires { ⌜ length (now cells) ≡ cellTotal plan ⌝ }
+    ensures { λ r. ⌜ r ≡ everyFrom at columns (nested plan (now (cells .entry))) ⌝ }
 {
-    if level == 0 { 1 } else { 0 }
-}
-
-// The rows of a level that has a next one.
-fn rows_fit(
-    cells: &[u8],
-    lowest: u8,
-    at: usize,
-    first: usize,
-    rows: usize,
-    columns: usize,
-    width: usize,
-) -> bool
-    requires { ⌜ (at + rows * columns ≤ length (now cells)) × (first + rows * (2 * width) ≤ length (now cells)) ⌝ }
-    requires { ⌜ (1 ≤ columns) × (2 * columns ≤ width) ⌝ }
-    ensures { λ r. ⌜ r ≡ rowsFit (now (cells .entry)) lowest at first rows columns width ⌝ }
-{
-    let mut cell = at;
-    let mut child = first;
-    let mut row = 0;
-    while row < rows {
-        if row_fits(cells, lowest, cell, child, columns, width) {
-            cell += columns;
-            child += 2 * width;
-            row += 1;
-        } else {
-            return false;
-        }
+    let most = most_at(plan, level + 1);
+    let mut ok = true;
+    let mut column = 0;
+    while column < columns {
+        let here = (at + column) as usize;
+        let up = (over + plan.coarser(column, 1)) as usize;
+        ok = ok & byte_fits(cells[here], most, cells[up] == 2);
+        column += 1;
     }
-    true
+    ok
 }
 
-// The cells of a level that has a next one.
-fn level_fits(plan: Plan, cells: &[u8], level: u32) -> bool
+// The cells of the next level.
+fn next_level_fits(plan: Plan, cells: &[u8], level: u32) -> bool
     requires { ⌜ CellTable plan (now cells) ⌝ }
     requires { ⌜ level + 1 < plan .levels ⌝ }
-    ensures { λ r. ⌜ r ≡ everyFrom (cellOffset plan level) (rowsAt plan level * columnsAt plan level) (cellFits plan (now (cells .entry))) ⌝ }
+    ensures { λ r. ⌜ r ≡ everyFrom (cellOffset plan (level + 1)) (rowsAt plan (level + 1) * columnsAt plan (level + 1)) (nested plan (now (cells .entry))) ⌝ }
 {
-    let rows = plan.rows_at(level) as usize;
-    let columns = plan.columns_at(level) as usize;
-    let width = plan.columns_at(level + 1) as usize;
-    let at = plan.cell_offset(level) as usize;
-    let first = plan.cell_offset(level + 1) as usize;
-    rows_fit(cells, lowest_at(level), at, first, rows, columns, width)
-}
-
-// The cells of the last level.
-fn last_level_fits(plan: Plan, cells: &[u8]) -> bool
-    requires { ⌜ CellTable plan (now cells) ⌝ }
-    ensures { λ r. ⌜ r ≡ everyFrom (cellOffset plan (lastOf plan)) (rowsAt plan (lastOf plan) * columnsAt plan (lastOf plan)) (cellFits plan (now (cells .entry))) ⌝ }
-{
-    let last = plan.levels - 1;
-    let at = plan.cell_offset(last) as usize;
-    last_fits(cells, lowest_at(last), at, cells.len() - at)
+    let next = level + 1;
+    let rows = plan.rows_at(next);
+    let columns = plan.columns_at(next);
+    let width = plan.columns_at(level);
+    let first = plan.cell_offset(level);
+    let mut at = plan.cell_offset(next);
+    let mut ok = true;
+    let mut row = 0;
+    while row < rows {
+        let over = first + plan.coarser(row, 1) * width;
+        ok = ok & row_fits(plan, cells, level, at, over, columns);
+        at += columns;
+        row += 1;
+    }
+    ok
 }
 
 // Refusal 4 is its opposite.
@@ -135,14 +96,94 @@ pub fn is_mesh(plan: Plan, cells: &[u8]) -> bool
     requires { ⌜ CellTable plan (now cells) ⌝ }
     ensures { λ r. ⌜ r ≡ isMesh plan (now (cells .entry)) ⌝ }
 {
-    let levels = plan.levels;
+    let last = plan.levels - 1;
+    let mut ok = first_level_fits(plan, cells);
     let mut level = 0;
-    while level + 1 < levels {
-        if level_fits(plan, cells, level) {
-            level += 1;
-        } else {
-            return false;
-        }
+    while level < last {
+        ok = ok & next_level_fits(plan, cells, level);
+        level += 1;
     }
-    last_level_fits(plan, cells)
+    ok
+}
+
+// 1 for a refined cell that has children, 2 for any other.
+fn refined_byte(byte: u8, inner: bool) -> u8
+    ensures { λ r. ⌜ r ≡ cond (eqb byte 2 && inner) 1 2 ⌝ }
+{
+    if (byte == 2) & inner {
+        return 1;
+    }
+    2
+}
+
+// The same of each cell: those from `end` on are of the last level.
+fn refined_cells(cells: &[u8], out: &mut [u8], end: usize)
+    requires { ⌜ length (now out) ≡ length (now cells) ⌝ }
+    ensures { λ _. ⌜ now (out .exit) ≡ tabulate (length (now (cells .entry))) (refinedByte (now (cells .entry)) end) ⌝ }
+{
+    let mut i = 0;
+    while i < cells.len() {
+        out[i] = refined_byte(cells[i], i < end);
+        i += 1;
+    }
+}
+
+// What a child leaves of its parent's byte: a child that is not active rules the parent out.
+fn left_by(child: u8, byte: u8) -> u8
+    ensures { λ r. ⌜ r ≡ cond (eqb child 1) byte 2 ⌝ }
+{
+    if child == 1 { byte } else { 2 }
+}
+
+// A row of children.
+fn rule_out_row(plan: Plan, cells: &[u8], out: &mut [u8], at: u32, over: u32, columns: u32)
+    requires { ⌜ ((k : ℕ) × RowUnder plan k at over columns) ⌝ }
+    requires { ⌜ (length (now cells) ≡ cellTotal plan) × (length (now out) ≡ cellTotal plan) ⌝ }
+    ensures { λ _. ⌜ now (out .exit) ≡ mapped (ruledOut plan (now (cells .entry)) at columns) (now (out .entry)) ⌝ }
+{
+    let mut column = 0;
+    while column < columns {
+        let here = (at + column) as usize;
+        let parent = (over + plan.coarser(column, 1)) as usize;
+        out[parent] = left_by(cells[here], out[parent]);
+        column += 1;
+    }
+}
+
+// The children on the next level.
+fn rule_out_level(plan: Plan, cells: &[u8], out: &mut [u8], level: u32)
+    requires { ⌜ CellTable plan (now cells) ⌝ }
+    requires { ⌜ length (now out) ≡ cellTotal plan ⌝ }
+    requires { ⌜ level + 1 < plan .levels ⌝ }
+    ensures { λ _. ⌜ now (out .exit) ≡ mapped (ruledOut plan (now (cells .entry)) (cellOffset plan (level + 1)) (rowsAt plan (level + 1) * columnsAt plan (level + 1))) (now (out .entry)) ⌝ }
+{
+    let next = level + 1;
+    let rows = plan.rows_at(next);
+    let columns = plan.columns_at(next);
+    let width = plan.columns_at(level);
+    let first = plan.cell_offset(level);
+    let mut at = plan.cell_offset(next);
+    let mut row = 0;
+    while row < rows {
+        let over = first + plan.coarser(row, 1) * width;
+        rule_out_row(plan, cells, out, at, over, columns);
+        at += columns;
+        row += 1;
+    }
+}
+
+// 1 for each reactivable cell, 2 for any other.
+pub fn reactivable_cells(plan: Plan, cells: &[u8], out: &mut [u8])
+    requires { ⌜ InRange plan ⌝ }
+    requires { ⌜ (length (now cells) ≡ cellTotal plan) × (length (now out) ≡ cellTotal plan) ⌝ }
+    ensures { λ _. ⌜ now (out .exit) ≡ tabulate (cellTotal plan) (reactivableByte plan (now (cells .entry))) ⌝ }
+{
+    let last = plan.levels - 1;
+    let end = plan.cell_offset(last) as usize;
+    refined_cells(cells, out, end);
+    let mut level = 0;
+    while level < last {
+        rule_out_level(plan, cells, out, level);
+        level += 1;
+    }
 }

@@ -1,8 +1,8 @@
+pub mod Examples
 pub mod Runs
 pub mod Sets
 pub mod Marks
 pub mod Results
 pub mod Undo
-pub mod ByCells
-pub mod ByFunctions
-pub mod Worked
+pub mod UndoByCells
+pub mod UndoByFunctions

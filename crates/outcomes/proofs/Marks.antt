@@ -1,25 +1,25 @@
 -- What a call that passes refusals 1 to 9 knows of its marks, and what they mean. Assumes nothing.
 use mathlib.Core.Path.{_≡_, refl, sym, ap, _∙_, subst, fun-ext}
-use mathlib.Core.Bool.{Bool, true, false, not, _&&_, _||_, cond}
+use mathlib.Core.Bool.{_&&_}
 use mathlib.Core.Logic.{_≢_}
 use mathlib.Core.List.{List}
-use Prim.Native.Nat.{ℕ, _+_, _≤_, _<_}
+use Prim.Native.Nat.{ℕ, _+_, _<_}
 use native.Mathlib.Omega.{arith}
 use lib.Dec.{T, eqb, eqb→eq, ltb, ltb→lt, lt→ltb}
-use Rattle.facts.specs.Bounded.{some}
 use Rattle.facts.specs.Numbers.{elem, stored, first}
-use Rattle.facts.proofs.Tests.{and-i, and-l, and-r, same, T-true, T-false, eqb-of}
+use Rattle.facts.proofs.Tests.{and-l, and-r, same, T-true, T-false, eqb-of}
 use Rattle.facts.proofs.Bounded.{some-e, some-same}
 use Rattle.facts.proofs.Numbers.{first-zero, first-none, stored-is, stored-inside}
 use Rattle.hierarchy.specs.Hierarchy.{Cells, needs, closure}
 use Rattle.hierarchy.proofs.Closure.{closure-in}
 use Rattle.grid.specs.declared.Plan.{Plan}
-use Rattle.grid.specs.Plan.{cellTotal, functionTotal, cellLevel, functionLevel, cellPlace, functionPlace, lastLevel, supportedAt, supported, hierarchy}
+use Rattle.grid.specs.Plan.{cellTotal, functionTotal, cellLevel, functionLevel, lastLevel, supported, hierarchy}
 use Rattle.grid.specs.Range.{InRange}
 use Rattle.grid.proofs.Laws.{lawful, cell-inside}
+use Rattle.grid.proofs.Spans.{supported-places}
 use Rattle.mesh.specs.Mesh.{active, refined, reactivable, tableOf, check}
 use Rattle.mesh.proofs.Bridge.{Good, chain, pass, stop, active-is, reactivable-is}
-use Rattle.outcomes.specs.Calls.{Direction, refine, coarsen, By, cells, functions, total, eligible, isTooDeep, markRefusal, underMarked, underKept, selected, smallest, refusal}
+use Rattle.outcomes.specs.Calls.{Direction, refine, coarsen, By, cells, functions, total, eligible, isTooDeep, markRefusal, underMarked, selected, smallest, refusal}
 use Rattle.outcomes.proofs.Sets.{May}
 
 -- ---- refusals 7, 8, 9
@@ -43,22 +43,28 @@ module _ (d : Direction) (by : By) (p : Plan) (cs fs : List ℕ) (x : ℕ) where
   fits-i k = rw (T-true (ltb x (total by p)) (lt→ltb x (total by p) (k .inside)), T-true (eligible d by p cs fs x) (k .kind), T-false (isTooDeep d by p x) (k .shallow)) refl
 
 module _ (d : Direction) (by : By) (p : Plan) (cs fs marks : List ℕ) where
+  abbrev judged : ℕ
+  judged = first (markRefusal d by p cs fs) marks
+
+  pub refusal-check : check p cs fs ≢ 0 → refusal d by p cs fs marks ≡ check p cs fs
+  unfolding refusal
+  refusal-check n = rw (T-false (eqb (check p cs fs) 0) (λ t. n (eqb→eq _ _ t))) refl
+
+  pub refusal-mark : check p cs fs ≡ 0 → refusal d by p cs fs marks ≡ judged
+  unfolding refusal
+  refusal-mark e = rw (T-true (eqb (check p cs fs) 0) (eqb-of _ _ e)) refl
+
   -- a call that passes 1 to 9 has good tables and marks that fit
   pub refusal-e : refusal d by p cs fs marks ≡ 0 → (check p cs fs ≡ 0) × ((x : ℕ) → T (elem x marks) → Fits d by p cs fs x)
   unfolding refusal
   refusal-e e =
-      let (a, b) = chain (check p cs fs) (first (markRefusal d by p cs fs) marks) e in
+      let (a, b) = chain (check p cs fs) judged e in
       (a, λ x m. fits-e d by p cs fs x (first-zero (markRefusal d by p cs fs) marks b x m))
 
   pub refusal-i : check p cs fs ≡ 0 → ((x : ℕ) → T (elem x marks) → Fits d by p cs fs x) → refusal d by p cs fs marks ≡ 0
-  unfolding refusal
-  refusal-i e h = rw (T-true (eqb (check p cs fs) 0) (eqb-of (check p cs fs) 0 e)) (first-none (markRefusal d by p cs fs) marks (λ x m. fits-i d by p cs fs x (h x m)))
+  refusal-i e h = refusal-mark e ∙ first-none (markRefusal d by p cs fs) marks (λ x m. fits-i d by p cs fs x (h x m))
 
 -- ---- what the marks mean is fit to be refined, or coarsened
-
-pub supported-level : (p : Plan) (f c : ℕ) → T (supported p f c) → functionLevel p f ≡ cellLevel p c
-unfolding supported supportedAt
-supported-level p f c t = eqb→eq (functionLevel p f) (cellLevel p c) (and-l (eqb (functionLevel p f) (cellLevel p c)) _ t)
 
 module _ (p : Plan) (cs fs marks : List ℕ) (G : Good p cs) where
   not-last : (k : ℕ) → k < p .levels → (T (lastLevel p k) → ⊥) → k + 1 < p .levels
@@ -74,7 +80,7 @@ module _ (p : Plan) (cs fs marks : List ℕ) (G : Good p cs) where
   selected-may refine functions h c i m =
       let (f, j, u) = some-e (functionTotal p) (λ f. elem f marks && supported p f c) (and-r (active cs c) _ m) in
       let k = h f (and-l (elem f marks) _ u) in
-      let e : functionLevel p f ≡ cellLevel p c = supported-level p f c (and-r (elem f marks) _ u) in
+      let e : functionLevel p f ≡ cellLevel p c = supported-places p (G .range) f c i (and-r (elem f marks) _ u) .level in
       (subst T (active-is p cs G c i) (and-l (active cs c) _ m), not-last (cellLevel p c) (cell-inside p (G .range) c i .level<) (λ t. k .shallow (rw e t)))
   selected-may coarsen cells h c i m = subst T (reactivable-is p cs G c i) (h c m .kind)
   selected-may coarsen functions h c i m = subst T (reactivable-is p cs G c i) (and-l (reactivable p cs c) _ m)

@@ -1,37 +1,33 @@
 -- What each call makes of its input: demand 2 of one call, and the laws that the undo of a run rests on. Assumes nothing.
-use mathlib.Core.Path.{_≡_, refl, sym, ap, ap₂, _∙_, subst, fun-ext}
-use mathlib.Core.Bool.{Bool, true, false, not, _&&_, _||_, cond, Bool·beq}
+use mathlib.Core.Path.{_≡_, refl, sym, ap, _∙_, subst}
+use mathlib.Core.Bool.{Bool, true, false, not, _&&_, Bool·beq}
 use mathlib.Core.Logic.{_≢_}
-use mathlib.Core.List.{List, [], _∷_, _++_}
-use Prim.Native.Nat.{ℕ, zero, suc, pred, _+_, _≤_, _<_}
+use mathlib.Core.List.{List}
+use Prim.Native.Nat.{ℕ, suc, pred, _≤_, _<_}
 use native.Mathlib.Omega.{arith}
-use lib.Dec.{T, eqb, eqb→eq, ltb, ltb→lt, lt→ltb, nltb→le}
+use lib.Dec.{T, eqb, eqb→eq, ltb, ltb→lt, nltb→le}
 use borrow.Author.Tests.{le-ltb, lt-ltb}
-use lib.ListN.{length, getD, take, drop, length-append, length-drop}
+use lib.ListN.{length, take, drop, length-append, length-drop}
 use lib.Seq.{take-append-seam, drop-append-seam}
-use Rattle.facts.specs.Bounded.{implies, some, every}
-use Rattle.facts.specs.Numbers.{elem, rising, listed, tabulate}
-use Rattle.facts.proofs.Tests.{and-i, and-l, and-r, or-e, not-i, not-e, cases, same, T-true, T-false, implies-i, implies-e, eqb-of, differ}
-use Rattle.facts.proofs.Bounded.{every-i, every-e, some-e}
-use Rattle.facts.proofs.Numbers.{listed→, →listed, listed-rising, listed-same}
+use Rattle.facts.specs.Numbers.{elem, first}
+use Rattle.facts.proofs.Tests.{and-i, and-l, and-r, not-e, cases, T-true, T-false, eqb-of, differ}
+use Rattle.facts.proofs.Numbers.{listed→, →listed, listed-rising}
 use Rattle.hierarchy.specs.Hierarchy.{Cells, closure}
-use Rattle.hierarchy.proofs.Sets.{Inside, MeshSet, Admissible}
+use Rattle.hierarchy.proofs.Sets.{Inside}
 use Rattle.hierarchy.proofs.Closure.{closure-in, closure-admissible, closure-least}
 use Rattle.grid.specs.declared.Plan.{Plan}
-use Rattle.grid.specs.Plan.{cellTotal, functionTotal, supported, near, hierarchy}
-use Rattle.grid.specs.Range.{InRange}
-use Rattle.grid.proofs.Laws.{lawful, near-in}
-use Rattle.mesh.specs.Mesh.{absent, refined, tableOf, labelOf, labels, isMesh, isAdmissible, check}
-use Rattle.mesh.proofs.Bridge.{Good, check-good, good-check, good-table, refined-tableOf, good-inside, length-labels, getD-labels, admissible-of, is-mesh, is-admissible, deactivated-grow}
-use Rattle.outcomes.specs.Calls.{Direction, refine, coarsen, By, selected, base, smallest, changed, written, Outcome, refused, settle, newCells, refusal, outcome}
-use Rattle.outcomes.specs.Demands.{Has, Smallest, turned, Exact, Accepted, Refused}
-use Rattle.outcomes.specs.Runs.{opposite}
-use Rattle.outcomes.proofs.Sets.{put, difference, May, result-mesh, changed-may, put-back, difference-is, put-has}
-use Rattle.outcomes.proofs.Marks.{Fits, refusal-e, selected-may, smallest-is}
+use Rattle.grid.specs.Plan.{cellTotal, functionTotal, hierarchy}
+use Rattle.grid.proofs.Laws.{lawful}
+use Rattle.mesh.specs.Mesh.{refined, deactivated, tableOf, labels, check}
+use Rattle.mesh.proofs.Bridge.{Good, check-good, good-check, good-table, refined-tableOf, admissible-of, is-mesh, is-admissible, deactivated-grow}
+use Rattle.outcomes.specs.Calls.{Direction, refine, coarsen, By, markRefusal, selected, base, smallest, changed, written, Outcome, refused, settle, newCells, refusal, outcome}
+use Rattle.outcomes.specs.Demands.{Smallest, turned, Exact, Accepted, Refused}
+use Rattle.outcomes.proofs.Sets.{put, difference, differs, beq-sym, May, result-mesh, difference-is, put-has}
+use Rattle.outcomes.proofs.Marks.{Fits, refusal-check, refusal-mark, refusal-e, selected-may, smallest-is}
 
 -- ---- the new cells
 
-base-is : (d : Direction) (cs : List ℕ) (M : Cells) → base d cs M ≡ put d (refined cs) M
+pub base-is : (d : Direction) (cs : List ℕ) (M : Cells) → base d cs M ≡ put d (refined cs) M
 unfolding base
 base-is refine cs M = refl
 base-is coarsen cs M = refl
@@ -97,17 +93,8 @@ module _ (d : Direction) (by : By) (p : Plan) (cs fs marks : List ℕ) (G : Good
 
 -- ---- lists
 
-pub beq-sym : (s r : Bool) → Bool·beq s r ≡ Bool·beq r s
-beq-sym true true = refl
-beq-sym true false = refl
-beq-sym false true = refl
-beq-sym false false = refl
-
-added : (s r : Bool) → (T (s && not r) → ⊥) → not (Bool·beq s r) ≡ r && not s
-added true true h = refl
-added true false h = absurd (h tt)
-added false true h = refl
-added false false h = refl
+none-lost→ : (s r : Bool) → (T (s && not r) → ⊥) → T s → T r
+none-lost→ s r h t = cases r (λ u. u) (λ n. absurd (h (and-i s (not r) t n)))
 
 none-lost : (s r : Bool) → not (Bool·beq s r) ≡ r && not s → T (s && not r) → ⊥
 none-lost true true e t = t
@@ -116,8 +103,8 @@ none-lost false r e t = t
 
 -- where nothing turned the other way, what differs is what turned; and back
 turned-is : (d : Direction) (o w : List ℕ) (x : ℕ) → (T (turned d w o x) → ⊥) → not (Bool·beq (refined o x) (refined w x)) ≡ turned d o w x
-turned-is refine o w x h = added (refined o x) (refined w x) h
-turned-is coarsen o w x h = ap not (beq-sym (refined o x) (refined w x)) ∙ added (refined w x) (refined o x) h
+turned-is refine o w x h = differs (refined o x) (refined w x) (none-lost→ (refined o x) (refined w x) h)
+turned-is coarsen o w x h = ap not (beq-sym (refined o x) (refined w x)) ∙ differs (refined w x) (refined o x) (none-lost→ (refined w x) (refined o x) h)
 
 one-way : (d : Direction) (o w : List ℕ) (x : ℕ) → not (Bool·beq (refined o x) (refined w x)) ≡ turned d o w x → T (turned d w o x) → ⊥
 one-way refine o w x e = none-lost (refined o x) (refined w x) e
@@ -135,11 +122,11 @@ exact d n o w h = record {
 grows : (d : Direction) (p : Plan) (o w : List ℕ) → ((c : ℕ) → c < cellTotal p → T (turned d w o c) → ⊥) → (f : ℕ) → f < functionTotal p
     → T (turned d (labels p w) (labels p o) f) → ⊥
 grows refine p o w h f i t =
-    not-e (refined (labels p w) f) (and-r (refined (labels p o) f) _ t)
-    (deactivated-grow p o w (λ c j r. cases (refined w c) (λ u. u) (λ n. absurd (h c j (and-i (refined o c) (not (refined w c)) r n)))) f i (and-l (refined (labels p o) f) _ t))
+    not-e (deactivated (labels p w) f) (and-r (deactivated (labels p o) f) _ t)
+    (deactivated-grow p o w (λ c j. none-lost→ (refined o c) (refined w c) (h c j)) f i (and-l (deactivated (labels p o) f) _ t))
 grows coarsen p o w h f i t =
-    not-e (refined (labels p o) f) (and-r (refined (labels p w) f) _ t)
-    (deactivated-grow p w o (λ c j r. cases (refined o c) (λ u. u) (λ n. absurd (h c j (and-i (refined w c) (not (refined o c)) r n)))) f i (and-l (refined (labels p w) f) _ t))
+    not-e (deactivated (labels p o) f) (and-r (deactivated (labels p w) f) _ t)
+    (deactivated-grow p w o (λ c j. none-lost→ (refined w c) (refined o c) (h c j)) f i (and-l (deactivated (labels p w) f) _ t))
 
 -- ---- the outcome of an accepted call
 
@@ -189,25 +176,39 @@ module _ (d : Direction) (by : By) (p : Plan) (cs fs marks cl fl : List ℕ) whe
   abbrev fs₁ : List ℕ
   fs₁ = labels p cs₁
 
-  settled : refusal d by p cs fs marks ≡ 0 → outcome d by p cs fs marks cl fl ≡ settle p cs fs cl fl cs₁ fs₁
+  pub outcome-settled : refusal d by p cs fs marks ≡ 0 → outcome d by p cs fs marks cl fl ≡ settle p cs fs cl fl cs₁ fs₁
   unfolding outcome
-  settled e = rw (T-true (eqb (refusal d by p cs fs marks) 0) (eqb-of _ _ e)) refl
+  outcome-settled e = rw (T-true (eqb (refusal d by p cs fs marks) 0) (eqb-of _ _ e)) refl
 
   pub outcome-accepted : refusal d by p cs fs marks ≡ 0 → length (changed (cellTotal p) cs cs₁) ≤ length cl → length (changed (functionTotal p) fs fs₁) ≤ length fl
       → outcome d by p cs fs marks cl fl ≡ accepted p cs fs cl fl cs₁ fs₁
-  outcome-accepted e a b = settled e ∙ settle-room p cs fs cl fl cs₁ fs₁ a b
+  outcome-accepted e a b = outcome-settled e ∙ settle-room p cs fs cl fl cs₁ fs₁ a b
 
-  outcome-refused : refusal d by p cs fs marks ≢ 0 → outcome d by p cs fs marks cl fl ≡ refused (refusal d by p cs fs marks) cs fs cl fl
+  pub outcome-refused : refusal d by p cs fs marks ≢ 0 → outcome d by p cs fs marks cl fl ≡ refused (refusal d by p cs fs marks) cs fs cl fl
   unfolding outcome
   outcome-refused n = rw (T-false (eqb (refusal d by p cs fs marks) 0) (λ t. n (eqb→eq _ _ t))) refl
+
+  -- the first refusal gives the number
+  pub outcome-check : check p cs fs ≢ 0 → outcome d by p cs fs marks cl fl ≡ refused (check p cs fs) cs fs cl fl
+  outcome-check n = outcome-refused (λ z. n (sym e ∙ z)) ∙ ap (λ m. refused m cs fs cl fl) e
+    where
+      e : refusal d by p cs fs marks ≡ check p cs fs
+      e = refusal-check d by p cs fs marks n
+
+  pub outcome-mark : check p cs fs ≡ 0 → first (markRefusal d by p cs fs) marks ≢ 0
+      → outcome d by p cs fs marks cl fl ≡ refused (first (markRefusal d by p cs fs) marks) cs fs cl fl
+  outcome-mark k n = outcome-refused (λ z. n (sym e ∙ z)) ∙ ap (λ m. refused m cs fs cl fl) e
+    where
+      e : refusal d by p cs fs marks ≡ first (markRefusal d by p cs fs) marks
+      e = refusal-mark d by p cs fs marks k
 
   pub made : Made d by p cs fs marks cl fl (outcome d by p cs fs marks cl fl)
   made = cases (eqb (refusal d by p cs fs marks) 0)
       (λ z. let e : refusal d by p cs fs marks ≡ 0 = eqb→eq _ _ z in
       cases (ltb (length cl) (length (changed (cellTotal p) cs cs₁)))
-      (λ t. refusal-of 9 (settled e ∙ settle-10 p cs fs cl fl cs₁ fs₁ (ltb→lt _ _ t)))
+      (λ t. refusal-of 9 (outcome-settled e ∙ settle-10 p cs fs cl fl cs₁ fs₁ (ltb→lt _ _ t)))
       (λ t. cases (ltb (length fl) (length (changed (functionTotal p) fs fs₁)))
-      (λ u. refusal-of 10 (settled e ∙ settle-11 p cs fs cl fl cs₁ fs₁ (nltb→le _ _ t) (ltb→lt _ _ u)))
+      (λ u. refusal-of 10 (outcome-settled e ∙ settle-11 p cs fs cl fl cs₁ fs₁ (nltb→le _ _ t) (ltb→lt _ _ u)))
       (λ u. accepted-as cs₁ fs₁ refl refl e (nltb→le _ _ t) (nltb→le _ _ u) (outcome-accepted e (nltb→le _ _ t) (nltb→le _ _ u)))))
       (λ z. let n : refusal d by p cs fs marks ≢ 0 = differ _ _ z in
       let k : suc (pred (refusal d by p cs fs marks)) ≡ refusal d by p cs fs marks = omega arith in

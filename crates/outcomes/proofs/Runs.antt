@@ -1,7 +1,7 @@
 -- A whole run is undone where each of its calls is: one induction, for marks by cells and by functions. Assumes nothing.
-use mathlib.Core.Path.{_≡_, refl, sym, ap, ap₂, _∙_, subst}
-use mathlib.Core.List.{List, [], _∷_, _++_, append-nil, append-assoc}
-use Prim.Native.Nat.{ℕ, _≤_}
+use mathlib.Core.Path.{_≡_, refl, sym, ap, ap₂, _∙_}
+use mathlib.Core.List.{List, [], _∷_, _++_}
+use Prim.Native.Nat.{_≤_}
 use lib.ListN.{length}
 use Rattle.grid.specs.declared.Plan.{Plan}
 use Rattle.outcomes.specs.Calls.{By}

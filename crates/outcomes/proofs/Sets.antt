@@ -1,13 +1,12 @@
 -- The two directions, over sets of cells, as one: what each settles, what it changed, and that the opposite takes it back.
 -- Assumes nothing.
-use mathlib.Core.Path.{_≡_, refl, sym, ap, _∙_, subst}
-use mathlib.Core.Bool.{Bool, true, false, not, _&&_, _||_, Bool·beq}
-use Prim.Native.Nat.{ℕ, _+_, _≤_, _<_}
+use mathlib.Core.Path.{_≡_, refl, ap, _∙_}
+use mathlib.Core.Bool.{Bool, true, false, not, _&&_, Bool·beq}
+use Prim.Native.Nat.{ℕ, _+_, _<_}
 use lib.Dec.{T}
-use Rattle.facts.proofs.Tests.{and-i, and-l, and-r, or-l, cases}
 use Rattle.hierarchy.specs.Hierarchy.{Hierarchy, Cells, closure}
-use Rattle.hierarchy.proofs.Sets.{Lawful, _∪_, _∖_, MeshSet, Admissible, Within, Inside, active, reactivable}
-use Rattle.hierarchy.proofs.Closure.{closure-in, closure-admissible, closure-least, closure-has}
+use Rattle.hierarchy.proofs.Sets.{Lawful, _∪_, _∖_, MeshSet, Admissible, active, reactivable}
+use Rattle.hierarchy.proofs.Closure.{closure-has}
 use Rattle.hierarchy.proofs.Undo as undo
 use Rattle.outcomes.specs.Calls.{Direction, refine, coarsen}
 use Rattle.outcomes.specs.Runs.{opposite}
@@ -20,6 +19,19 @@ put coarsen S M = S ∖ M
 abbrev pub difference : Direction → Cells → Cells → Cells
 difference refine S R = R ∖ S
 difference coarsen S R = S ∖ R
+
+-- what grew differs where it was added
+pub differs : (s r : Bool) → (T s → T r) → not (Bool·beq s r) ≡ r && not s
+differs true true f = refl
+differs true false f = absurd (f tt)
+differs false true f = refl
+differs false false f = refl
+
+pub beq-sym : (s r : Bool) → Bool·beq s r ≡ Bool·beq r s
+beq-sym true true = refl
+beq-sym true false = refl
+beq-sym false true = refl
+beq-sym false false = refl
 
 -- what a cell must be so that it may be selected
 abbrev pub May : Direction → Hierarchy → Cells → ℕ → Type 0
@@ -44,22 +56,10 @@ module _ (H : Hierarchy) (L : Lawful H) (S M : Cells) (G : Admissible H S) (W : 
   put-back coarsen a = undo.coarsen-undone H L S M G W a
 
   -- refining only adds, coarsening only takes away, so a cell that differs is one that was added, or taken
-  differs : (s r : Bool) → (T s → T r) → not (Bool·beq s r) ≡ r && not s
-  differs true true f = refl
-  differs true false f = absurd (f tt)
-  differs false true f = refl
-  differs false false f = refl
-
-  differs′ : (s r : Bool) → (T r → T s) → not (Bool·beq s r) ≡ s && not r
-  differs′ true true f = refl
-  differs′ true false f = refl
-  differs′ false true f = absurd (f tt)
-  differs′ false false f = refl
-
   pub difference-is : (d : Direction) → ((c : ℕ) → c < H .size → T (M c) → May d H S c) → (c : ℕ) → c < H .size
       → not (Bool·beq (S c) (closure H (put d S M) c)) ≡ difference d S (closure H (put d S M)) c
   difference-is refine a c i = differs (S c) (closure H (S ∪ M) c) (undo.refine-keeps H L S M G W a c i)
-  difference-is coarsen a c i = differs′ (S c) (closure H (S ∖ M) c) (undo.coarsen-within H L S M G W a c)
+  difference-is coarsen a c i = ap not (beq-sym (S c) (closure H (S ∖ M) c)) ∙ differs (closure H (S ∖ M) c) (S c) (undo.coarsen-within H L S M G W a c)
 
   -- what the call was to have, it has; and each admissible set with the same has its cells
   pub put-has : (d : Direction) (c : ℕ) → c < H .size → T (put d S M c) → T (closure H (put d S M) c)

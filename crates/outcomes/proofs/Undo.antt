@@ -1,12 +1,11 @@
 -- How a call is taken back, with the kept cell list or the kept function list as marks: what must be known of the change it
 -- made, and that this is enough. Assumes nothing.
 use mathlib.Core.Path.{_≡_, refl, sym, ap, ap₂, _∙_, subst}
-use mathlib.Core.Bool.{Bool, true, false, not, _&&_, _||_, Bool·beq, or-false, and-true}
-use mathlib.Core.List.{List, [], _∷_, _++_}
+use mathlib.Core.Bool.{Bool, true, false, not, _&&_, Bool·beq, or-false, and-true}
+use mathlib.Core.List.{List, []}
 use Prim.Native.Nat.{ℕ, zero, suc, _≤_, _<_}
 use lib.Dec.{T, ltb, lt→ltb}
 use lib.ListN.{length, take}
-use Rattle.facts.specs.Bounded.{some}
 use Rattle.facts.specs.Numbers.{elem, listed}
 use Rattle.facts.proofs.Tests.{and-l, and-r, T-true, T-false}
 use Rattle.facts.proofs.Bounded.{some-e}
@@ -18,11 +17,11 @@ use Rattle.grid.specs.Plan.{cellTotal, functionTotal, supported, hierarchy}
 use Rattle.grid.proofs.Laws.{lawful}
 use Rattle.mesh.specs.Mesh.{active, refined, reactivable, tableOf, labels, check}
 use Rattle.mesh.proofs.Bridge.{Good, check-good, good-check, good-inside}
-use Rattle.outcomes.specs.Calls.{Direction, refine, coarsen, By, cells, functions, underMarked, selected, changed, Outcome, refused, newCells, refusal, outcome}
+use Rattle.outcomes.specs.Calls.{Direction, refine, coarsen, By, cells, functions, underMarked, selected, changed, Outcome, refused, newCells, outcome}
 use Rattle.outcomes.specs.Runs.{Tables, LentLists, Call, Entry, result, after, entry, opposite, taking, taken}
-use Rattle.outcomes.proofs.Sets.{put}
+use Rattle.outcomes.proofs.Sets.{put, beq-sym}
 use Rattle.outcomes.proofs.Marks.{Fits, refusal-e, refusal-i, inside-ext, closure-same-below}
-use Rattle.outcomes.proofs.Results.{new-is, new-good, accepted, Made, refusal-of, accepted-as, made, outcome-accepted, written-take, beq-sym}
+use Rattle.outcomes.proofs.Results.{new-is, new-good, accepted, Made, refusal-of, accepted-as, made, outcome-accepted, written-take}
 use Rattle.outcomes.proofs.Runs.{Back}
 
 -- ---- changes
@@ -104,17 +103,17 @@ module _ (by : By) (d : Direction) (p : Plan) (cs : List ℕ) (G : Good p cs) wh
   unfolding underMarked elem
   under-none c t = some-e (functionTotal p) (λ f. elem f [] && supported p f c) t .2
 
-  meant-none : (e : Direction) (b : By) (fs : List ℕ) (c : ℕ) → T (selected e b p cs fs [] c) → ⊥
+  selected-none : (e : Direction) (b : By) (fs : List ℕ) (c : ℕ) → T (selected e b p cs fs [] c) → ⊥
   unfolding selected elem
-  meant-none e cells fs c t = t
-  meant-none refine functions fs c t = under-none c (and-r (active cs c) _ t)
-  meant-none coarsen functions fs c t = under-none c (and-l (underMarked p [] c) _ (and-r (reactivable p cs c) _ t))
+  selected-none e cells fs c t = t
+  selected-none refine functions fs c t = under-none c (and-r (active cs c) _ t)
+  selected-none coarsen functions fs c t = under-none c (and-l (underMarked p [] c) _ (and-r (reactivable p cs c) _ t))
 
   nothing : Undoable by d p cs cs G G
   nothing = record {
     fit = λ x t. absurd (unfold elem in rw (none-kept by) at t);
     back = λ c i.
-        ap (λ X. X c) (closure-same-below p _ (refined cs) (λ x _. put-none (opposite d) _ x (rw (none-kept by) (meant-none (opposite d) by (labels p cs) x))))
+        ap (λ X. X c) (closure-same-below p _ (refined cs) (λ x _. put-none (opposite d) _ x (rw (none-kept by) (selected-none (opposite d) by (labels p cs) x))))
         ∙ closure-same (hierarchy p) (lawful p (G .range)) (refined cs) (G .admissible) c i;
   }
 

@@ -1,10 +1,10 @@
 -- Document 01, "The calls" and "The refusal table": refine ("split") and coarsen ("join"), by cells and by functions, each as one
 -- function of its whole input. Everywhere cs and fs are the cell and the function table, cl and fl the lent cell and function list;
 -- a prime marks what a call makes of them. Definitions only.
-use mathlib.Core.Bool.{Bool, true, false, not, _&&_, _||_, cond, Bool·beq}
+use mathlib.Core.Bool.{Bool, false, not, _&&_, _||_, cond, Bool·beq}
 use mathlib.Core.List.{List, _++_}
 use Prim.Native.Nat.{ℕ}
-use lib.Dec.{ltb, leb, eqb}
+use lib.Dec.{ltb, eqb}
 use lib.ListN.{length, drop}
 use Rattle.facts.specs.Bounded.{some}
 use Rattle.facts.specs.Numbers.{elem, listed, stored, first}

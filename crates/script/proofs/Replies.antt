@@ -3,12 +3,13 @@ use mathlib.Core.Path.{_≡_, refl, sym, ap, ap₂, subst, _∙_}
 use mathlib.Core.Bool.{Bool, true, false, cond}
 use mathlib.Core.Logic.{inl, inr}
 use mathlib.Core.List.{List, [], _∷_, _++_}
-use Prim.Native.Nat.{ℕ, _+_, _≤_, _<_}
+use Prim.Native.Nat.{ℕ, _≤_, _<_}
 use native.Mathlib.Omega.{arith}
 use native.Mathlib.Nat.{mul-le-mul}
 use lib.Dec.{eqb, leb, ltb, eqb-refl}
 use lib.ListN.{length, take, drop, length-append, length-replicate, length-map}
-use lib.Seq.{length-take-le, take-at, take-append-seam}
+use lib.Seq.{length-take-le, take-at}
+use Rattle.outcomes.proofs.Results.{written-take}
 use borrow.Author.Tests.{lt-ltb, le-ltb, le-leb, eqb-true, eqb-false, ne-eqb}
 use Rattle.facts.proofs.Tests.{T-true}
 use Rattle.grid.specs.declared.Plan.{Plan}
@@ -18,7 +19,7 @@ use Rattle.grid.specs.Range.{InRange}
 use Rattle.grid.specs.Plan.{inRange, ratio, grown, columnsAt, rowsAt, tooLarge, cellTotal, functionTotal}
 use Rattle.grid.proofs.Numbering.{level-ends}
 use Rattle.mesh.specs.Mesh.{refusal3, Opened, freshCells, freshFunctions, openMesh}
-use Rattle.outcomes.specs.Calls.{Direction, coarsen, By, cells, functions, changed, written, Outcome, refused, settle, refusal, outcome}
+use Rattle.outcomes.specs.Calls.{Direction, coarsen, By, cells, functions, changed, Outcome, refused, settle, refusal, outcome}
 use Rattle.lines.specs.declared.Kind.{Kind}
 use Rattle.lines.specs.declared.Kind.the-variants.{Unreadable, Wall, Split, Join, SplitFunctions, JoinFunctions}
 use Rattle.lines.proofs.Kind as kinds
@@ -106,10 +107,6 @@ alike-cond false x x′ y y′ h g = g
 refused-alike : (n : ℕ) (cs fs cl fl cl′ fl′ : List ℕ) → Alike (refused n cs fs cl fl) (refused n cs fs cl′ fl′)
 unfolding refused
 refused-alike n cs fs cl fl cl′ fl′ = (refl, refl, refl)
-
-written-take : (xs list : List ℕ) → take (length xs) (written xs list) ≡ xs
-unfolding written
-written-take xs list = take-append-seam xs (drop (length xs) list)
 
 settle-alike : (p : Plan) (cs fs cl fl cl′ fl′ cs′ fs′ : List ℕ) → length cl ≡ length cl′ → length fl ≡ length fl′
     → Alike (settle p cs fs cl fl cs′ fs′) (settle p cs fs cl′ fl′ cs′ fs′)

@@ -30,6 +30,8 @@ pub table : List Row
 table =
     -- document 01's sample
     prints "wall 3 1 3 1 1 2\nsplit 0\nsplit 3\njoin 1\n" "0;;\n0;0;0 4\n0;1 3;1 5 8\n0;;\n"
+    -- the README's, examples/session.txt: the last line takes the third back
+    ∷ prints "wall 3 1 3 1 1 2\nsplit 0\nsplit 3\njoin 1\njoin 1 3\n" "0;;\n0;0;0 4\n0;1 3;1 5 8\n0;;\n0;1 3;1 5 8\n"
     -- no input, and a line that cannot be read; a mark line before any wall
     ∷ prints "" ""
     ∷ prints "\nsplit 0" "?\n?\n"

@@ -15,6 +15,7 @@ ghost use Rattle.script.specs.Session.{planOf, opening, calling, obey as
 ghost use Rattle.script.specs.Steps.{held, HandSized, directionOf, byOf, Said, Answered, Replied};
 ghost use Rattle.script.specs.Bounds.{answerBytes, wallCells, wallFunctions};
 use calls::By;
+use calls::Call;
 use calls::Direction;
 use grid::Plan;
 use lines::Kind;
@@ -190,9 +191,10 @@ fn call(
     ensures { λ r. ⌜ Meets (outcome (directionOf kind) (byOf kind) plan) r cells functions marks «cell_list» «function_list» ⌝ }
     ensures { λ r. ⌜ (r .cells ≤ length (now («cell_list» .exit))) × (r .functions ≤ length (now («function_list» .exit))) ⌝ }
 {
+    let checked = tables::check(plan, cells, functions);
     calls::change(
-        direction_of(kind),
-        by_of(kind),
+        checked,
+        Call(direction_of(kind), by_of(kind)),
         plan,
         cells,
         functions,

@@ -1,5 +1,6 @@
 // The library's interface: the calls, exported with C's calling convention. include/wallmirror.h declares them.
 use calls::By;
+use calls::Call;
 use calls::Direction;
 use grid::Plan;
 use mesh::Count;
@@ -43,9 +44,10 @@ pub extern "C" fn wallmirror_refine_cells(
 ) -> Answer
     ensures { λ r. ⌜ Meets (refineCells plan) r cells functions marks «cell_list» «function_list» ⌝ }
 {
+    let checked = tables::check(plan, cells, functions);
     calls::change(
-        Direction::Refine,
-        By::Cells,
+        checked,
+        Call(Direction::Refine, By::Cells),
         plan,
         cells,
         functions,
@@ -66,9 +68,10 @@ pub extern "C" fn wallmirror_refine_functions(
 ) -> Answer
     ensures { λ r. ⌜ Meets (refineFunctions plan) r cells functions marks «cell_list» «function_list» ⌝ }
 {
+    let checked = tables::check(plan, cells, functions);
     calls::change(
-        Direction::Refine,
-        By::Functions,
+        checked,
+        Call(Direction::Refine, By::Functions),
         plan,
         cells,
         functions,
@@ -89,9 +92,10 @@ pub extern "C" fn wallmirror_coarsen_cells(
 ) -> Answer
     ensures { λ r. ⌜ Meets (coarsenCells plan) r cells functions marks «cell_list» «function_list» ⌝ }
 {
+    let checked = tables::check(plan, cells, functions);
     calls::change(
-        Direction::Coarsen,
-        By::Cells,
+        checked,
+        Call(Direction::Coarsen, By::Cells),
         plan,
         cells,
         functions,
@@ -112,9 +116,10 @@ pub extern "C" fn wallmirror_coarsen_functions(
 ) -> Answer
     ensures { λ r. ⌜ Meets (coarsenFunctions plan) r cells functions marks «cell_list» «function_list» ⌝ }
 {
+    let checked = tables::check(plan, cells, functions);
     calls::change(
-        Direction::Coarsen,
-        By::Functions,
+        checked,
+        Call(Direction::Coarsen, By::Functions),
         plan,
         cells,
         functions,

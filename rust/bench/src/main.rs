@@ -1,124 +1,195 @@
-//! Prints, for the largest meshes, what each call of the library takes beside the model and beside
-//! reading both tables once. Run it in release mode: `cargo run --release --offline -p bench`.
+//! Prints, for meshes near the largest, what each call takes: the library, the tuned C version
+//! beside it (`c/tuned.c`), the model, and how often both tables could be read meanwhile. Run it in
+//! release mode: `cargo run --release --offline -p bench`.
+//!
+//! The times are the least of many rounds. Library, C and reading take turns, so that a ratio
+//! compares what ran under the same conditions.
 
-use differential::{plan, raw, Kind, Tables};
+mod versions;
+
+use differential::scenario::{self, Scenario};
+use differential::{Kind, Tables};
 use std::hint::black_box;
 use std::time::{Duration, Instant};
-use wallmirror::ffi;
-use Kind::*;
+use versions::{agree, Buffers, Call, LIBRARY, TUNED};
 
-/// A mesh to refine and a mesh to coarsen.
-struct Scenario {
-    name: &'static str,
-    numbers: [u32; 6],
-    to_refine: Tables,
-    to_coarsen: Tables,
+/// Calls that are held to the same ratio to reading both tables once.
+#[derive(Clone, Copy, PartialEq, Eq)]
+enum Goal {
+    Check,
+    OneCell,
+    AllCells,
+    Functions,
+}
+
+impl Goal {
+    const ALL: [Goal; 4] = [Goal::Check, Goal::OneCell, Goal::AllCells, Goal::Functions];
+
+    fn of(call: Call, marks: usize) -> Option<Goal> {
+        match call {
+            Call::Open | Call::Count => None,
+            Call::Check => Some(Goal::Check),
+            Call::Change(kind) if kind.by_functions() => Some(Goal::Functions),
+            Call::Change(_) if marks == 1 => Some(Goal::OneCell),
+            Call::Change(_) => Some(Goal::AllCells),
+        }
+    }
+
+    fn name(self) -> &'static str {
+        match self {
+            Goal::Check => "check",
+            Goal::OneCell => "by cells, one mark",
+            Goal::AllCells => "by cells, all marks",
+            Goal::Functions => "by functions",
+        }
+    }
+
+    /// How many times as long as reading both tables once it may take.
+    fn most(self) -> f64 {
+        match self {
+            Goal::Check => 10.0,
+            Goal::OneCell => 20.0,
+            Goal::AllCells => 40.0,
+            Goal::Functions => 35.0,
+        }
+    }
+}
+
+/// The least times of one call on one mesh.
+struct Row {
+    call: Call,
+    place: String,
+    marks: usize,
+    changed: u32,
+    library: Duration,
+    tuned: Duration,
+    model: Duration,
+    read: Duration,
+}
+
+impl Row {
+    fn to_read(&self) -> f64 {
+        self.library.as_secs_f64() / self.read.as_secs_f64()
+    }
+
+    fn to_tuned(&self) -> f64 {
+        self.library.as_secs_f64() / self.tuned.as_secs_f64()
+    }
+
+    fn goal(&self) -> Option<Goal> {
+        Goal::of(self.call, self.marks)
+    }
+
+    fn misses(&self) -> bool {
+        self.goal().is_some_and(|goal| self.to_read() > goal.most())
+    }
+
+    fn said(&self) -> String {
+        let marks = match self.marks {
+            0 => String::new(),
+            1 => " with one mark".to_string(),
+            many => format!(" with {many} marks"),
+        };
+        format!("{}{marks}: {}", self.call.name(), self.place)
+    }
+
+    fn print(&self) {
+        let goal = self.goal().map_or(String::new(), |goal| format!("{:.0}", goal.most()));
+        println!(
+            "{:<18} {:>6} {:>8} {:>11.1} {:>9.1} {:>11.1} {:>10.1} {:>13.1} {:>13.1} {:>5}{}",
+            self.call.name(),
+            self.marks,
+            self.changed,
+            microseconds(self.library),
+            microseconds(self.tuned),
+            microseconds(self.model),
+            self.to_tuned(),
+            self.model.as_secs_f64() / self.library.as_secs_f64(),
+            self.to_read(),
+            goal,
+            if self.misses() { " missed" } else { "" }
+        );
+    }
 }
 
 fn main() {
     if cfg!(debug_assertions) {
         eprintln!("bench: these are times of a debug build; use cargo run --release");
     }
-    for scenario in [
-        wholly("wholly refined", [1, 1, 8, 3, 3, 0]),
-        wholly("wholly refined", [16, 16, 4, 3, 3, 0]),
-        wholly("wholly refined", [16, 1, 6, 3, 3, 0]),
-        cornered("refined towards a corner", [1, 1, 8, 4, 4, 2]),
-        cornered("refined towards a corner", [16, 16, 4, 4, 4, 2]),
-        cornered("refined towards a corner", [16, 1, 6, 4, 4, 2]),
-        wholly("wholly refined", [1, 1, 8, 4, 4, 2]),
-        nearly_empty("nearly empty", [16, 16, 4, 4, 4, 2]),
-        nearly_empty("nearly empty", [1, 1, 8, 3, 3, 0]),
-    ] {
-        print_scenario(&scenario);
-    }
+    println!("C: {}. Times in microseconds, the least of many rounds.\n", env!("TUNED_BY"));
+    let rows: Vec<Row> = scenario::all().iter().flat_map(measure).collect();
+    print_summary(&rows);
 }
 
-/// All cells refined, and the mesh before its last level was.
-fn wholly(name: &'static str, numbers: [u32; 6]) -> Scenario {
-    let mut tables = Tables::opened(plan(numbers));
-    let mut before = tables.clone();
-    for _ in 1..tables.plan.levels {
-        before = tables.clone();
-        let marks = tables.markable(RefineCells);
-        tables.call_with_room(RefineCells, &marks);
-    }
-    Scenario { name, numbers, to_refine: before, to_coarsen: tables }
-}
-
-/// The cell at one corner refined down to the last level, and the mesh before the last step.
-fn cornered(name: &'static str, numbers: [u32; 6]) -> Scenario {
-    let mut tables = Tables::opened(plan(numbers));
-    let mut before = tables.clone();
-    for level in 0..tables.plan.levels - 1 {
-        before = tables.clone();
-        let mark = tables.plan.cell_number(model::Cell { level, row: 0, column: 0 }) as u32;
-        tables.call_with_room(RefineCells, &[mark]);
-    }
-    Scenario { name, numbers, to_refine: before, to_coarsen: tables }
-}
-
-/// The open mesh, and the same with one cell refined.
-fn nearly_empty(name: &'static str, numbers: [u32; 6]) -> Scenario {
-    let opened = Tables::opened(plan(numbers));
-    let mut tables = opened.clone();
-    tables.call_with_room(RefineCells, &[0]);
-    Scenario { name, numbers, to_refine: opened, to_coarsen: tables }
-}
-
-fn print_scenario(scenario: &Scenario) {
-    let Scenario { name, numbers, to_refine, to_coarsen } = scenario;
-    let [columns, rows, levels, p, q, class] = numbers;
-    println!("{name}: {columns} {rows} {levels}, degrees {p} {q}, class {class}");
-    let count = to_coarsen.count();
+/// Measures and prints every call on the meshes of one scenario.
+fn measure(scenario: &Scenario) -> Vec<Row> {
+    let count = scenario.to_coarsen.count();
+    println!("{scenario}");
     println!(
         "{} cells, {} functions; {} active cells, {} refined, {} active functions",
-        to_coarsen.cells.len(),
-        to_coarsen.functions.len(),
+        scenario.to_coarsen.cells.len(),
+        scenario.to_coarsen.functions.len(),
         count.active_cells,
         count.refined_cells,
         count.active_functions
     );
-    let read = median(|| timed(|| read_once(black_box(to_coarsen))));
-    println!("reading both tables once: {:.1} us", microseconds(read));
     println!(
-        "{:<18} {:>6} {:>8} {:>12} {:>12} {:>14} {:>13}",
-        "call", "marks", "changed", "library us", "model us", "model/library", "library/read"
+        "{:<18} {:>6} {:>8} {:>11} {:>9} {:>11} {:>10} {:>13} {:>13} {:>5}",
+        "call",
+        "marks",
+        "changed",
+        "library",
+        "C",
+        "model",
+        "library/C",
+        "model/library",
+        "library/read",
+        "goal"
     );
-    let row = |call: &str, marks: usize, changed: usize, library: Duration, model: Duration| {
-        println!(
-            "{call:<18} {marks:>6} {changed:>8} {:>12.1} {:>12.1} {:>14.1} {:>13.1}",
-            microseconds(library),
-            microseconds(model),
-            model.as_secs_f64() / library.as_secs_f64(),
-            library.as_secs_f64() / read.as_secs_f64()
-        );
+    let mut rows = vec![];
+    let mut add = |call, tables, marks: &[u32]| {
+        rows.push(time(call, tables, marks, scenario.to_string()));
+        rows[rows.len() - 1].print();
     };
-    let (library, model) = time_open(to_coarsen);
-    row("open", 0, 0, library, model);
-    let (library, model) = time_check(to_coarsen);
-    row("check", 0, 0, library, model);
-    let (library, model) = time_count(to_coarsen);
-    row("count", 0, 0, library, model);
+    for call in [Call::Open, Call::Check, Call::Count] {
+        add(call, &scenario.to_coarsen, &[]);
+    }
     for kind in Kind::ALL {
-        let tables = if kind.refines() { to_refine } else { to_coarsen };
+        let tables = scenario.before(kind);
         let markable = tables.markable(kind);
         // The last one is of the finest level, where a class asks for most.
-        let one = &markable[markable.len() - 1..];
-        let all = &markable[..];
-        for marks in if markable.len() == 1 { vec![one] } else { vec![one, all] } {
-            let changed = tables.clone().call_with_room(kind, marks).cells.len();
-            let (library, model) = time_change(kind, tables, marks);
-            let name = match kind {
-                RefineCells => "refine cells",
-                RefineFunctions => "refine functions",
-                CoarsenCells => "coarsen cells",
-                CoarsenFunctions => "coarsen functions",
-            };
-            row(name, marks.len(), changed, library, model);
+        add(Call::Change(kind), tables, &markable[markable.len() - 1..]);
+        if markable.len() > 1 {
+            add(Call::Change(kind), tables, &markable);
         }
     }
-    println!();
+    let read = rows.iter().map(|row| row.read).min().expect("a row");
+    let by_vectors = time_vectors(&scenario.to_coarsen);
+    println!(
+        "reading both tables once: {:.1} by a plain sum, to which the ratios are; {:.1} by vectors\n",
+        microseconds(read),
+        microseconds(by_vectors)
+    );
+    rows
+}
+
+fn print_summary(rows: &[Row]) {
+    for row in rows.iter().filter(|row| row.misses()) {
+        let most = row.goal().map_or(0.0, Goal::most);
+        println!("missed: {:.1} times reading, not {most:.0}, {}", row.to_read(), row.said());
+    }
+    let missed = rows.iter().filter(|row| row.misses()).count();
+    println!("{missed} of {} goals missed", rows.iter().filter(|row| row.goal().is_some()).count());
+    for goal in Goal::ALL {
+        let of_goal: Vec<&Row> = rows.iter().filter(|row| row.goal() == Some(goal)).collect();
+        let greatest = |ratio: fn(&Row) -> f64| {
+            let row = of_goal.iter().max_by(|a, b| ratio(a).total_cmp(&ratio(b))).expect("a row");
+            format!("{:.1}, {}", ratio(row), row.said())
+        };
+        println!("{}, at most {:.0} times reading:", goal.name(), goal.most());
+        println!("  greatest ratio to reading {}", greatest(Row::to_read));
+        println!("  greatest ratio to C {}", greatest(Row::to_tuned));
+    }
 }
 
 fn microseconds(time: Duration) -> f64 {
@@ -131,105 +202,92 @@ fn timed<T>(work: impl FnOnce() -> T) -> Duration {
     start.elapsed()
 }
 
-/// The median of as many runs as fit into a fifth of a second, at least three.
-fn median(mut run: impl FnMut() -> Duration) -> Duration {
-    let start = Instant::now();
-    let mut times = vec![];
-    while times.len() < 3 || (start.elapsed() < Duration::from_millis(200) && times.len() < 1001) {
-        times.push(run());
+/// Times a call once its results are seen to be the same in all versions.
+fn time(call: Call, tables: &Tables, marks: &[u32], place: String) -> Row {
+    let mut buffers = Buffers::with_room(tables);
+    let (number, changed) = agree(call, &buffers, marks);
+    assert_eq!(number, 0, "{} on {place}", call.name());
+    if let Call::Change(kind) = call {
+        tables.clone().call_with_room(kind, marks);
     }
-    times.sort();
-    times[times.len() / 2]
+    let mut of_version = |version| {
+        buffers.restore(tables);
+        timed(|| buffers.run(version, call, marks))
+    };
+    let [mut library, mut tuned, mut read] = [Duration::MAX; 3];
+    repeat(Duration::from_millis(300), 1000, || {
+        library = library.min(of_version(&LIBRARY));
+        tuned = tuned.min(of_version(&TUNED));
+        // Several times, since the first finds the tables pushed out of the nearest cache.
+        for _ in 0..3 {
+            read = read.min(timed(|| read_once(black_box(tables))));
+        }
+    });
+    let mut model = Duration::MAX;
+    repeat(Duration::from_millis(60), 50, || {
+        model = model.min(timed(|| run_model(call, tables, marks)));
+    });
+    Row { call, place, marks: marks.len(), changed, library, tuned, model, read }
 }
 
+fn time_vectors(tables: &Tables) -> Duration {
+    assert_eq!(read_by_vectors(tables), read_once(tables));
+    let mut read = Duration::MAX;
+    repeat(Duration::from_millis(50), 400, || {
+        read = read.min(timed(|| read_by_vectors(black_box(tables))));
+    });
+    read
+}
+
+/// At least twice, then until the time is up or there were enough rounds.
+fn repeat(time: Duration, most: usize, mut round: impl FnMut()) {
+    let start = Instant::now();
+    for i in 0..most {
+        if i >= 2 && start.elapsed() > time {
+            return;
+        }
+        round();
+    }
+}
+
+/// A plain sum of all bytes. This is the reading that the goals are ratios to.
+#[inline(never)]
 fn read_once(tables: &Tables) -> u64 {
     let sum = |table: &[u8]| table.iter().map(|&byte| byte as u64).sum::<u64>();
     sum(&tables.cells) + sum(&tables.functions)
 }
 
-fn time_open(tables: &Tables) -> (Duration, Duration) {
-    let (cells, functions) = (&tables.cells, &tables.functions);
-    let (mut new_cells, mut new_functions) = (cells.clone(), functions.clone());
-    let library = median(|| {
-        // SAFETY: separate vectors of these lengths.
-        timed(|| unsafe {
-            ffi::wallmirror_open(
-                raw(tables.plan),
-                new_cells.as_mut_ptr(),
-                new_cells.len(),
-                new_functions.as_mut_ptr(),
-                new_functions.len(),
-            )
-        })
-    });
-    let model = median(|| timed(|| model::open(tables.plan, cells.len(), functions.len())));
-    (library, model)
+/// The same sum by the vector instruction that is made for it (psadbw), which the compiler does not
+/// find by itself: how fast the tables can be read at all.
+#[inline(never)]
+fn read_by_vectors(tables: &Tables) -> u64 {
+    use std::arch::x86_64::*;
+    let sum = |table: &[u8]| {
+        let blocks = table.chunks_exact(16);
+        let rest: u64 = blocks.remainder().iter().map(|&byte| byte as u64).sum();
+        // SAFETY: x86-64 has these instructions, and every block has the 16 bytes that are loaded.
+        unsafe {
+            let zero = _mm_setzero_si128();
+            let sums = blocks.fold(zero, |sums, block| {
+                let block = _mm_loadu_si128(block.as_ptr().cast());
+                _mm_add_epi64(sums, _mm_sad_epu8(block, zero))
+            });
+            let both = _mm_add_epi64(sums, _mm_unpackhi_epi64(sums, sums));
+            _mm_cvtsi128_si64(both) as u64 + rest
+        }
+    };
+    sum(&tables.cells) + sum(&tables.functions)
 }
 
-fn time_check(tables: &Tables) -> (Duration, Duration) {
-    let (cells, functions) = (&tables.cells, &tables.functions);
-    let library = median(|| {
-        // SAFETY: separate vectors of these lengths.
-        timed(|| unsafe {
-            ffi::wallmirror_check(
-                raw(tables.plan),
-                cells.as_ptr(),
-                cells.len(),
-                functions.as_ptr(),
-                functions.len(),
-            )
-        })
-    });
-    (library, median(|| timed(|| model::check(tables.plan, cells, functions))))
-}
-
-fn time_count(tables: &Tables) -> (Duration, Duration) {
-    let (cells, functions) = (&tables.cells, &tables.functions);
-    let library = median(|| {
-        // SAFETY: separate vectors of these lengths.
-        timed(|| unsafe {
-            ffi::wallmirror_count(
-                raw(tables.plan),
-                cells.as_ptr(),
-                cells.len(),
-                functions.as_ptr(),
-                functions.len(),
-            )
-        })
-    });
-    (library, median(|| timed(|| model::count(tables.plan, cells, functions))))
-}
-
-/// One of the four calls; the tables are put back before each run, outside the time.
-fn time_change(kind: Kind, tables: &Tables, marks: &[u32]) -> (Duration, Duration) {
-    let (cells, functions) = (&tables.cells, &tables.functions);
-    let (mut new_cells, mut new_functions) = (cells.clone(), functions.clone());
-    let mut cell_list = vec![0; cells.len()];
-    let mut function_list = vec![0; functions.len()];
-    let library = median(|| {
-        new_cells.copy_from_slice(cells);
-        new_functions.copy_from_slice(functions);
-        // SAFETY: separate vectors of these lengths.
-        timed(|| unsafe {
-            kind.of_library()(
-                raw(tables.plan),
-                new_cells.as_mut_ptr(),
-                new_cells.len(),
-                new_functions.as_mut_ptr(),
-                new_functions.len(),
-                marks.as_ptr(),
-                marks.len(),
-                cell_list.as_mut_ptr(),
-                cell_list.len(),
-                function_list.as_mut_ptr(),
-                function_list.len(),
-            )
-        })
-    });
-    let model = median(|| {
-        timed(|| {
-            kind.of_model()(tables.plan, cells, functions, marks, cells.len(), functions.len())
-        })
-    });
-    (library, model)
+fn run_model(call: Call, tables: &Tables, marks: &[u32]) {
+    let Tables { plan, cells, functions } = tables;
+    let (t, f) = (cells.len(), functions.len());
+    match call {
+        Call::Open => drop(black_box(model::open(*plan, t, f))),
+        Call::Check => drop(black_box(model::check(*plan, cells, functions))),
+        Call::Count => drop(black_box(model::count(*plan, cells, functions))),
+        Call::Change(kind) => {
+            drop(black_box(kind.of_model()(*plan, cells, functions, marks, t, f)));
+        }
+    }
 }

@@ -5,6 +5,8 @@ use std::collections::BTreeSet;
 use std::fmt::Debug;
 use wallmirror::ffi;
 
+pub mod scenario;
+
 /// A seeded generator (splitmix64), so that every run of the tests is the same.
 pub struct Random(u64);
 
@@ -66,6 +68,15 @@ impl Kind {
 
     pub fn by_functions(self) -> bool {
         matches!(self, RefineFunctions | CoarsenFunctions)
+    }
+
+    pub fn name(self) -> &'static str {
+        match self {
+            RefineCells => "refine cells",
+            RefineFunctions => "refine functions",
+            CoarsenCells => "coarsen cells",
+            CoarsenFunctions => "coarsen functions",
+        }
     }
 
     /// The call by cells that undoes this one.

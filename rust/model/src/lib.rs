@@ -11,6 +11,8 @@
 use std::collections::BTreeSet;
 use std::ops::RangeInclusive;
 
+pub mod session;
+
 #[derive(Clone, Copy, Debug, PartialEq, Eq)]
 pub struct Plan {
     pub columns: u32,
@@ -204,7 +206,8 @@ fn at_most_apart(x: u32, d: u32, n: u32) -> RangeInclusive<u32> {
 
 // ---- The two tables ----
 
-fn refuse_sizes(plan: Plan, cells: usize, functions: usize) -> Result<(), u32> {
+/// Refusals 1 and 2.
+fn refuse_plan(plan: Plan) -> Result<(), u32> {
     let in_range = (1..=16).contains(&plan.columns)
         && (1..=16).contains(&plan.rows)
         && (1..=8).contains(&plan.levels)
@@ -217,6 +220,12 @@ fn refuse_sizes(plan: Plan, cells: usize, functions: usize) -> Result<(), u32> {
     if plan.cell_total() > 21_845 {
         return Err(2);
     }
+    Ok(())
+}
+
+/// Refusals 1 to 3.
+fn refuse_sizes(plan: Plan, cells: usize, functions: usize) -> Result<(), u32> {
+    refuse_plan(plan)?;
     if cells != plan.cell_total() || functions != plan.function_total() {
         return Err(3);
     }

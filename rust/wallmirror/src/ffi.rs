@@ -1,5 +1,8 @@
-//! The calls as `include/wallmirror.h` declares them, for those who need raw pointers.
+//! The calls as `include/wallmirror.h` declares them, for those who need raw pointers. What each
+//! does is said at the safe function of its name. Numbers that are answered are 0 or that of a
+//! [`crate::Refusal`].
 
+/// As [`crate::Plan`].
 #[repr(C)]
 #[derive(Clone, Copy, Debug, Default, PartialEq, Eq)]
 pub struct Plan {
@@ -11,6 +14,7 @@ pub struct Plan {
     pub class: u32,
 }
 
+/// What [`wallmirror_count`] answers. After a refusal all but the number are 0.
 #[repr(C)]
 #[derive(Clone, Copy, Debug, Default, PartialEq, Eq)]
 pub struct Count {
@@ -21,6 +25,8 @@ pub struct Count {
     pub area: u32,
 }
 
+/// What a refining or coarsening call answers: its number, and how many entries of each list were
+/// written, 0 after a refusal.
 #[repr(C)]
 #[derive(Clone, Copy, Debug, Default, PartialEq, Eq)]
 pub struct Answer {
@@ -30,6 +36,12 @@ pub struct Answer {
 }
 
 /// A refining or coarsening call.
+///
+/// # Safety
+///
+/// Each pointer is to be aligned and lead to so many entries as its length says, readable, and
+/// writable where it is `*mut`; with length 0 it may be null. None of the slices may overlap
+/// another.
 pub type Change = unsafe extern "C" fn(
     plan: Plan,
     cells: *mut u8,
@@ -45,9 +57,15 @@ pub type Change = unsafe extern "C" fn(
 ) -> Answer;
 
 macro_rules! changes {
-    ($($name:ident)*) => {
+    ($($name:ident: $safe:ident)*) => {
         unsafe extern "C" {
-            $(pub fn $name(
+            $(
+            #[doc = concat!("As [`crate::", stringify!($safe), "`].")]
+            ///
+            /// # Safety
+            ///
+            /// As [`Change`] says.
+            pub fn $name(
                 plan: Plan,
                 cells: *mut u8,
                 cells_len: usize,
@@ -65,13 +83,18 @@ macro_rules! changes {
 }
 
 changes! {
-    wallmirror_refine_cells
-    wallmirror_refine_functions
-    wallmirror_coarsen_cells
-    wallmirror_coarsen_functions
+    wallmirror_refine_cells: refine_cells
+    wallmirror_refine_functions: refine_functions
+    wallmirror_coarsen_cells: coarsen_cells
+    wallmirror_coarsen_functions: coarsen_functions
 }
 
 unsafe extern "C" {
+    /// As [`crate::open`].
+    ///
+    /// # Safety
+    ///
+    /// As [`Change`] says, of both tables.
     pub fn wallmirror_open(
         plan: Plan,
         cells: *mut u8,
@@ -80,6 +103,11 @@ unsafe extern "C" {
         functions_len: usize,
     ) -> u32;
 
+    /// As [`crate::check`].
+    ///
+    /// # Safety
+    ///
+    /// As [`Change`] says, of both tables.
     pub fn wallmirror_check(
         plan: Plan,
         cells: *const u8,
@@ -88,6 +116,11 @@ unsafe extern "C" {
         functions_len: usize,
     ) -> u32;
 
+    /// As [`crate::count`].
+    ///
+    /// # Safety
+    ///
+    /// As [`Change`] says, of both tables.
     pub fn wallmirror_count(
         plan: Plan,
         cells: *const u8,

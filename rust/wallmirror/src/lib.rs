@@ -3,7 +3,8 @@
 //! A mesh is two tables of bytes that the caller owns: one byte for each cell of each level (0
 //! absent, 1 active, 2 refined) and one for each function of each level (0 passive, 1 active, 2
 //! deactivated). [`Plan`] gives their lengths. Every call takes any plan, tables and marks; what it
-//! cannot serve it refuses with a [`Refusal`], and then tables and lists hold what they held before.
+//! cannot serve it refuses with a [`Refusal`], and then tables and lists hold what they held
+//! before.
 //!
 //! In the words of the scope document a mesh is a wall, refining and coarsening are splitting and
 //! joining, admissible of class m is graded, and reactivable is joinable.
@@ -26,8 +27,47 @@
 //! # Ok::<(), wallmirror::Refusal>(())
 //! ```
 //!
+//! # Cells and functions
+//!
+//! Level k has columns · 2^k columns and rows · 2^k rows of cells. They are numbered from 0, level
+//! by level, row by row. The cell at column c, row r has four children one level down, at columns
+//! 2c and 2c + 1 and rows 2r and 2r + 1.
+//!
+//! On a level of n columns, with degree p across, there are n + p functions across; function i
+//! covers columns max(0, i - p) to min(n - 1, i). Up it is the same with the rows and the degree
+//! up. The support of a function is the rectangle of both, made of cells of its own level.
+//! Functions are numbered like cells, with n + p to a row.
+//!
+//! ```
+//! # use wallmirror::{open, refine_functions, Cell, Function, Plan};
+//! let plan = Plan { columns: 3, rows: 2, levels: 3, degree_across: 2, degree_up: 1, class: 0 };
+//! # let (t, f) = (plan.cells().unwrap(), plan.functions().unwrap());
+//! # let (mut cells, mut functions) = (vec![0; t], vec![0; f]);
+//! # let (mut cell_list, mut function_list) = (vec![Cell(0); t], vec![Function(0); f]);
+//! # open(plan, &mut cells, &mut functions)?;
+//! // Level 0 has 3 + 2 functions to a row. Function 4 of row 1 covers column 2 and rows 0 to 1.
+//! let mark = Function(1 * (3 + 2) + 4);
+//! let changed = refine_functions(
+//!     plan, &mut cells, &mut functions, &[mark], &mut cell_list, &mut function_list,
+//! )?;
+//! assert_eq!(cell_list[..changed.cells], [Cell(2), Cell(5)]);
+//! # Ok::<(), wallmirror::Refusal>(())
+//! ```
+//!
+//! In class m, not 0, a refined cell of level j with j - m + 1 at least 0 has a neighbourhood: the
+//! cells of level j - m + 1 whose column differs by at most the degree across, and row by at most
+//! the degree up, from those of its ancestor there. A mesh is admissible where the neighbourhood of
+//! every refined cell is refined. In class 0 every mesh is.
+//!
+//! # Undo
+//!
 //! A run of calls is undone by its own cell lists, given from the last to the first, each to the
-//! opposite call by cells:
+//! opposite call by cells ([`coarsen_cells`] for either refining call, [`refine_cells`] for either
+//! coarsening one), with output lists at least as long as the kept ones. Each is accepted and names
+//! the same cells and functions as the call it takes back, and both tables end as they began. A
+//! refused call has changed nothing and counts as one with empty lists: no marks at all, which is
+//! accepted. What is asked is that the first mesh passes [`check`] and that nothing else writes the
+//! tables.
 //!
 //! ```
 //! # use wallmirror::{coarsen_cells, open, refine_functions, Cell, Function, Plan};
@@ -47,6 +87,24 @@
 //! assert_eq!((cells, functions), before);
 //! # Ok::<(), wallmirror::Refusal>(())
 //! ```
+//!
+//! In class 0 a run of [`refine_functions`] alone may also be undone by its function lists, from
+//! the last to the first, each given to [`coarsen_functions`]. This holds where on the first mesh
+//! each refined cell lies in the support of a deactivated function of its own level, as on a mesh
+//! just opened.
+//!
+//! # Limits
+//!
+//! | | |
+//! | --- | --- |
+//! | columns, rows | 1 to 16 |
+//! | levels | 1 to 8 |
+//! | degrees across and up | 1 to 4 |
+//! | class | 0, or 2 to 8 |
+//! | cells on all levels together | at most [`MAX_CELLS`] |
+//! | functions of such a plan | at most [`MAX_FUNCTIONS`] |
+//! | marks of a call | any number |
+//! | stack of a call | at most [`STACK_BYTES`] |
 
 use std::fmt;
 
@@ -74,11 +132,19 @@ pub struct Plan {
     pub class: u32,
 }
 
+/// The version of this crate, which is that of the C header.
+pub const VERSION: &str = env!("CARGO_PKG_VERSION");
+
 /// The most cells that a mesh may have on all levels together.
 pub const MAX_CELLS: usize = 21_845;
 
 /// The most functions that a mesh of at most [`MAX_CELLS`] cells has.
 pub const MAX_FUNCTIONS: usize = 26_220;
+
+/// The most stack that any call takes, in bytes: what a thread must have left when it calls. The
+/// library allocates nothing, so whatever it needs beside the tables and lists is there. A thread
+/// itself needs some more: with 16 KiB added, [`std::thread::Builder::stack_size`] is large enough.
+pub const STACK_BYTES: usize = 131_072;
 
 impl Plan {
     /// The length of the cell table, and the most entries that a cell list needs. `None` for a plan
@@ -149,16 +215,32 @@ pub struct Function(pub u32);
 #[derive(Clone, Copy, Debug, PartialEq, Eq, Hash)]
 #[repr(u32)]
 pub enum Refusal {
+    /// A number of the plan is out of range: columns and rows are 1 to 16, levels 1 to 8, degrees 1
+    /// to 4, the class is 0 or 2 to 8.
     PlanOutOfRange = 1,
+    /// All levels together have more than [`MAX_CELLS`] cells.
     TooManyCells = 2,
+    /// The cell table has not [`Plan::cells`] bytes, or the function table not [`Plan::functions`].
     TableLength = 3,
+    /// The cell bytes are not a mesh: another byte than 0, 1, 2, an absent cell of level 0, a
+    /// refined cell with an absent child, any other cell with a child that is not absent, or a
+    /// refined cell of the last level.
     NotAMesh = 4,
+    /// A refined cell has a cell in its neighbourhood that is not refined.
     NotAdmissible = 5,
+    /// A function byte is not the one that the cells of its support fix: 0 if any is absent, 2 if
+    /// all are refined, 1 otherwise.
     WrongFunctionByte = 6,
+    /// A mark is not below the number of cells, or of functions in a call by functions.
     MarkOutOfRange = 7,
+    /// A mark is not of the kind that its call takes: an active cell or function to refine, a
+    /// reactivable cell to coarsen, or a deactivated function with such a cell in its support.
     MarkOfWrongKind = 8,
+    /// A mark to refine is of the last level. Coarsening never gives this.
     MarkOfLastLevel = 9,
+    /// The cell list has fewer entries than cells change.
     CellListTooShort = 10,
+    /// The function list has fewer entries than functions change.
     FunctionListTooShort = 11,
 }
 
@@ -229,8 +311,11 @@ impl std::error::Error for Refusal {}
 /// What [`count`] finds in a mesh.
 #[derive(Clone, Copy, Debug, PartialEq, Eq)]
 pub struct Count {
+    /// Cells of byte 1.
     pub active_cells: usize,
+    /// Cells of byte 2.
     pub refined_cells: usize,
+    /// Functions of byte 1.
     pub active_functions: usize,
     /// Of the active cells, in cells of the last level.
     pub area: usize,
@@ -239,7 +324,9 @@ pub struct Count {
 /// How many entries a call wrote to its two lists.
 #[derive(Clone, Copy, Debug, PartialEq, Eq)]
 pub struct Changed {
+    /// Cells that became refined, or ceased to be.
     pub cells: usize,
+    /// Functions that became deactivated, or ceased to be.
     pub functions: usize,
 }
 
@@ -448,6 +535,19 @@ mod tests {
         let documentation = include_str!("../../../README.md");
         let example = include_str!("../../../examples/c/refine.c");
         assert!(documentation.contains(example));
+    }
+
+    #[test]
+    fn the_header_has_the_same_numbers() {
+        let header = include_str!("../../../include/wallmirror.h");
+        for (name, number) in [
+            ("MAX_CELLS", MAX_CELLS),
+            ("MAX_FUNCTIONS", MAX_FUNCTIONS),
+            ("STACK_BYTES", STACK_BYTES),
+        ] {
+            assert!(header.contains(&format!("#define WALLMIRROR_{name} {number}\n")), "{name}");
+        }
+        assert!(header.contains(&format!("#define WALLMIRROR_VERSION \"{VERSION}\"\n")));
     }
 
     #[test]

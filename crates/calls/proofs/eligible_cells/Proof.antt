@@ -2,7 +2,7 @@
 -- Assumes nothing.
 use mathlib.Core.Path.{ap}
 use Rattle.calls.specs.Parts.{directionOf}
-use Rattle.calls.proofs.Outcomes.{kinds-are, bytes-are, refine-eligible-cells, coarsen-eligible-cells, refine-bytes, coarsen-bytes}
+use Rattle.calls.proofs.Eligible.{kinds-are, refine-eligible-cells, coarsen-eligible-cells}
 use borrow.Author.Needs.{needs}
 use Rattle.calls.proofs.eligible_cells.Statement.{statement}
 use Rattle.calls.proofs.eligible_cells.Tie as tie
@@ -33,22 +33,16 @@ same-length c = search needs
 
 returns : tie.Need-returns
 returns c =
-    let s = c .before .before .before .before .before .before .before .before .before .before in
-    let d = ap directionOf (c .before .before .before .before .before .before .enum-told .given .1) in
-    let e = c .before .before .before .before .copy-bytes .ensures in (
-      λ fs. kinds-are d (c .cell-offset .ensures) e (refine-eligible-cells (s .args .plan) (s .pre .0) (s .args .cells .now) fs (s .pre .1 .0)),
-      bytes-are d e (refine-bytes (s .args .plan) (s .args .cells .now) (s .pre .1 .0)),
-    )
+    let s = c .before .before .before .before .before .before .before .before .before .before in λ fs.
+    kinds-are (ap directionOf (c .before .before .before .before .before .before .enum-told .given .1)) (c .cell-offset .ensures) (c .before .before .before .before .copy-bytes .ensures) (refine-eligible-cells (s .args .plan) (s .pre .0) (s .args .cells .now) fs (s .pre .1 .0))
 
 same-length-2 : tie.Need-same-length-2
 same-length-2 c = search needs
 
 returns-2 : tie.Need-returns-2
 returns-2 c =
-    let s = c .before .before .before .before .before .before .before .before .before in
-    let d = ap directionOf (c .before .before .before .before .before .enum-told2 .given .1) in
-    let e = c .before .before .before .reactivable-cells .ensures in
-    (λ fs. kinds-are d (c .cell-total .ensures) e (coarsen-eligible-cells (s .args .plan) (s .args .cells .now) fs), bytes-are d e (coarsen-bytes (s .args .plan) (s .args .cells .now)))
+    let a = c .before .before .before .before .before .before .before .before .before .args in λ fs.
+    kinds-are (ap directionOf (c .before .before .before .before .before .enum-told2 .given .1)) (c .cell-total .ensures) (c .before .before .before .reactivable-cells .ensures) (coarsen-eligible-cells (a .plan) (a .cells .now) fs)
 
 pub eligible-cells-spec : {M : Type 1} → statement M
 eligible-cells-spec =

@@ -1,5 +1,4 @@
 -- `cover::coarsenable_functions` meets its contract: the room that it lends is large enough. Assumes nothing.
-use native.Mathlib.Omega.{arith}
 use borrow.Author.Needs.{needs}
 use Rattle.grid.proofs.Totals.{functions-bound}
 use Rattle.windows.proofs.Rooms.{zeros-length}

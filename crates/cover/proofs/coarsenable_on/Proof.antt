@@ -1,9 +1,7 @@
 -- `cover::coarsenable_on` meets its contract: the windows of the level are the supports. Assumes nothing.
-use mathlib.Core.Path.{_≡_, refl}
 use Prim.Native.Nat.{_+_, _*_, _≤_}
 use native.Mathlib.Omega.{arith}
 use borrow.Author.Needs.{needs}
-use lib.ListN.{length}
 use Rattle.facts.proofs.Mapped.{fill-length}
 use Rattle.facts.proofs.Ranges.{mid-len}
 use Rattle.grid.specs.Plan.{functionTotal}

@@ -1,5 +1,4 @@
 -- `cover::cover` meets its contract: the room that it lends is large enough. Assumes nothing.
-use native.Mathlib.Omega.{arith}
 use borrow.Author.Needs.{needs}
 use Rattle.windows.proofs.Rooms.{near-room, zeros-room}
 use Rattle.cover.proofs.cover.Statement.{statement}

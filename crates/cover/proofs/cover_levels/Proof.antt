@@ -6,7 +6,7 @@ use lib.ListN.{length}
 use Rattle.facts.specs.Mapped.{filled}
 use Rattle.facts.proofs.Mapped.{fill-length, filled-all}
 use Rattle.grid.specs.Plan.{cellOffset}
-use Rattle.windows.specs.Level.{leastValue, NearRoom}
+use Rattle.windows.specs.Level.{leastValue}
 use Rattle.cover.proofs.Passes.{levels-none, levels-more}
 use Rattle.cover.proofs.cover_levels.Statement.{statement}
 use Rattle.cover.proofs.cover_levels.Tie as tie

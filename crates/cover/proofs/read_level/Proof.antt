@@ -1,5 +1,5 @@
 -- `cover::read_level` meets its contract. The invariant: the rows so far, and where the next begins. Assumes nothing.
-use mathlib.Core.Path.{_≡_, refl, sym, ap, _∙_}
+use mathlib.Core.Path.{_≡_, refl, ap, _∙_}
 use Prim.Native.Nat.{ℕ, _+_, _-_, _*_, _≤_, _<_}
 use native.Mathlib.Nat.{mul-le-mul-right}
 use native.Mathlib.Omega.{arith}
@@ -8,7 +8,7 @@ use lib.ListN.{length}
 use Rattle.facts.specs.Mapped.{filled}
 use Rattle.facts.proofs.Mapped.{filled-none, fill-length, fill-part}
 use Rattle.facts.proofs.Ranges.{mid-len}
-use Rattle.grid.specs.Side.{firstOver, firsts}
+use Rattle.grid.specs.Side.{firsts}
 use Rattle.grid.proofs.Sides.{first-lt}
 use Rattle.cover.specs.Level.{levelRead}
 use Rattle.facts.proofs.Rows.{row-ends}

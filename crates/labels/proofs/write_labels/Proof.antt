@@ -1,3 +1,4 @@
+-- `write_labels` meets its contract: it lends the room for the windows. Assumes nothing.
 use borrow.Author.Needs.{needs}
 use native.Mathlib.Nat.{le-of-eq}
 use mathlib.Core.Path.{sym}
@@ -6,37 +7,26 @@ use Rattle.grid.proofs.Totals.{functions-bound}
 use Rattle.facts.proofs.Zeros.{zeros, part-length}
 use Rattle.labels.proofs.write_labels.Statement.{statement}
 use Rattle.labels.proofs.write_labels.Tie as tie
-use Rattle.labels.proofs.write_labels.Reads as reads
-use Rattle.labels.proofs.write_labels.Lts as lts
-use Rattle.grid.proofs.Plan.function_total.Reads as function-total-reads
-use Rattle.labels.proofs.write_levels.Reads as write-levels-reads
 use Rattle.grid.specs.Bounds.{mostFunctions}
 
--- src/lib.rt:56:17
 function-total-requires : tie.Need-function-total-requires
 function-total-requires c κs = search needs
 
--- src/lib.rt:56:17
 cast-count : tie.Need-cast-count
 cast-count c = search needs
 
--- src/lib.rt:58:36
 array-borrow-prefix-scratch : tie.Need-array-borrow-prefix-scratch
 array-borrow-prefix-scratch c = let s = c .before .before .before .before in omega (arith, functions-bound _ (s .pre .0 .sized .range) (s .pre .1 .1))
 
--- src/lib.rt:58:36
 slice-aggregate-write-levels : tie.Need-slice-aggregate-write-levels
 slice-aggregate-write-levels c = let s = c .before .before .before .before .before in zeros mostFunctions (c .before .before .function-total .result) (omega (arith, functions-bound _ (s .pre .0 .sized .range) (s .pre .1 .1)))
 
--- src/lib.rt:58:5
 write-levels-requires : tie.Need-write-levels-requires
 write-levels-requires c κs = let s = c .before .before .before .before .before in (s .pre .0, (s .pre .1 .0, le-of-eq (sym (part-length mostFunctions _ (c .before .before .function-total .ensures) (functions-bound _ (s .pre .0 .sized .range) (s .pre .1 .1))))))
 
--- src/lib.rt:51:1
 same-length : tie.Need-same-length
 same-length c = search needs
 
--- src/lib.rt:51:1
 returns : tie.Need-returns
 returns c = search needs
 

@@ -1,30 +1,34 @@
--- `cells::is_mesh` meets its contract. The invariant: the levels so far fit. Assumes nothing.
-use mathlib.Core.Bool.{true}
-use mathlib.Core.Path.{_≡_, refl, sym, _∙_}
+-- `nesting::is_mesh` meets its contract. The invariant: the levels so far fit. Assumes nothing.
+use mathlib.Core.Path.{_≡_, _∙_}
 use Prim.Native.Nat.{_+_, _-_, _≤_}
 use native.Mathlib.Omega.{arith}
 use borrow.Author.Needs.{needs}
 use Rattle.facts.specs.Ranges.{everyFrom}
+use Rattle.facts.proofs.Ranges.{every-from}
 use Rattle.grid.specs.Plan.{columnsAt, rowsAt, cellOffset}
-use Rattle.mesh.specs.Mesh.{cellFits, isMesh}
-use Rattle.grid.proofs.Levels.{levels-none, levels-more, levels-stop, levels-last}
+use Rattle.nesting.specs.Nested.{nested}
+use Rattle.nesting.proofs.Levels.{levels-join}
+use Rattle.nesting.proofs.Nested.{mesh-is}
 use Rattle.nesting.proofs.is_mesh.Statement.{statement}
 use Rattle.nesting.proofs.is_mesh.Tie as tie
 
 abbrev Inv-loop : tie.InvT-loop
-Inv-loop plan cells levels level₀ level = (levels ≡ plan .levels) × (level + 1 ≤ levels) × (everyFrom 0 (cellOffset plan level) (cellFits plan cells) ≡ true)
+Inv-loop plan cells last ok₀ level₀ ok level = (level ≤ last) × (ok ≡ everyFrom 0 (cellOffset plan (level + 1)) (nested plan cells))
 
 abbrev μ-loop : tie.MeasureT-loop
-μ-loop plan cells levels level₀ level = levels - level
+μ-loop plan cells last ok₀ level₀ ok level = last - level
+
+sub-last : tie.Need-sub-last Inv-loop μ-loop
+sub-last c = search needs
+
+first-level-fits-requires : tie.Need-first-level-fits-requires Inv-loop μ-loop
+first-level-fits-requires c κs = search needs
 
 loop-holds : tie.Need-loop-holds Inv-loop μ-loop
-loop-holds c = let a = c .before in (refl, a .pre .range .levels≥, levels-none (columnsAt (a .args .plan)) (rowsAt (a .args .plan)) (cellFits (a .args .plan) (a .args .cells .now)))
+loop-holds c = (omega arith, c .first-level-fits .ensures)
 
-add-loop : tie.Need-add-loop Inv-loop μ-loop
-add-loop c = search needs
-
-level-fits-requires : tie.Need-level-fits-requires Inv-loop μ-loop
-level-fits-requires c κs = search needs
+next-level-fits-requires : tie.Need-next-level-fits-requires Inv-loop μ-loop
+next-level-fits-requires c κs = (c .before .before .before .before .before .pre, omega arith)
 
 add-level : tie.Need-add-level Inv-loop μ-loop
 add-level c = search needs
@@ -33,22 +37,15 @@ loop-less : tie.Need-loop-less Inv-loop μ-loop
 loop-less c = search needs
 
 loop-again : tie.Need-loop-again Inv-loop μ-loop
-loop-again c = let a = c .before .before .before .before .before in (refl, omega arith, levels-more (columnsAt (a .args .plan)) (rowsAt (a .args .plan)) (cellFits (a .args .plan) (a .args .cells .now)) _ (c .before .before .before .loop .inv .2) (sym (c .before .level-fits .ensures) ∙ c .if1 .taken))
+loop-again c =
+    let a = c .before .before .before .before .before .before .args in
+    (omega arith, levels-join (columnsAt (a .plan)) (rowsAt (a .plan)) (nested (a .plan) (a .cells .now)) _ (c .before .before .loop .inv .1) (c .next-level-fits .ensures))
 
 returns : tie.Need-returns Inv-loop μ-loop
-unfolding isMesh
-returns c = let a = c .before .before .before .before .before in sym (levels-stop (columnsAt (a .args .plan)) (rowsAt (a .args .plan)) (cellFits (a .args .plan) (a .args .cells .now)) (c .before .before .before .loop .level) (a .args .plan .levels) (omega arith) (sym (c .before .level-fits .ensures) ∙ c .if1 .left))
-
-last-level-fits-requires : tie.Need-last-level-fits-requires Inv-loop μ-loop
-last-level-fits-requires c κs = search needs
-
-returns-2 : tie.Need-returns-2 Inv-loop μ-loop
-unfolding isMesh
-returns-2 c =
-    let a = c .before .before .before .before in
-    let e : c .before .before .loop .level ≡ a .args .plan .levels - 1 = omega arith in
-    levels-last (columnsAt (a .args .plan)) (rowsAt (a .args .plan)) (cellFits (a .args .plan) (a .args .cells .now)) (a .args .plan .levels - 1) (a .args .plan .levels) _ (omega (arith, a .pre .range .levels≥))
-    (rw e at (c .before .before .loop .inv .2)) (c .last-level-fits .ensures)
+returns c =
+    let s = c .before .before .before .before .before in
+    let q : c .before .loop .level + 1 ≡ s .args .plan .levels = omega (arith, s .pre .range .levels≥) in
+    (rw q at (c .before .loop .inv .1)) ∙ (every-from _ _ ∙ mesh-is (s .args .plan) (s .pre .range) (s .args .cells .now))
 
 pub is-mesh-spec : {M : Type 1} → statement M
 is-mesh-spec =
@@ -56,12 +53,11 @@ is-mesh-spec =
     (tie.spec
     Inv-loop
     μ-loop
+    sub-last
+    first-level-fits-requires
     loop-holds
-    add-loop
-    level-fits-requires
+    next-level-fits-requires
     add-level
     loop-less
     loop-again
-    returns
-    last-level-fits-requires
-    returns-2)
+    returns)

@@ -6,6 +6,9 @@ use borrow.Author.Needs.{needs}
 use Rattle.script.proofs.call.Statement.{statement}
 use Rattle.script.proofs.call.Tie as tie
 
+check-requires : tie.Need-check-requires
+check-requires c κs = search needs
+
 direction-of-requires : tie.Need-direction-of-requires
 direction-of-requires c κs = search needs
 
@@ -37,6 +40,7 @@ pub call-spec : {M : Type 1} → statement M
 call-spec =
     tie.close
     (tie.spec
+    check-requires
     direction-of-requires
     by-of-requires
     change-requires

@@ -9,13 +9,13 @@ refusal-requires : tie.Need-refusal-requires
 refusal-requires c κs = search needs
 
 later-refusal-requires : tie.Need-later-refusal-requires
-later-refusal-requires c κs = let k = passed (c .before .before .before .before .args .plan) (c .before .before .before .before .args .cells .now) (c .before .before .before .before .args .functions .now) (sym (c .before .refusal .ensures) ∙ c .if1 .taken) in (record { range = k .range; size = k .cells }, k .functions, k .small)
+later-refusal-requires c κs = let k = passed _ _ _ (sym (c .before .refusal .ensures) ∙ c .if1 .taken) in (k .table, k .functions, k .small)
 
 returns : tie.Need-returns
-returns c = c .later-refusal .ensures ∙ check-later (c .before .before .before .before .before .args .plan) (c .before .before .before .before .before .args .cells .now) (c .before .before .before .before .before .args .functions .now) (sym (c .before .before .refusal .ensures) ∙ c .before .if1 .taken)
+returns c = c .later-refusal .ensures ∙ check-later _ _ _ (sym (c .before .before .refusal .ensures) ∙ c .before .if1 .taken)
 
 returns-2 : tie.Need-returns-2
-returns-2 c = c .before .refusal .ensures ∙ check-first (c .before .before .before .before .args .plan) (c .before .before .before .before .args .cells .now) (c .before .before .before .before .args .functions .now) (λ e. c .if1 .left (c .before .refusal .ensures ∙ e))
+returns-2 c = c .before .refusal .ensures ∙ check-first _ _ _ (λ e. c .if1 .left (c .before .refusal .ensures ∙ e))
 
 pub check-spec : {M : Type 1} → statement M
 check-spec = tie.close (tie.spec refusal-requires later-refusal-requires returns returns-2)

@@ -15,16 +15,16 @@ is-labelled-requires : tie.Need-is-labelled-requires
 is-labelled-requires c κs = let a = c .before .before .before .before .before .before in (record { sized = a .pre .0; mesh = (sym (c .before .before .before .is-mesh .ensures) ∙ c .before .before .if1 .taken) }, (a .pre .1, a .pre .2))
 
 returns : tie.Need-returns
-returns c = refuse-none (c .before .before .before .before .before .before .before .before .args .plan) (c .before .before .before .before .before .before .before .before .args .cells .now) (c .before .before .before .before .before .before .before .before .args .functions .now) (sym (c .before .before .before .before .before .is-mesh .ensures) ∙ c .before .before .before .before .if1 .taken) (sym (c .before .before .before .is-admissible .ensures) ∙ c .before .before .if2 .taken) (sym (c .before .is-labelled .ensures) ∙ c .if3 .taken)
+returns c = refuse-none _ _ _ (sym (c .before .before .before .before .before .is-mesh .ensures) ∙ c .before .before .before .before .if1 .taken) (sym (c .before .before .before .is-admissible .ensures) ∙ c .before .before .if2 .taken) (sym (c .before .is-labelled .ensures) ∙ c .if3 .taken)
 
 returns-2 : tie.Need-returns-2
-returns-2 c = refuse-6 (c .before .before .before .before .before .before .before .before .args .plan) (c .before .before .before .before .before .before .before .before .args .cells .now) (c .before .before .before .before .before .before .before .before .args .functions .now) (sym (c .before .before .before .before .before .is-mesh .ensures) ∙ c .before .before .before .before .if1 .taken) (sym (c .before .before .before .is-admissible .ensures) ∙ c .before .before .if2 .taken) (sym (c .before .is-labelled .ensures) ∙ c .if3 .left)
+returns-2 c = refuse-6 _ _ _ (sym (c .before .before .before .before .before .is-mesh .ensures) ∙ c .before .before .before .before .if1 .taken) (sym (c .before .before .before .is-admissible .ensures) ∙ c .before .before .if2 .taken) (sym (c .before .is-labelled .ensures) ∙ c .if3 .left)
 
 returns-3 : tie.Need-returns-3
-returns-3 c = refuse-5 (c .before .before .before .before .before .before .args .plan) (c .before .before .before .before .before .before .args .cells .now) (c .before .before .before .before .before .before .args .functions .now) (sym (c .before .before .before .is-mesh .ensures) ∙ c .before .before .if1 .taken) (sym (c .before .is-admissible .ensures) ∙ c .if2 .left)
+returns-3 c = refuse-5 _ _ _ (sym (c .before .before .before .is-mesh .ensures) ∙ c .before .before .if1 .taken) (sym (c .before .is-admissible .ensures) ∙ c .if2 .left)
 
 returns-4 : tie.Need-returns-4
-returns-4 c = refuse-4 (c .before .before .before .before .args .plan) (c .before .before .before .before .args .cells .now) (c .before .before .before .before .args .functions .now) (sym (c .before .is-mesh .ensures) ∙ c .if1 .left)
+returns-4 c = refuse-4 _ _ _ (sym (c .before .is-mesh .ensures) ∙ c .if1 .left)
 
 pub later-refusal-spec : {M : Type 1} → statement M
 later-refusal-spec =

@@ -9,22 +9,22 @@ refusal-requires : tie.Need-refusal-requires
 refusal-requires c κs = search needs
 
 cell-offset-requires : tie.Need-cell-offset-requires
-cell-offset-requires c κs = let k = passed (c .before .before .before .before .before .before .args .plan) (c .before .before .before .before .before .before .args .cells .now) (c .before .before .before .before .before .before .args .functions .now) (sym (c .before .refusal .ensures) ∙ c .if1 .taken) in (k .range, k .range .levels≥)
+cell-offset-requires c κs = let k = passed _ _ _ (sym (c .before .refusal .ensures) ∙ c .if1 .taken) in (k .table .range, k .table .range .levels≥)
 
 cast-first : tie.Need-cast-first
 cast-first c = search needs
 
 fresh-requires : tie.Need-fresh-requires
-fresh-requires c κs = rw (c .before .cell-offset .ensures) (first-cells (c .before .before .before .before .before .before .before .before .args .plan) (c .before .before .before .before .before .before .before .before .args .cells .now) (c .before .before .before .before .before .before .before .before .args .functions .now) (passed (c .before .before .before .before .before .before .before .before .args .plan) (c .before .before .before .before .before .before .before .before .args .cells .now) (c .before .before .before .before .before .before .before .before .args .functions .now) (sym (c .before .before .before .refusal .ensures) ∙ c .before .before .if1 .taken)))
+fresh-requires c κs = rw (c .before .cell-offset .ensures) (first-cells _ _ _ (passed _ _ _ (sym (c .before .before .before .refusal .ensures) ∙ c .before .before .if1 .taken)))
 
 function-offset-requires : tie.Need-function-offset-requires
-function-offset-requires c κs = let k = passed (c .before .before .before .before .before .before .before .before .before .before .before .args .plan) (c .before .before .before .before .before .before .before .before .before .before .before .args .cells .now) (c .before .before .before .before .before .before .before .before .before .before .before .args .functions .now) (sym (c .before .before .before .before .before .before .refusal .ensures) ∙ c .before .before .before .before .before .if1 .taken) in (k .range, k .range .levels≥)
+function-offset-requires c κs = let k = passed _ _ _ (sym (c .before .before .before .before .before .before .refusal .ensures) ∙ c .before .before .before .before .before .if1 .taken) in (k .table .range, k .table .range .levels≥)
 
 cast-labels : tie.Need-cast-labels
 cast-labels c = search needs
 
 fresh-requires-2 : tie.Need-fresh-requires-2
-fresh-requires-2 c κs = rw (c .before .function-offset .ensures) (first-functions (c .before .before .before .before .before .before .before .before .before .before .before .before .before .args .plan) (c .before .before .before .before .before .before .before .before .before .before .before .before .before .args .cells .now) (c .before .before .before .before .before .before .before .before .before .before .before .before .before .args .functions .now) (passed (c .before .before .before .before .before .before .before .before .before .before .before .before .before .args .plan) (c .before .before .before .before .before .before .before .before .before .before .before .before .before .args .cells .now) (c .before .before .before .before .before .before .before .before .before .before .before .before .before .args .functions .now) (sym (c .before .before .before .before .before .before .before .before .refusal .ensures) ∙ c .before .before .before .before .before .before .before .if1 .taken)))
+fresh-requires-2 c κs = rw (c .before .function-offset .ensures) (first-functions _ _ _ (passed _ _ _ (sym (c .before .before .before .before .before .before .before .before .refusal .ensures) ∙ c .before .before .before .before .before .before .before .if1 .taken)))
 
 same-length : tie.Need-same-length
 same-length c = search needs
@@ -33,7 +33,7 @@ same-length-2 : tie.Need-same-length-2
 same-length-2 c = search needs
 
 returns : tie.Need-returns
-returns c = opened (c .before .before .before .before .before .before .before .before .before .before .before .before .before .before .before .before .args .plan) (c .before .before .before .before .before .before .before .before .before .before .before .before .before .before .before .before .args .cells .now) (c .before .before .before .before .before .before .before .before .before .before .before .before .before .before .before .before .args .functions .now) (c .before .before .before .before .before .before .before .fresh .last .0) (c .before .before .fresh2 .last .0) (c .before .before .before .before .before .before .before .before .before .before .before .refusal .ensures) (c .before .before .before .before .before .before .before .before .before .before .if1 .taken) (c .before .before .before .before .before .before .before .before .before .cell-offset .ensures) (c .before .before .before .before .before .before .before .fresh .ensures) (c .before .before .before .before .function-offset .ensures) (c .before .before .fresh2 .ensures)
+returns c = opened _ _ _ (c .before .before .before .before .before .before .before .fresh .last .0) (c .before .before .fresh2 .last .0) (c .before .before .before .before .before .before .before .before .before .before .before .refusal .ensures) (c .before .before .before .before .before .before .before .before .before .before .if1 .taken) (c .before .before .before .before .before .before .before .before .before .cell-offset .ensures) (c .before .before .before .before .before .before .before .fresh .ensures) (c .before .before .before .before .function-offset .ensures) (c .before .before .fresh2 .ensures)
 
 same-length-3 : tie.Need-same-length-3
 same-length-3 c = search needs
@@ -42,7 +42,7 @@ same-length-4 : tie.Need-same-length-4
 same-length-4 c = search needs
 
 returns-2 : tie.Need-returns-2
-returns-2 c = unopened (c .before .before .before .before .before .before .args .plan) (c .before .before .before .before .before .before .args .cells .now) (c .before .before .before .before .before .before .args .functions .now) (c .before .refusal .ensures) (c .if1 .left)
+returns-2 c = unopened _ _ _ (c .before .refusal .ensures) (c .if1 .left)
 
 pub open-spec : {M : Type 1} → statement M
 open-spec =

@@ -1,0 +1,68 @@
+-- The plan's definitions computed on small plans: ranges, supports, children and neighbourhoods, one table under one theorem. Assumes
+-- nothing.
+use Prim.Native.Nat.{ℕ}
+use mathlib.Core.Bool.{Bool, true, not, _&&_, _||_}
+use mathlib.Core.List.{List, [], _∷_}
+use lib.Dec.{T, eqb}
+use Rattle.grid.specs.declared.Plan.{Plan}
+use Rattle.grid.specs.declared.Place.{Place}
+use Rattle.grid.specs.Numbering.{offset, number, levelOf, placeOn, place}
+use Rattle.grid.specs.Plan.{between, inRange, ratio, grown, cellTotal, functionTotal, above, below, parent, child, covers, supportedAt, supported, apart, ancestor, nearAt}
+
+abbrev at : ℕ → ℕ → ℕ → Place
+at k r c = record { level = k; row = r; column = c }
+
+abbrev plan : ℕ → ℕ → ℕ → ℕ → ℕ → ℕ → Plan
+plan a b l p q m = record { columns = a; rows = b; levels = l; «degree_across» = p; «degree_up» = q; class = m }
+
+pub data Row : Type 0 where
+  -- the plan's numbers are in range; or one is not
+  ranges outside : Plan → Row
+  -- T and F
+  totals : Plan → ℕ → ℕ → Row
+  -- cell d is a child of cell c
+  childOf : Plan → ℕ → ℕ → Row
+  -- cell c lies in the support of function f; or it does not
+  supports misses : Plan → ℕ → ℕ → Row
+  -- the cell at c is in the neighbourhood of the cell at q; or it is not
+  nears fars : Plan → Place → Place → Row
+
+abbrev pub holds : Row → Bool
+holds (ranges p) = inRange p
+holds (outside p) = not (inRange p)
+holds (totals p t f) = eqb (cellTotal p) t && eqb (functionTotal p) f
+holds (childOf p c d) = eqb (parent p d) c && (eqb (child p c 0 0) d || eqb (child p c 0 1) d || eqb (child p c 1 0) d || eqb (child p c 1 1) d)
+holds (supports p f c) = supported p f c
+holds (misses p f c) = not (supported p f c)
+holds (nears p q c) = nearAt p q c
+holds (fars p q c) = not (nearAt p q c)
+
+abbrev pub allHold : List Row → Bool
+allHold [] = true
+allHold (r ∷ rs) = let rest = allHold rs in holds r && rest
+
+pub table : List Row
+table =
+    -- "class m (0, or 2 to 8)", degrees 1 to 4, columns 1 to 16
+    ranges (plan 16 16 8 4 4 8) ∷ ranges (plan 1 1 1 1 1 0) ∷ outside (plan 1 1 1 1 1 1) ∷ outside (plan 1 1 1 1 1 9) ∷ outside (plan 17 1 1 1 1 0)
+    ∷ outside (plan 1 1 1 5 1 0) ∷ outside (plan 0 1 1 1 1 0) ∷ outside (plan 1 1 9 1 1 0)
+    -- document 01's W0: T = 63, F = 94
+    ∷ totals (plan 3 1 3 1 1 0) 63 94
+    -- cell 1, in column 1 of level 0, has the children in columns 2 and 3, rows 0 and 1 of level 1, which is 6 wide and begins at 3
+    ∷ childOf (plan 3 1 3 1 1 0) 1 5 ∷ childOf (plan 3 1 3 1 1 0) 1 6 ∷ childOf (plan 3 1 3 1 1 0) 1 11 ∷ childOf (plan 3 1 3 1 1 0) 1 12
+    -- function 1 covers columns 0 and 1; function 0, at the edge, column 0 alone; function 3, at the other edge, column 2 alone
+    ∷ supports (plan 3 1 3 1 1 0) 1 0 ∷ supports (plan 3 1 3 1 1 0) 1 1 ∷ misses (plan 3 1 3 1 1 0) 1 2
+    ∷ supports (plan 3 1 3 1 1 0) 0 0 ∷ misses (plan 3 1 3 1 1 0) 0 1 ∷ supports (plan 3 1 3 1 1 0) 3 2 ∷ misses (plan 3 1 3 1 1 0) 3 1
+    -- a cell of another level lies in no support
+    ∷ misses (plan 3 1 3 1 1 0) 0 3
+    -- class 2 and degree 1: the cell of level 1 in row 2 and column 6 stands on row 1 and column 3 of level 0; the cell in row 0 and
+    -- column 2 shares a corner with that one and is near; the cell in row 1 and column 5 is beside column 6, the first cell's own, and
+    -- is not; nor is one two columns from the ancestor
+    ∷ nears (plan 6 4 2 1 1 2) (at 1 2 6) (at 0 0 2) ∷ fars (plan 6 4 2 1 1 2) (at 1 2 6) (at 0 1 5) ∷ fars (plan 6 4 2 1 1 2) (at 1 2 6) (at 0 1 1)
+    -- class 0: no cell has a neighbourhood
+    ∷ fars (plan 6 4 2 1 1 0) (at 1 2 6) (at 0 1 3)
+    ∷ []
+
+pub computed : T (allHold table)
+unfolding table between inRange ratio grown offset number levelOf placeOn place above below parent child covers supportedAt supported apart ancestor nearAt
+computed = tt

@@ -1,0 +1,48 @@
+-- The final theorems, each by the theorem that proves it. Assumes nothing.
+use mathlib.Core.Path.{_≡_}
+use mathlib.Core.List.{List}
+use Prim.Native.Nat.{ℕ, _-_, _*_, _^_, _<_}
+use lib.Dec.{eqb, eqb→eq}
+use lib.ListN.{getD}
+use Rattle.facts.proofs.Tests.{cases, not-e, eqb-of, T-true, T-false}
+use Rattle.grid.specs.declared.Plan.{Plan}
+use Rattle.grid.specs.Plan.{functionTotal}
+use Rattle.mesh.specs.Mesh.{check, count}
+use Rattle.mesh.proofs.Area.{area-4}
+use Rattle.mesh.proofs.Bridge.{check-good, is-mesh}
+use Rattle.mesh.proofs.Fresh.{opened-checked}
+use Rattle.outcomes.specs.Calls.{Direction, By, outcome}
+use Rattle.outcomes.proofs.Results.{call-accepted, call-refused}
+use Rattle.outcomes.proofs.UndoByCells.{undone-by-cells}
+use Rattle.outcomes.proofs.UndoByFunctions.{undone-by-functions}
+use Rattle.basis.specs.Basis.{Published}
+use Rattle.basis.proofs.Published.{checked-published}
+use Rattle.theorems.specs.Main.{Main}
+use Rattle.theorems.proofs.Repeats.{call-repeats, call-reordered}
+
+-- an accepted call leaves tables that check passes, and of those the published basis tells
+pub call-published : (d : Direction) (by : By) (p : Plan) (cs fs marks cl fl : List ℕ)
+    → outcome d by p cs fs marks cl fl .answer .number ≡ 0 → (f : ℕ) → f < functionTotal p
+    → Published p (outcome d by p cs fs marks cl fl .cells) f (getD (outcome d by p cs fs marks cl fl .functions) f 0)
+call-published d by p cs fs marks cl fl e = checked-published p _ _ (call-accepted d by p cs fs marks cl fl e .checked)
+
+-- count is not refused where check is not, and then its area is that of a mesh
+count-area : (p : Plan) (cs fs : List ℕ) → count p cs fs .number ≡ 0 → count p cs fs .area ≡ p .columns * p .rows * 4 ^ (p .levels - 1)
+unfolding count
+count-area p cs fs e = cases (eqb (check p cs fs) 0)
+    (λ z. let G = check-good p cs fs (eqb→eq (check p cs fs) 0 z) .0 in
+    rw (T-true (eqb (check p cs fs) 0) z) (area-4 p (G .range) cs (is-mesh p cs G)))
+    (λ z. absurd (not-e (eqb (check p cs fs) 0) z (eqb-of (check p cs fs) 0 (rw (T-false (eqb (check p cs fs) 0) (not-e (eqb (check p cs fs) 0) z)) at e))))
+
+pub main : Main
+main = record {
+  refusedCall = call-refused;
+  acceptedCall = call-accepted;
+  publishedCall = call-published;
+  undoneByCells = undone-by-cells;
+  undoneByFunctions = undone-by-functions;
+  area = count-area;
+  opened = opened-checked;
+  repeats = call-repeats;
+  reordered = call-reordered;
+}

@@ -1,0 +1,80 @@
+-- The final theorems on one page, in the order of the mission's demands, with its words and those of document 01. proofs/Main.antt
+-- proves the record `Main`. They are about the definitions that the contracts of the exported calls cite: each call's answer, tables and
+-- lists equal `outcome` (crate outcomes, specs/Calls.antt), and open, check and count equal `openMesh`, `check` and `count` (crate mesh).
+use mathlib.Core.Path.{_≡_}
+use mathlib.Core.Bool.{cond}
+use mathlib.Core.List.{List, [], _∷_}
+use mathlib.Core.Logic.{_≢_}
+use Prim.Native.Nat.{ℕ, _-_, _*_, _^_, _<_, _≤_}
+use lib.Dec.{T}
+use lib.ListN.{getD}
+use Rattle.facts.specs.Numbers.{elem}
+use Rattle.grid.specs.declared.Plan.{Plan}
+use Rattle.grid.specs.Plan.{functionTotal}
+use Rattle.mesh.specs.Mesh.{check, openMesh, count}
+use Rattle.outcomes.specs.Calls.{Direction, By, cells, functions, Outcome, refused, outcome}
+use Rattle.outcomes.specs.Demands.{Accepted, Refused}
+use Rattle.outcomes.specs.Runs.{Tables, LentLists, Call, log, backwards, LongEnough, Undone, covered, RefinesByFunctions}
+use Rattle.basis.specs.Basis.{Published}
+
+-- ---- marks that repeat
+
+-- the numbers of a list in its order, without those of `seen` and without repeats
+unfoldable pub unseen : List ℕ → List ℕ → List ℕ
+unseen seen [] = []
+unseen seen (x ∷ xs) = cond (elem x seen) (unseen seen xs) (x ∷ unseen (x ∷ seen) xs)
+
+-- each number once, where it stands first
+abbrev pub once : List ℕ → List ℕ
+once = unseen []
+
+-- two calls on the same tables and lists: their outcomes are equal; or both are refused for a mark, each with 7, 8 or 9, and
+-- change nothing
+pub data SameButNumber (cs fs cl fl : List ℕ) (o u : Outcome) : Type 0 where
+  equal : o ≡ u → SameButNumber cs fs cl fl o u
+  markRefused : (n m : ℕ) → 7 ≤ n → n ≤ 9 → 7 ≤ m → m ≤ 9 → o ≡ refused n cs fs cl fl → u ≡ refused m cs fs cl fl
+      → SameButNumber cs fs cl fl o u
+
+-- ---- the theorems. cs and fs are the cell and the function table, cl and fl the lent cell and function list
+
+pub record Main : Type 0 where
+  -- Demand 1: "what document 01 refuses gets its number, in its order" (that is `outcome`'s number), "and both tables and both
+  -- lists then hold the bytes they held before"; document 01: "with zero lengths"
+  pub refusedCall : (d : Direction) (by : By) (p : Plan) (cs fs marks cl fl : List ℕ)
+      → outcome d by p cs fs marks cl fl .answer .number ≢ 0 → Refused cs fs cl fl (outcome d by p cs fs marks cl fl)
+  -- Demand 2: "After an accepted split the wall is the smallest of its class with the old split cells and the marked ones; after an
+  -- accepted join, the smallest with the split cells not marked. The lists hold exactly the cells that became split or ceased to be,
+  -- and the functions that became deactivated or ceased to be"; document 01: "each in rising order, once each", "List entries past
+  -- those lengths keep their values". And check passes, so that each function's label is the one fixed by the new cells
+  pub acceptedCall : (d : Direction) (by : By) (p : Plan) (cs fs marks cl fl : List ℕ)
+      → outcome d by p cs fs marks cl fl .answer .number ≡ 0 → Accepted d by p cs fs marks cl fl (outcome d by p cs fs marks cl fl)
+  -- Demand 2: "Every function is active, deactivated or passive as the published hierarchical basis has it": its byte in the new
+  -- function table is 1, 2 or 0 exactly where the published basis over the new cell table has it so
+  pub publishedCall : (d : Direction) (by : By) (p : Plan) (cs fs marks cl fl : List ℕ)
+      → outcome d by p cs fs marks cl fl .answer .number ≡ 0 → (f : ℕ) → f < functionTotal p
+      → Published p (outcome d by p cs fs marks cl fl .cells) f (getD (outcome d by p cs fs marks cl fl .functions) f 0)
+  -- Demand 3: "For every wall that check passes, in any class, and every run of splits and joins on it, by cells or by functions,
+  -- refused ones included, whatever their marks and list room: after the whole run its own cell lists walk it back. Given last first,
+  -- each to the opposite call by cells, with lists long enough, every one is accepted and names the same cells and functions as the
+  -- call it takes back, and both tables end as they began, byte for byte"
+  pub undoneByCells : (p : Plan) (t : Tables) (run : List Call) (rooms : List LentLists) → check p (t .cells) (t .functions) ≡ 0
+      → LongEnough (backwards (log p t run)) rooms → Undone cells p t run rooms
+  -- Demand 3: "And in class 0, for every run of splits by functions, refused ones included, from a wall where each split cell lies in
+  -- the support of a deactivated function of its own level: after the whole run its own function lists, given last first to join by
+  -- functions, walk it back likewise"
+  pub undoneByFunctions : (p : Plan) → p .class ≡ 0 → (t : Tables) (run : List Call) (rooms : List LentLists)
+      → check p (t .cells) (t .functions) ≡ 0 → T (covered p (t .cells) (t .functions)) → RefinesByFunctions run
+      → LongEnough (backwards (log p t run)) rooms → Undone functions p t run rooms
+  -- Document 01: "The area of a wall is A·B·4^(L-1)": what count answers wherever it is not refused
+  pub area : (p : Plan) (cs fs : List ℕ) → count p cs fs .number ≡ 0 → count p cs fs .area ≡ p .columns * p .rows * 4 ^ (p .levels - 1)
+  -- Demand 3 begins with a "wall that check passes": one that was opened is such a wall, for every plan that open does not refuse
+  pub opened : (p : Plan) (cs fs : List ℕ) → openMesh p cs fs .number ≡ 0
+      → check p (openMesh p cs fs .cells) (openMesh p cs fs .functions) ≡ 0
+  -- Document 01: "Marks may repeat; repeats mean one mark": each mark once, where it stands first, has the same outcome
+  pub repeats : (d : Direction) (by : By) (p : Plan) (cs fs marks cl fl : List ℕ)
+      → outcome d by p cs fs (once marks) cl fl ≡ outcome d by p cs fs marks cl fl
+  -- and so have the same marks in any order and with any repeats, but that with a mark that is refused the order decides which
+  -- refusal comes first
+  pub reordered : (d : Direction) (by : By) (p : Plan) (cs fs marks others cl fl : List ℕ)
+      → ((x : ℕ) → elem x marks ≡ elem x others)
+      → SameButNumber cs fs cl fl (outcome d by p cs fs marks cl fl) (outcome d by p cs fs others cl fl)

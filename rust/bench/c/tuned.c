@@ -1,0 +1,575 @@
+/*
+ * The tuned version. Each table is worked on a level at a time, by loops over bytes that a compiler
+ * turns into vector instructions at -O3. What belongs to many cells at once, as supports and
+ * neighbourhoods do, is found as the least byte of every window of a level.
+ */
+#include "tuned.h"
+
+#include <string.h>
+
+enum { MOST_LEVELS = 8, WIDEST_ROW = 512, ROOM = WALLMIRROR_MAX_FUNCTIONS };
+
+/* Where the levels of a plan begin in the tables, and their sizes. */
+struct layout {
+    uint32_t levels, across, up;
+    uint32_t back; /* how many levels up a cell has its neighbourhood, or 0 for none */
+    size_t columns[MOST_LEVELS], rows[MOST_LEVELS], cells_at[MOST_LEVELS + 1];
+    size_t functions_at[MOST_LEVELS + 1];
+};
+
+static uint32_t lay_out(struct layout *at, WallmirrorPlan plan)
+{
+    uint32_t level;
+    if (plan.columns - 1 > 15 || plan.rows - 1 > 15 || plan.levels - 1 > 7 ||
+        plan.degree_across - 1 > 3 || plan.degree_up - 1 > 3 ||
+        plan.admissibility_class == 1 || plan.admissibility_class > 8)
+        return WALLMIRROR_PLAN_OUT_OF_RANGE;
+    if (!wallmirror_plan_is_valid(plan))
+        return WALLMIRROR_TOO_MANY_CELLS;
+    at->levels = plan.levels;
+    at->across = plan.degree_across;
+    at->up = plan.degree_up;
+    at->back = plan.admissibility_class == 0 ? 0 : plan.admissibility_class - 1;
+    at->cells_at[0] = at->functions_at[0] = 0;
+    for (level = 0; level < plan.levels; level++) {
+        size_t columns = (size_t)plan.columns << level, rows = (size_t)plan.rows << level;
+        at->columns[level] = columns;
+        at->rows[level] = rows;
+        at->cells_at[level + 1] = at->cells_at[level] + columns * rows;
+        at->functions_at[level + 1] =
+            at->functions_at[level] + (columns + at->across) * (rows + at->up);
+    }
+    return 0;
+}
+
+static size_t cells_of(const struct layout *at, uint32_t level)
+{
+    return at->cells_at[level + 1] - at->cells_at[level];
+}
+
+/* ---- Windows ---- */
+
+/* out[i] = the less of from[i] and from[i - shift] */
+static void overlay(uint8_t *restrict out, const uint8_t *restrict from, size_t n, size_t shift)
+{
+    size_t i;
+    if (shift > n)
+        shift = n;
+    memcpy(out, from, shift);
+    for (i = shift; i < n; i++)
+        out[i] = from[i] < from[i - shift] ? from[i] : from[i - shift];
+}
+
+/*
+ * out[i] = the least of from[i], from[i - step], .., `count` of them, at least 2. What would lie
+ * before the first entry counts for nothing. Each pass doubles what an entry stands for.
+ */
+static void least_of(const uint8_t *from, uint8_t *spare, uint8_t *out, size_t n, size_t step,
+                     size_t count)
+{
+    size_t done, passes = 0;
+    for (done = 1; done < count; done *= 2)
+        passes++;
+    for (done = 1; done < count;) {
+        size_t more = done < count - done ? done : count - done;
+        uint8_t *to = passes-- % 2 == 1 ? out : spare;
+        overlay(to, from, n, more * step);
+        from = to;
+        done += more;
+    }
+}
+
+/*
+ * The least bytes of the windows of a level. Entry (j, i) of out, with columns + pad to a row, is
+ * the least of rows j - up to j and columns i - across to i, as far as there are such; out has rows
+ * + up rows. A row of windows wider than columns + pad spoils the first across - pad entries of the
+ * next, which are then not to be read. spare has the room of out.
+ */
+static void windows(const uint8_t *from, size_t columns, size_t rows, size_t pad, size_t across,
+                    size_t up, uint8_t *spare, uint8_t *out)
+{
+    uint8_t padded[ROOM];
+    size_t width = columns + pad, n = rows * width, row;
+    memset(padded, 2, n);
+    for (row = 0; row < rows; row++)
+        memcpy(padded + row * width, from + row * columns, columns);
+    least_of(padded, out, spare, n, 1, across + 1);
+    memset(spare + n, 2, up * width);
+    least_of(spare, padded, out, n + up * width, width, up + 1);
+}
+
+/*
+ * Entry (row + up, column + across) of out, with columns + across to a row, is the least byte of
+ * the cells that differ by at most the degrees.
+ */
+static void neighbourhoods(const struct layout *at, uint32_t level, const uint8_t *from,
+                           uint8_t *out)
+{
+    uint8_t spare[ROOM];
+    windows(from, at->columns[level], at->rows[level], at->across, 2 * at->across, 2 * at->up,
+            spare, out);
+}
+
+/* For each function the least byte of its support. */
+static void over_supports(const struct layout *at, const uint8_t *cells, uint8_t *functions)
+{
+    uint8_t spare[ROOM];
+    uint32_t level;
+    for (level = 0; level < at->levels; level++)
+        windows(cells + at->cells_at[level], at->columns[level], at->rows[level], at->across,
+                at->across, at->up, spare, functions + at->functions_at[level]);
+}
+
+/* ---- Rows ---- */
+
+static void double_row(uint8_t *restrict out, const uint8_t *restrict from, size_t n)
+{
+    size_t i;
+    for (i = 0; i < n; i++) {
+        out[2 * i] = from[i];
+        out[2 * i + 1] = from[i];
+    }
+}
+
+/* A row of `back` levels above as a row of this level; the result is one of the two buffers. */
+static const uint8_t *stretched(const uint8_t *row, size_t n, uint32_t back,
+                                uint8_t buffers[2][WIDEST_ROW])
+{
+    uint32_t i;
+    for (i = 0; i < back; i++, n *= 2) {
+        double_row(buffers[i % 2], row, n);
+        row = buffers[i % 2];
+    }
+    return row;
+}
+
+/* ---- Check ---- */
+
+/* The four children of cell i are the entries 2i and 2i + 1 of the two rows below it. */
+static uint8_t row_is_wrong(const uint8_t *restrict row, const uint8_t *restrict below,
+                            size_t n, uint8_t lowest)
+{
+    const uint8_t *beside = below + 2 * n;
+    uint8_t wrong = 0;
+    size_t i;
+    for (i = 0; i < n; i++) {
+        uint8_t present = (uint8_t)((below[2 * i] != 0) + (below[2 * i + 1] != 0) +
+                                    (beside[2 * i] != 0) + (beside[2 * i + 1] != 0));
+        uint8_t asked = row[i] == 2 ? 4 : 0;
+        wrong |= (uint8_t)((row[i] > 2) | (row[i] < lowest) | (present != asked));
+    }
+    return wrong;
+}
+
+static int is_mesh(const struct layout *at, const uint8_t *cells)
+{
+    uint32_t level, last = at->levels - 1;
+    uint8_t wrong = 0;
+    size_t row, i;
+    for (level = 0; level < last; level++) {
+        const uint8_t *here = cells + at->cells_at[level], *below = cells + at->cells_at[level + 1];
+        size_t n = at->columns[level];
+        for (row = 0; row < at->rows[level]; row++)
+            wrong |= row_is_wrong(here + row * n, below + 4 * row * n, n, level == 0);
+    }
+    for (i = at->cells_at[last]; i < at->cells_at[last + 1]; i++)
+        wrong |= (uint8_t)((cells[i] > 1) | (cells[i] < (last == 0)));
+    return !wrong;
+}
+
+static int is_admissible(const struct layout *at, const uint8_t *cells)
+{
+    uint8_t near[ROOM], buffers[2][WIDEST_ROW], wrong = 0;
+    uint32_t level;
+    if (at->back == 0)
+        return 1;
+    for (level = at->back; level + 1 < at->levels; level++) {
+        uint32_t above = level - at->back;
+        size_t n = at->columns[level], width = at->columns[above] + at->across, row, i;
+        const uint8_t *here = cells + at->cells_at[level], *needed = 0;
+        if (!memchr(here, 2, cells_of(at, level)))
+            continue;
+        neighbourhoods(at, above, cells + at->cells_at[above], near);
+        for (row = 0; row < at->rows[level]; row++, here += n) {
+            if (row % ((size_t)1 << at->back) == 0)
+                needed = stretched(near + ((row >> at->back) + at->up) * width + at->across,
+                                   at->columns[above], at->back, buffers);
+            for (i = 0; i < n; i++)
+                wrong |= (uint8_t)((here[i] == 2) & (needed[i] != 2));
+        }
+    }
+    return !wrong;
+}
+
+static uint32_t check(struct layout *at, WallmirrorPlan plan, const uint8_t *cells,
+                      size_t cells_len, const uint8_t *functions, size_t functions_len)
+{
+    uint8_t labels[ROOM];
+    uint32_t number = lay_out(at, plan);
+    if (number != 0)
+        return number;
+    if (cells_len != at->cells_at[at->levels] || functions_len != at->functions_at[at->levels])
+        return WALLMIRROR_TABLE_LENGTH;
+    if (!is_mesh(at, cells))
+        return WALLMIRROR_NOT_A_MESH;
+    if (!is_admissible(at, cells))
+        return WALLMIRROR_NOT_ADMISSIBLE;
+    over_supports(at, cells, labels);
+    return memcmp(labels, functions, functions_len) == 0 ? 0 : WALLMIRROR_WRONG_FUNCTION_BYTE;
+}
+
+/* ---- Marks ---- */
+
+/* 1 for cells that are refined and have four active children, 2 for others. */
+static void write_reactivable(const struct layout *at, const uint8_t *cells, uint8_t *kinds)
+{
+    uint32_t level, last = at->levels - 1;
+    size_t row, i;
+    for (level = 0; level < last; level++) {
+        size_t n = at->columns[level];
+        for (row = 0; row < at->rows[level]; row++) {
+            const uint8_t *restrict here = cells + at->cells_at[level] + row * n;
+            const uint8_t *restrict below = cells + at->cells_at[level + 1] + 4 * row * n;
+            const uint8_t *restrict beside = below + 2 * n;
+            uint8_t *restrict to = kinds + at->cells_at[level] + row * n;
+            for (i = 0; i < n; i++)
+                to[i] = (uint8_t)(2 - ((here[i] == 2) & (below[2 * i] == 1) &
+                                       (below[2 * i + 1] == 1) & (beside[2 * i] == 1) &
+                                       (beside[2 * i + 1] == 1)));
+        }
+    }
+    memset(kinds + at->cells_at[last], 2, cells_of(at, last));
+}
+
+/* 1 for deactivated functions over a reactivable cell, 2 for others. */
+static void write_coarsenable(const struct layout *at, const uint8_t *functions,
+                              const uint8_t *reactivable, uint8_t *kinds)
+{
+    size_t total = at->functions_at[at->levels], i;
+    over_supports(at, reactivable, kinds);
+    for (i = 0; i < total; i++)
+        kinds[i] = (uint8_t)(2 - ((functions[i] == 2) & (kinds[i] == 1)));
+}
+
+/* Marks are to be below the total, of kind 1, and below the first that is too deep. */
+static uint32_t judge(const uint8_t *kinds, size_t total, size_t deep, const uint32_t *marks,
+                      size_t marks_len)
+{
+    size_t i;
+    for (i = 0; i < marks_len; i++) {
+        if (marks[i] >= total)
+            return WALLMIRROR_MARK_OUT_OF_RANGE;
+        if (kinds[marks[i]] != 1)
+            return WALLMIRROR_MARK_OF_WRONG_KIND;
+        if (marks[i] >= deep)
+            return WALLMIRROR_MARK_OF_LAST_LEVEL;
+    }
+    return 0;
+}
+
+/* Flags the cells of kind 1 over which the least weight of the functions of their level is 1. */
+static void flag_covered(const struct layout *at, const uint8_t *weights, const uint8_t *kinds,
+                         uint8_t *flags)
+{
+    uint8_t across[ROOM], least[ROOM], spare[ROOM];
+    uint32_t level;
+    size_t row, i;
+    for (level = 0; level + 1 < at->levels; level++) {
+        const uint8_t *from = weights + at->functions_at[level];
+        size_t n = at->columns[level], width = n + at->across;
+        size_t count = at->functions_at[level + 1] - at->functions_at[level];
+        if (!memchr(from, 1, count))
+            continue;
+        least_of(from, spare, across, count, 1, at->across + 1);
+        least_of(across, spare, least, count, width, at->up + 1);
+        for (row = 0; row < at->rows[level]; row++) {
+            const uint8_t *over = least + (row + at->up) * width + at->across;
+            size_t first = at->cells_at[level] + row * n;
+            for (i = 0; i < n; i++)
+                flags[first + i] = (over[i] == 1) & (kinds[first + i] == 1);
+        }
+    }
+}
+
+/* ---- The smallest admissible mesh ---- */
+
+/* ancestors[i] = 1 where a cell `back` levels below has byte 1, else 2. */
+static void write_ancestors(const struct layout *at, uint32_t level, const uint8_t *below,
+                            uint8_t *ancestors)
+{
+    uint32_t finer = level + at->back, step;
+    size_t n = at->columns[finer], columns = at->columns[level], row, i;
+    uint8_t any[WIDEST_ROW];
+    for (row = 0; row < at->rows[finer]; row++, below += n) {
+        if (row % ((size_t)1 << at->back) == 0)
+            memset(any, 0, n);
+        for (i = 0; i < n; i++)
+            any[i] |= below[i] == 1;
+        if ((row + 1) % ((size_t)1 << at->back) != 0)
+            continue;
+        for (step = 1; step <= at->back; step++)
+            for (i = 0; i < n >> step; i++)
+                any[i] = any[2 * i] | any[2 * i + 1];
+        for (i = 0; i < columns; i++)
+            ancestors[i] = (uint8_t)(2 - any[i]);
+        ancestors += columns;
+    }
+}
+
+/* needed[i] = 1 where the level has a cell that a cell of byte 1, `back` levels below, needs. */
+static void write_needed(const struct layout *at, uint32_t level, const uint8_t *below,
+                         uint8_t *needed)
+{
+    uint8_t ancestors[ROOM], near[ROOM];
+    size_t n = at->columns[level], width = n + at->across, row, i;
+    write_ancestors(at, level, below, ancestors);
+    neighbourhoods(at, level, ancestors, near);
+    for (row = 0; row < at->rows[level]; row++)
+        for (i = 0; i < n; i++)
+            needed[row * n + i] = near[(row + at->up) * width + at->across + i] == 1;
+}
+
+/*
+ * Flags what the flagged cells need and is not refined. Needs lead to coarser levels alone, so the
+ * finest goes first. The cells needed are present: the parent of one that needs them is refined.
+ */
+static void flag_needed(const struct layout *at, const uint8_t *cells, uint8_t *flags)
+{
+    uint8_t needed[ROOM];
+    uint32_t level;
+    size_t i;
+    if (at->back == 0)
+        return;
+    for (level = at->levels - 1; level-- > at->back;) {
+        uint32_t above = level - at->back;
+        const uint8_t *here = cells + at->cells_at[above];
+        uint8_t *flagged = flags + at->cells_at[above];
+        if (!memchr(flags + at->cells_at[level], 1, cells_of(at, level)))
+            continue;
+        write_needed(at, above, flags + at->cells_at[level], needed);
+        for (i = 0; i < cells_of(at, above); i++)
+            flagged[i] |= needed[i] & (here[i] != 2);
+    }
+}
+
+/* Takes the flag from cells that others, which stay refined, need. */
+static void unflag_needed(const struct layout *at, const uint8_t *cells, uint8_t *flags)
+{
+    uint8_t needed[ROOM], stays[ROOM];
+    uint32_t level;
+    size_t i;
+    if (at->back == 0 || at->levels < at->back + 2)
+        return;
+    for (level = at->levels - 1 - at->back; level-- > 0;) {
+        uint32_t below = level + at->back;
+        const uint8_t *finer = cells + at->cells_at[below];
+        const uint8_t *finer_flags = flags + at->cells_at[below];
+        uint8_t *flagged = flags + at->cells_at[level];
+        if (!memchr(flagged, 1, cells_of(at, level)))
+            continue;
+        for (i = 0; i < cells_of(at, below); i++)
+            stays[i] = (finer[i] == 2) & (finer_flags[i] == 0);
+        write_needed(at, level, stays, needed);
+        for (i = 0; i < cells_of(at, level); i++)
+            flagged[i] &= (uint8_t)(needed[i] == 0);
+    }
+}
+
+/* Adds `by`, 1 or -1, to the bytes of flagged cells and of their children. */
+static void shift_flagged(const struct layout *at, const uint8_t *flags, uint8_t *cells, int by)
+{
+    uint8_t wide[2 * WIDEST_ROW];
+    uint32_t level;
+    size_t row, i;
+    for (level = 0; level + 1 < at->levels; level++) {
+        const uint8_t *flagged = flags + at->cells_at[level];
+        uint8_t *here = cells + at->cells_at[level], *below = cells + at->cells_at[level + 1];
+        size_t n = at->columns[level];
+        if (!memchr(flagged, 1, cells_of(at, level)))
+            continue;
+        for (row = 0; row < at->rows[level]; row++, flagged += n, here += n, below += 4 * n) {
+            if (!memchr(flagged, 1, n))
+                continue;
+            double_row(wide, flagged, n);
+            for (i = 0; i < n; i++)
+                here[i] = (uint8_t)(here[i] + by * flagged[i]);
+            for (i = 0; i < 2 * n; i++)
+                below[i] = (uint8_t)(below[i] + by * wide[i]);
+            for (i = 0; i < 2 * n; i++)
+                below[2 * n + i] = (uint8_t)(below[2 * n + i] + by * wide[i]);
+        }
+    }
+}
+
+/* ---- What changed ---- */
+
+static size_t count_changed(const uint8_t *old, const uint8_t *new_, size_t n)
+{
+    size_t i, total = 0;
+    for (i = 0; i < n;) {
+        /* so short that the sum fits into a byte */
+        size_t end = i + 255 < n ? i + 255 : n;
+        uint8_t some = 0;
+        for (; i < end; i++)
+            some = (uint8_t)(some + ((old[i] == 2) != (new_[i] == 2)));
+        total += some;
+    }
+    return total;
+}
+
+static void list_changed(const uint8_t *old, const uint8_t *new_, size_t n, uint32_t *list)
+{
+    enum { BLOCK = 64 };
+    size_t i, block;
+    for (block = 0; block < n; block += BLOCK) {
+        size_t end = block + BLOCK < n ? block + BLOCK : n;
+        if (memcmp(old + block, new_ + block, end - block) == 0)
+            continue;
+        for (i = block; i < end; i++)
+            if ((old[i] == 2) != (new_[i] == 2))
+                *list++ = (uint32_t)i;
+    }
+}
+
+/* ---- The calls ---- */
+
+uint32_t tuned_open(WallmirrorPlan plan, uint8_t *cells, size_t cells_len,
+                    uint8_t *functions, size_t functions_len)
+{
+    struct layout at;
+    uint32_t number = lay_out(&at, plan);
+    if (number != 0)
+        return number;
+    if (cells_len != at.cells_at[at.levels] || functions_len != at.functions_at[at.levels])
+        return WALLMIRROR_TABLE_LENGTH;
+    memset(cells, 0, cells_len);
+    memset(functions, 0, functions_len);
+    memset(cells, 1, at.cells_at[1]);
+    memset(functions, 1, at.functions_at[1]);
+    return 0;
+}
+
+uint32_t tuned_check(WallmirrorPlan plan, const uint8_t *cells, size_t cells_len,
+                     const uint8_t *functions, size_t functions_len)
+{
+    struct layout at;
+    return check(&at, plan, cells, cells_len, functions, functions_len);
+}
+
+static uint32_t count_byte(const uint8_t *table, size_t n, uint8_t byte)
+{
+    uint32_t total = 0;
+    size_t i;
+    for (i = 0; i < n; i++)
+        total += table[i] == byte;
+    return total;
+}
+
+WallmirrorCount tuned_count(WallmirrorPlan plan, const uint8_t *cells, size_t cells_len,
+                            const uint8_t *functions, size_t functions_len)
+{
+    WallmirrorCount count = {0, 0, 0, 0, 0};
+    struct layout at;
+    count.number = check(&at, plan, cells, cells_len, functions, functions_len);
+    if (count.number != 0)
+        return count;
+    count.active_cells = count_byte(cells, cells_len, 1);
+    count.refined_cells = count_byte(cells, cells_len, 2);
+    count.active_functions = count_byte(functions, functions_len, 1);
+    count.area = (uint32_t)cells_of(&at, at.levels - 1);
+    return count;
+}
+
+enum direction { REFINE, COARSEN };
+enum by { CELLS, FUNCTIONS };
+
+static const WallmirrorAnswer nothing;
+
+/* Judges the marks and flags the cells that they mean. */
+static uint32_t flag_marks(const struct layout *at, enum direction direction, enum by by,
+                           const uint8_t *cells, const uint8_t *functions, const uint32_t *marks,
+                           size_t marks_len, uint8_t *flags)
+{
+    uint8_t reactivable[ROOM], coarsenable[ROOM], weights[ROOM];
+    const uint8_t *cell_kinds = cells, *function_kinds = functions;
+    uint32_t last = direction == REFINE ? at->levels - 1 : at->levels, number;
+    size_t i, t = at->cells_at[at->levels], f = at->functions_at[at->levels];
+    memset(flags, 0, t);
+    if (direction == COARSEN) {
+        write_reactivable(at, cells, reactivable);
+        cell_kinds = reactivable;
+    }
+    if (by == CELLS) {
+        number = judge(cell_kinds, t, at->cells_at[last], marks, marks_len);
+        for (i = 0; number == 0 && i < marks_len; i++)
+            flags[marks[i]] = 1;
+        return number;
+    }
+    if (direction == COARSEN) {
+        write_coarsenable(at, functions, reactivable, coarsenable);
+        function_kinds = coarsenable;
+    }
+    number = judge(function_kinds, f, at->functions_at[last], marks, marks_len);
+    if (number != 0)
+        return number;
+    /* A deactivated function that is not marked keeps its cells. */
+    for (i = 0; i < f; i++)
+        weights[i] = direction == COARSEN && functions[i] == 2 ? 0 : 2;
+    for (i = 0; i < marks_len; i++)
+        weights[marks[i]] = 1;
+    flag_covered(at, weights, cell_kinds, flags);
+    return 0;
+}
+
+static WallmirrorAnswer change(enum direction direction, enum by by, WallmirrorPlan plan,
+                               uint8_t *cells, size_t cells_len,
+                               uint8_t *functions, size_t functions_len,
+                               const uint32_t *marks, size_t marks_len,
+                               uint32_t *cell_list, size_t cell_list_len,
+                               uint32_t *function_list, size_t function_list_len)
+{
+    uint8_t flags[ROOM], new_cells[ROOM], new_functions[ROOM];
+    WallmirrorAnswer answer = nothing;
+    struct layout at;
+    size_t changed_cells, changed_functions;
+    answer.number = check(&at, plan, cells, cells_len, functions, functions_len);
+    if (answer.number == 0)
+        answer.number = flag_marks(&at, direction, by, cells, functions, marks, marks_len, flags);
+    if (answer.number != 0)
+        return answer;
+    if (direction == REFINE)
+        flag_needed(&at, cells, flags);
+    else
+        unflag_needed(&at, cells, flags);
+    memcpy(new_cells, cells, cells_len);
+    shift_flagged(&at, flags, new_cells, direction == REFINE ? 1 : -1);
+    over_supports(&at, new_cells, new_functions);
+    changed_cells = count_changed(cells, new_cells, cells_len);
+    changed_functions = count_changed(functions, new_functions, functions_len);
+    if (changed_cells > cell_list_len)
+        answer.number = WALLMIRROR_CELL_LIST_TOO_SHORT;
+    else if (changed_functions > function_list_len)
+        answer.number = WALLMIRROR_FUNCTION_LIST_TOO_SHORT;
+    if (answer.number != 0)
+        return answer;
+    list_changed(cells, new_cells, cells_len, cell_list);
+    list_changed(functions, new_functions, functions_len, function_list);
+    memcpy(cells, new_cells, cells_len);
+    memcpy(functions, new_functions, functions_len);
+    answer.cells = (uint32_t)changed_cells;
+    answer.functions = (uint32_t)changed_functions;
+    return answer;
+}
+
+#define TUNED_CALL(name, direction, by)                                                    \
+    TUNED_CHANGE(name)                                                                     \
+    {                                                                                      \
+        return change(direction, by, plan, cells, cells_len, functions, functions_len,     \
+                      marks, marks_len, cell_list, cell_list_len, function_list,           \
+                      function_list_len);                                                  \
+    }
+
+TUNED_CALL(tuned_refine_cells, REFINE, CELLS)
+TUNED_CALL(tuned_refine_functions, REFINE, FUNCTIONS)
+TUNED_CALL(tuned_coarsen_cells, COARSEN, CELLS)
+TUNED_CALL(tuned_coarsen_functions, COARSEN, FUNCTIONS)

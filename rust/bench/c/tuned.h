@@ -1,0 +1,31 @@
+/*
+ * The calls of wallmirror.h, written in C for speed and without proofs: what the benchmark holds
+ * the library's times to. The types and the meaning of every argument are those of wallmirror.h.
+ */
+#ifndef TUNED_H
+#define TUNED_H
+
+#include "wallmirror.h"
+
+uint32_t tuned_open(WallmirrorPlan plan, uint8_t *cells, size_t cells_len,
+                    uint8_t *functions, size_t functions_len);
+
+uint32_t tuned_check(WallmirrorPlan plan, const uint8_t *cells, size_t cells_len,
+                     const uint8_t *functions, size_t functions_len);
+
+WallmirrorCount tuned_count(WallmirrorPlan plan, const uint8_t *cells, size_t cells_len,
+                            const uint8_t *functions, size_t functions_len);
+
+#define TUNED_CHANGE(name)                                                                 \
+    WallmirrorAnswer name(WallmirrorPlan plan, uint8_t *cells, size_t cells_len,           \
+                          uint8_t *functions, size_t functions_len,                        \
+                          const uint32_t *marks, size_t marks_len,                         \
+                          uint32_t *cell_list, size_t cell_list_len,                       \
+                          uint32_t *function_list, size_t function_list_len)
+
+TUNED_CHANGE(tuned_refine_cells);
+TUNED_CHANGE(tuned_refine_functions);
+TUNED_CHANGE(tuned_coarsen_cells);
+TUNED_CHANGE(tuned_coarsen_functions);
+
+#endif

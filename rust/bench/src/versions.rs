@@ -1,0 +1,248 @@
+//! The library and the tuned C version, called alike.
+
+use differential::{raw, Kind, Tables};
+use wallmirror::ffi;
+
+#[derive(Clone, Copy)]
+pub enum Call {
+    Open,
+    Check,
+    Count,
+    Change(Kind),
+}
+
+impl Call {
+    pub fn name(self) -> &'static str {
+        match self {
+            Call::Open => "open",
+            Call::Check => "check",
+            Call::Count => "count",
+            Call::Change(kind) => kind.name(),
+        }
+    }
+}
+
+type Open = unsafe extern "C" fn(ffi::Plan, *mut u8, usize, *mut u8, usize) -> u32;
+type Check = unsafe extern "C" fn(ffi::Plan, *const u8, usize, *const u8, usize) -> u32;
+type Count = unsafe extern "C" fn(ffi::Plan, *const u8, usize, *const u8, usize) -> ffi::Count;
+
+/// The calls of one version.
+pub struct Version {
+    open: Open,
+    check: Check,
+    count: Count,
+    change: fn(Kind) -> ffi::Change,
+}
+
+pub const LIBRARY: Version = Version {
+    open: ffi::wallmirror_open,
+    check: ffi::wallmirror_check,
+    count: ffi::wallmirror_count,
+    change: Kind::of_library,
+};
+
+pub const TUNED: Version = Version {
+    open: tuned::tuned_open,
+    check: tuned::tuned_check,
+    count: tuned::tuned_count,
+    change: |kind| match kind {
+        Kind::RefineCells => tuned::tuned_refine_cells,
+        Kind::RefineFunctions => tuned::tuned_refine_functions,
+        Kind::CoarsenCells => tuned::tuned_coarsen_cells,
+        Kind::CoarsenFunctions => tuned::tuned_coarsen_functions,
+    },
+};
+
+mod tuned {
+    use wallmirror::ffi;
+
+    macro_rules! changes {
+        ($($name:ident)*) => {
+            extern "C" {
+                $(pub fn $name(
+                    plan: ffi::Plan,
+                    cells: *mut u8,
+                    cells_len: usize,
+                    functions: *mut u8,
+                    functions_len: usize,
+                    marks: *const u32,
+                    marks_len: usize,
+                    cell_list: *mut u32,
+                    cell_list_len: usize,
+                    function_list: *mut u32,
+                    function_list_len: usize,
+                ) -> ffi::Answer;)*
+            }
+        };
+    }
+
+    changes! {
+        tuned_refine_cells
+        tuned_refine_functions
+        tuned_coarsen_cells
+        tuned_coarsen_functions
+    }
+
+    extern "C" {
+        pub fn tuned_open(
+            plan: ffi::Plan,
+            cells: *mut u8,
+            cells_len: usize,
+            functions: *mut u8,
+            functions_len: usize,
+        ) -> u32;
+        pub fn tuned_check(
+            plan: ffi::Plan,
+            cells: *const u8,
+            cells_len: usize,
+            functions: *const u8,
+            functions_len: usize,
+        ) -> u32;
+        pub fn tuned_count(
+            plan: ffi::Plan,
+            cells: *const u8,
+            cells_len: usize,
+            functions: *const u8,
+            functions_len: usize,
+        ) -> ffi::Count;
+    }
+}
+
+/// What a call reads and writes, and what it answered.
+#[derive(Clone, PartialEq, Eq)]
+pub struct Buffers {
+    pub tables: Tables,
+    pub cell_list: Vec<u32>,
+    pub function_list: Vec<u32>,
+    pub answer: [u32; 5],
+}
+
+impl Buffers {
+    pub fn new(tables: &Tables, cell_room: usize, function_room: usize) -> Buffers {
+        Buffers {
+            tables: tables.clone(),
+            cell_list: vec![0; cell_room],
+            function_list: vec![0; function_room],
+            answer: [0; 5],
+        }
+    }
+
+    pub fn with_room(tables: &Tables) -> Buffers {
+        Buffers::new(tables, tables.cells.len(), tables.functions.len())
+    }
+
+    /// Puts the tables back, which are to have the same lengths.
+    pub fn restore(&mut self, tables: &Tables) {
+        self.tables.cells.copy_from_slice(&tables.cells);
+        self.tables.functions.copy_from_slice(&tables.functions);
+    }
+
+    pub fn run(&mut self, version: &Version, call: Call, marks: &[u32]) {
+        let plan = raw(self.tables.plan);
+        let Tables { cells, functions, .. } = &mut self.tables;
+        let (t, f) = (cells.len(), functions.len());
+        // SAFETY: separate vectors of these lengths.
+        self.answer = unsafe {
+            match call {
+                Call::Open => {
+                    let number =
+                        (version.open)(plan, cells.as_mut_ptr(), t, functions.as_mut_ptr(), f);
+                    [number, 0, 0, 0, 0]
+                }
+                Call::Check => {
+                    [(version.check)(plan, cells.as_ptr(), t, functions.as_ptr(), f), 0, 0, 0, 0]
+                }
+                Call::Count => {
+                    let count = (version.count)(plan, cells.as_ptr(), t, functions.as_ptr(), f);
+                    let ffi::Count { number, active_cells, refined_cells, .. } = count;
+                    [number, active_cells, refined_cells, count.active_functions, count.area]
+                }
+                Call::Change(kind) => {
+                    let answer = (version.change)(kind)(
+                        plan,
+                        cells.as_mut_ptr(),
+                        t,
+                        functions.as_mut_ptr(),
+                        f,
+                        marks.as_ptr(),
+                        marks.len(),
+                        self.cell_list.as_mut_ptr(),
+                        self.cell_list.len(),
+                        self.function_list.as_mut_ptr(),
+                        self.function_list.len(),
+                    );
+                    [answer.number, answer.cells, answer.functions, 0, 0]
+                }
+            }
+        };
+    }
+}
+
+/// Runs both versions from the same buffers and sees that they leave the same. Answers the number
+/// and how many cells changed.
+pub fn agree(call: Call, before: &Buffers, marks: &[u32]) -> (u32, u32) {
+    let (mut library, mut tuned) = (before.clone(), before.clone());
+    library.run(&LIBRARY, call, marks);
+    tuned.run(&TUNED, call, marks);
+    let (plan, name) = (before.tables.plan, call.name());
+    assert_eq!(library.answer, tuned.answer, "{name} {plan:?}, {} marks", marks.len());
+    assert!(library == tuned, "tables or lists differ: {name} {plan:?}, {} marks", marks.len());
+    let changed = if matches!(call, Call::Change(_)) { library.answer[1] } else { 0 };
+    (library.answer[0], changed)
+}
+
+#[cfg(test)]
+mod tests {
+    use super::*;
+    use differential::{random_plan, random_refined, Random};
+
+    /// Random meshes, some with a wrong byte or another class, and random marks, some of them
+    /// wrong.
+    #[test]
+    fn tuned_is_as_the_library() {
+        let mut random = Random::new(600);
+        let mut seen = [0; 12];
+        for turn in 0..4000 {
+            let degrees = (random.below(4) as u32 + 1, random.below(4) as u32 + 1);
+            let class = random.pick(&[0, 2, 2, 3, 4, 5, 8]);
+            let most = if turn % 100 == 0 { 21_845 } else { 500 };
+            let plan = random_plan(&mut random, degrees, class, most);
+            let mut tables = Tables::with_refined(plan, &random_refined(&mut random, plan));
+            let call = match random.below(7) {
+                0 => random.pick(&[Call::Open, Call::Check, Call::Count]),
+                _ => Call::Change(random.pick(&Kind::ALL)),
+            };
+            let marks = marks(&mut random, call, &tables);
+            match random.below(12) {
+                0 => tables.plan.class = random.pick(&[0, 2, 3]),
+                1 => wrong_byte(&mut random, &mut tables.cells),
+                2 => wrong_byte(&mut random, &mut tables.functions),
+                3 => tables.plan.levels = random.below(10) as u32,
+                _ => {}
+            }
+            let room = random.pick(&[0, 3, 21_845, 21_845]);
+            let function_room = random.pick(&[3, 26_220, 26_220]);
+            let before = Buffers::new(&tables, room, function_room);
+            seen[agree(call, &before, &marks).0 as usize] += 1;
+        }
+        assert!(seen.iter().all(|&count| count > 0), "{seen:?}");
+    }
+
+    fn wrong_byte(random: &mut Random, table: &mut [u8]) {
+        let at = random.below(table.len());
+        table[at] = random.pick(&[0, 1, 2, 3, 255]);
+    }
+
+    fn marks(random: &mut Random, call: Call, tables: &Tables) -> Vec<u32> {
+        let Call::Change(kind) = call else {
+            return vec![];
+        };
+        let markable = tables.markable(kind);
+        let count = if markable.is_empty() { 0 } else { random.pick(&[0, 1, 2, 5, 40]) };
+        let mut marks: Vec<u32> = (0..count).map(|_| random.pick(&markable)).collect();
+        if random.once_in(4) {
+            marks.push(random.below(tables.functions.len() + 2) as u32);
+        }
+        marks
+    }
+}
