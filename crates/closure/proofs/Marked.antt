@@ -8,14 +8,13 @@ use native.Mathlib.Omega.{arith}
 use lib.Dec.{T, eqb, eqb→eq, ltb, ltb→lt, nltb→le}
 use lib.ListN.{length, List·getD-eq-default}
 use Rattle.facts.proofs.Tests.{and-i, and-l, and-r, cases, not-i, not-e, eqb-of}
-use Rattle.facts.proofs.Bounded.{every-e}
 use Rattle.hierarchy.specs.Hierarchy.{Cells}
 use Rattle.grid.specs.declared.Plan.{Plan}
 use Rattle.grid.specs.Plan.{cellTotal, cellLevel, lastLevel, hierarchy}
 use Rattle.grid.specs.Range.{InRange}
 use Rattle.grid.proofs.Laws.{cell-inside}
-use Rattle.mesh.specs.Mesh.{active, refined, cellFits, isMesh, tableOf}
-use Rattle.mesh.proofs.Bridge.{Good, CellFits, fits-e, fit-is, fit-mesh, admissible-of, active-is, reactivable-is, is-mesh, is-admissible}
+use Rattle.mesh.specs.Mesh.{active, refined, tableOf}
+use Rattle.mesh.proofs.Bridge.{Good, mesh-fits, fit-is, fit-mesh, admissible-of, active-is, reactivable-is, is-mesh, is-admissible}
 use Rattle.outcomes.specs.Calls.{Direction, refine, coarsen, By, selected, base, smallest, newCells}
 use Rattle.outcomes.proofs.Sets.{May}
 use Rattle.outcomes.proofs.Marks.{closure-same-below, smallest-is}
@@ -26,9 +25,8 @@ use Rattle.closure.proofs.Passes.{refine-pass, active-pass, close-pass}
 
 module _ (p : Plan) (cs flags : List ℕ) where
   pub ready-good : (d : Direction) → Ready d p cs flags → Good p cs
-  unfolding isMesh
   ready-good d r =
-      let fit : (c : ℕ) → c < cellTotal p → CellFits p cs c = λ c i. fits-e p cs c (every-e (cellTotal p) (cellFits p cs) (r .mesh) c i) in
+      let fit = mesh-fits p cs (r .mesh) in
       record {
         range = r .range;
         small = r .small;

@@ -14,7 +14,7 @@ use lib.Seq.{ext-getD, getD-set-same, getD-set-other}
 use borrow.Rule.Slice.PartMut.{putMid, midOf}
 use Rattle.facts.specs.Mapped.{inRun, filled}
 use Rattle.facts.proofs.Mapped.{run-in, run-before, run-after, run-e, mapped-length, mapped-at, mapped-is, mapped-more, mapped-part, filled-part}
-use Rattle.facts.proofs.Numbers.{length-tabulate, getD-tabulate, tabulate-same}
+use Rattle.facts.proofs.Numbers.{getD-tabulate, tabulate-same}
 use Rattle.facts.proofs.Tests.{and-i, and-l, and-r, or-l, or-r, cases, same, differ, positive, T-true, T-false, not-e}
 use Rattle.hierarchy.specs.Hierarchy.{Cells}
 use Rattle.grid.specs.declared.Plan.{Plan}
@@ -30,7 +30,7 @@ use Rattle.grid.proofs.Laws.{cell-number-place, parent-lt, parent-level}
 use Rattle.grid.proofs.Spans.{InSpan, span-fact, span-test}
 use Rattle.grid.proofs.Rectangles.{RectangleIn, rectangle-has, cell-in-rectangle, rectangle-number, in-children, children-parent}
 use Rattle.mesh.specs.Mesh.{tableOf}
-use Rattle.mesh.proofs.Bridge.{rooted}
+use Rattle.mesh.proofs.Bridge.{rooted, byte-two, length-tableOf}
 use Rattle.windows.specs.Windows.{always}
 use Rattle.closure.specs.Walk.{at, fillCells, writeCell, inBlock, fillBlock, Block}
 
@@ -41,22 +41,13 @@ module _ (p : Plan) where
   byteOf S c = cond (S c) 2 (cond (rooted p S c) 1 0)
 
   module _ (S : Cells) where
-    long : length (tableOf p S) ≡ cellTotal p
-    unfolding tableOf
-    long = length-tabulate (cellTotal p) (byteOf S)
-
     pub getD-tableOf : (c : ℕ) → c < cellTotal p → getD (tableOf p S) c 0 ≡ byteOf S c
     unfolding tableOf
     getD-tableOf c i = getD-tabulate (cellTotal p) (byteOf S) c 0 i
 
-  two : (s x : Bool) → eqb (cond s 2 (cond x 1 0)) 2 ≡ s
-  two true x = refl
-  two false true = refl
-  two false false = refl
-
   -- the byte 2 says that the cell is in the set
   pub refined-is : (S : Cells) (c : ℕ) → c < cellTotal p → eqb (getD (tableOf p S) c 0) 2 ≡ S c
-  refined-is S c i = rw (getD-tableOf S c i) (two (S c) (rooted p S c))
+  refined-is S c i = rw (getD-tableOf S c i) (byte-two (S c) (rooted p S c))
 
   byte-same : (S S′ : Cells) (c : ℕ) → S c ≡ S′ c → (1 ≤ cellLevel p c → S (parent p c) ≡ S′ (parent p c)) → byteOf S c ≡ byteOf S′ c
   byte-same S S′ c e f = cases (eqb (cellLevel p c) 0)
@@ -270,9 +261,9 @@ module _ (p : Plan) (range : InRange p) (c : ℕ) (i : c < cellTotal p) where
     rewritten =
         let t : List ℕ = tableOf p S in
         let v : ℕ = cond (S′ c) 2 1 in
-        let e : length (writeCell p v (cellPlace p c) t) ≡ cellTotal p = write-long p v (cellPlace p c) t ∙ long p S in
-        ext-getD 0 _ _ (e ∙ sym (long p S′)) (λ d h.
+        let e : length (writeCell p v (cellPlace p c) t) ≡ cellTotal p = write-long p v (cellPlace p c) t ∙ length-tableOf p S in
+        ext-getD 0 _ _ (e ∙ sym (length-tableOf p S′)) (λ d h.
         let j : d < cellTotal p = omega arith in
-        write-byte p v (cellPlace p c) t d (omega (arith, long p S))
+        write-byte p v (cellPlace p c) t d (omega (arith, length-tableOf p S))
         ∙ ap (λ (x : ℕ). cond (childOf p (cellPlace p c) d) (v - 1) (cond (eqb d (cellNumber p (cellPlace p c))) v x)) (getD-tableOf p S d j)
         ∙ byte-is d j ∙ sym (getD-tableOf p S′ d j))

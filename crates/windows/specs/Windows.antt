@@ -10,10 +10,6 @@ use Rattle.facts.specs.Mapped.{inRun, mapped}
 unfoldable pub always : ℕ → ℕ → ℕ
 always v i = v
 
--- the byte that lowers nothing
-unfoldable pub two : ℕ → ℕ
-two i = 2
-
 -- the first n entries lowered to those of `from`
 unfoldable pub lowered : ℕ → List ℕ → List ℕ → List ℕ
 lowered n from xs = mapped (λ i x. cond (inRun 0 n i) (min x (getD from i 0)) x) xs

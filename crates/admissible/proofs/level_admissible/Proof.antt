@@ -1,6 +1,5 @@
 -- `admissible::level_admissible` meets its contract. The invariant: whether the rows so far pass. Assumes nothing.
-use mathlib.Core.Bool.{_&&_}
-use mathlib.Core.Path.{_≡_, sym, ap, _∙_}
+use mathlib.Core.Path.{_≡_, refl, sym, ap, _∙_}
 use Prim.Native.Nat.{ℕ, _+_, _-_, _*_, _≤_}
 use native.Mathlib.Nat.{zero-mul}
 use native.Mathlib.Omega.{arith}
@@ -10,7 +9,7 @@ use Rattle.facts.proofs.Ranges.{from-none}
 use Rattle.grid.specs.Plan.{columnsAt, rowsAt, cellOffset}
 use Rattle.grid.proofs.Levels.{row-within}
 use Rattle.admissible.specs.Admissible.{cellAdmissible}
-use Rattle.admissible.proofs.Cells.{from-and}
+use Rattle.nesting.proofs.Levels.{rows-join}
 use Rattle.admissible.proofs.level_admissible.Statement.{statement}
 use Rattle.admissible.proofs.level_admissible.Tie as tie
 
@@ -70,12 +69,10 @@ loop-again : tie.Need-loop-again Inv-loop μ-loop
 loop-again c =
     let a = c .before .before .before .before .before .before .before .before .before .before .before .before .before .before .before .before .before .args in
     let p = a .plan in
-    let l = c .before .before .before .loop in
-    let u : l .row * columnsAt p (a .level) + columnsAt p (a .level) ≡ (l .row + 1) * columnsAt p (a .level) = omega arith in
-    let both = from-and (cellOffset p (a .level)) (l .row * columnsAt p (a .level)) (columnsAt p (a .level)) (l .at) (cellAdmissible p (a .cells .now)) (l .inv .1) in (
+    let l = c .before .before .before .loop in (
       omega (arith, l .inv .3),
       omega (arith, l .inv .1, l .inv .4),
-      (λ i. l .inv .2 i && c .row-admissible .ensures i) ∙ (both ∙ ap (λ (n : ℕ). everyFrom (cellOffset p (a .level)) n (cellAdmissible p (a .cells .now))) u),
+      rows-join (cellOffset p (a .level)) (cellAdmissible p (a .cells .now)) (columnsAt p (a .level)) (l .row) (l .at) (l .inv .1) refl (l .inv .2) (c .row-admissible .ensures),
       l .inv .3,
       l .inv .4,
     )

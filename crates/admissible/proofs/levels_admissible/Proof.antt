@@ -1,15 +1,15 @@
 -- `admissible::levels_admissible` meets its contract. The invariant: whether the levels so far pass. Assumes nothing.
-use mathlib.Core.Bool.{_&&_}
-use mathlib.Core.Path.{_≡_, refl, sym, ap, _∙_}
-use Prim.Native.Nat.{ℕ, _-_, _*_, _≤_}
+use mathlib.Core.Path.{_≡_, refl, sym, _∙_}
+use Prim.Native.Nat.{_-_, _≤_}
 use native.Mathlib.Omega.{arith}
 use borrow.Author.Needs.{needs}
 use lib.ListN.{length}
 use Rattle.facts.specs.Ranges.{everyFrom}
 use Rattle.grid.specs.Plan.{columnsAt, rowsAt, cellOffset}
-use Rattle.grid.proofs.Levels.{offset-next, levels-none}
+use Rattle.grid.proofs.Levels.{levels-none}
 use Rattle.admissible.specs.Admissible.{cellAdmissible}
-use Rattle.admissible.proofs.Cells.{from-and, levels-passed}
+use Rattle.nesting.proofs.Levels.{levels-join}
+use Rattle.admissible.proofs.Cells.{levels-passed}
 use Rattle.admissible.proofs.levels_admissible.Statement.{statement}
 use Rattle.admissible.proofs.levels_admissible.Tie as tie
 
@@ -43,12 +43,11 @@ loop-again c =
     let a = c .before .before .before .before .before .before .before .before .before .before .before .before .before .args in
     let p = a .plan in
     let l = c .before .before .before .before .before .before .before .before .loop in
-    let n = c .before .before .before .before .level-admissible in
-    let both = from-and 0 (cellOffset p (l .level)) (rowsAt p (l .level) * columnsAt p (l .level)) (cellOffset p (l .level)) (cellAdmissible p (a .cells .now)) (omega arith) in (
+    let n = c .before .before .before .before .level-admissible in (
       n .kept .1 .1 .0 ∙ l .inv .0,
       n .kept .1 .1 .1 .0 ∙ l .inv .1,
       omega arith,
-      (λ i. l .inv .3 i && n .ensures i) ∙ (both ∙ ap (λ (m : ℕ). everyFrom 0 m (cellAdmissible p (a .cells .now))) (sym (offset-next (columnsAt p) (rowsAt p) (l .level)))),
+      levels-join (columnsAt p) (rowsAt p) (cellAdmissible p (a .cells .now)) (l .level) (l .inv .3) (n .ensures),
     )
 
 same-length : tie.Need-same-length Inv-loop μ-loop

@@ -1,4 +1,5 @@
 -- `admissible::row_admissible` meets its contract. The invariant: whether the cells so far pass. Assumes nothing.
+use mathlib.Core.Bool.{_&&_}
 use mathlib.Core.Path.{_≡_, refl, sym, ap, _∙_}
 use Prim.Native.Nat.{ℕ, _+_, _-_, _≤_, _<_}
 use native.Mathlib.Omega.{arith}
@@ -9,9 +10,10 @@ use Rattle.facts.proofs.Ranges.{from-none}
 use Rattle.grid.specs.Numbering.{number}
 use Rattle.grid.specs.Plan.{columnsAt, cellNumber, CellInside}
 use Rattle.grid.proofs.Laws.{cell-number-lt}
+use Rattle.nesting.proofs.Levels.{from-next}
 use Rattle.windows.specs.Near.{leastNear}
 use Rattle.admissible.specs.Admissible.{cellAdmissible}
-use Rattle.admissible.proofs.Cells.{from-next, cell-read}
+use Rattle.admissible.proofs.Cells.{cell-read}
 use Rattle.admissible.proofs.row_admissible.Statement.{statement}
 use Rattle.admissible.proofs.row_admissible.Tie as tie
 
@@ -64,7 +66,7 @@ loop-again c =
     let l = c .before .before .before .loop in
     let o = c .before .before in
     let e = c .before .least-near .ensures ∙ (s .pre .1 .0 .1 .made _ (place o) refl ∙ ap (leastNear (a .plan) (a .cells .now)) (number-is o)) in
-    (omega arith, l .inv .1, from-next (a .at) (l .column) (a .at + l .column) (cellAdmissible (a .plan) (a .cells .now)) refl (l .inv .2) (cell-read (a .plan) (a .cells .now) (s .pre .0) (a .at + l .column) _ e))
+    (omega arith, l .inv .1, (λ i. l .inv .2 i && cell-read (a .plan) (a .cells .now) (s .pre .0) (a .at + l .column) _ e i) ∙ from-next (a .at) (cellAdmissible (a .plan) (a .cells .now)) (l .column))
 
 returns : tie.Need-returns Inv-loop μ-loop
 returns c =
