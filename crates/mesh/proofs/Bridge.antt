@@ -350,6 +350,9 @@ module _ (p : Plan) (cs fs : List ℕ) where
       let (t6, e6) = pass (isLabelled p cs fs) 5 0 e5 in
       record { passed = passed r3; mesh = t4; admissible = t5; labelled = t6 }
 
+  pub check-passed : check p cs fs ≡ 0 → Passed
+  check-passed e = checked e .passed
+
   unchecked : Checked → check p cs fs ≡ 0
   unfolding check refusal3 refusal6 tooLarge
   unchecked k =

@@ -1,6 +1,6 @@
 -- What the steps of open, check and count answer is what their definitions answer. Assumes nothing.
 use mathlib.Core.Path.{_≡_, refl, sym, ap, _∙_}
-use mathlib.Core.Bool.{Bool, true, false, _&&_, cond}
+use mathlib.Core.Bool.{Bool, true, false, cond}
 use mathlib.Core.List.{List}
 use Prim.Native.Nat.{ℕ, zero, suc, _+_, _-_, _*_, _^_, _≤_, _<_}
 use native.Mathlib.Nat.{mul-one, pow-zero, pow-suc}
@@ -9,22 +9,20 @@ use lib.Dec.{T, eqb, ltb, eqb→eq, ltb→lt, nltb→le}
 use lib.ListN.{length, getD}
 use borrow.Author.Tests.{eq-eqb, ne-eqb}
 use Rattle.facts.specs.Ranges.{Written}
-use Rattle.facts.proofs.Tests.{and-l, and-r, cases, same, eqb-of, not-i}
+use Rattle.facts.proofs.Tests.{cases, same, eqb-of}
 use Rattle.facts.proofs.Numbers.{tabulate-is}
 use Rattle.facts.proofs.Ranges.{sum-more}
 use Rattle.grid.specs.declared.Plan.{Plan}
 use Rattle.grid.specs.Numbering.{Inside, offset, number, place}
 use Rattle.grid.specs.Plan.{inRange, tooLarge, ratio, grown, columnsAt, rowsAt, functionColumnsAt, functionRowsAt, cellOffset, functionOffset, cellTotal, functionTotal}
 use Rattle.grid.specs.Range.{InRange}
-use Rattle.grid.proofs.Laws.{in-range, cell-inside, cell-number-place, function-inside, function-number-place}
+use Rattle.grid.proofs.Laws.{cell-inside, cell-number-place, function-inside, function-number-place}
 use Rattle.grid.proofs.Totals.{functions-bound}
 use Rattle.mesh.specs.Mesh.{active, refined, isMesh, isAdmissible, isLabelled, refusal3, refusal6, check, freshCells, freshFunctions, openMesh, tally, areaOf, count}
-use Rattle.mesh.proofs.Bridge.{pass, stop, check-good, is-mesh, length-labels}
+use Rattle.mesh.proofs.Bridge.{Passed, passed, check-good, is-mesh, length-labels}
 use Rattle.mesh.proofs.Area.{area}
 use Rattle.tables.specs.Entries.{byteIs, freshByte}
-use Rattle.nesting.specs.Table.{CellTable}
 use Rattle.nesting.proofs.Levels.{offset-mono, level-before, level-from}
-use Rattle.grid.specs.Bounds.{mostCells}
 
 -- ---- the area
 
@@ -59,24 +57,6 @@ module _ (p : Plan) (cs fs : List ℕ) where
   pub refuse-0 : inRange p ≡ true → tooLarge p ≡ false → length cs ≡ cellTotal p → length fs ≡ functionTotal p → 0 ≡ refusal3 p cs fs
   unfolding refusal3
   refuse-0 e f g h = rw (e, f, eq-eqb _ _ g, eq-eqb _ _ h)
-
-  -- what holds where none of them is given
-  pub record Passed : Type 0 where
-    pub table : CellTable p cs
-    pub functions : length fs ≡ functionTotal p
-    pub small : cellTotal p ≤ mostCells
-
-  pub passed : refusal3 p cs fs ≡ 0 → Passed
-  unfolding refusal3 tooLarge
-  passed e =
-      let (t1, e1) = pass (inRange p) 0 _ e in
-      let (t2, e2) = stop (tooLarge p) 1 _ e1 in
-      let (t3, e3) = pass (eqb (length cs) (cellTotal p) && eqb (length fs) (functionTotal p)) 2 0 e2 in
-      record {
-        table = record { range = in-range p t1; size = eqb→eq _ _ (and-l (eqb (length cs) (cellTotal p)) (eqb (length fs) (functionTotal p)) t3) };
-        functions = eqb→eq _ _ (and-r (eqb (length cs) (cellTotal p)) (eqb (length fs) (functionTotal p)) t3);
-        small = nltb→le mostCells (cellTotal p) (not-i (ltb mostCells (cellTotal p)) t2);
-      }
 
   -- ---- refusals 4 to 6
 
@@ -154,20 +134,20 @@ module _ (w h : ℕ → ℕ) (L n : ℕ) (inside : Inside w h L (place w h L n))
 module _ (p : Plan) (cs fs : List ℕ) where
   fresh-cells : (ds : List ℕ) → Passed p cs fs → Written cs ds 0 (length cs) (freshByte (cellOffset p 1)) → ds ≡ freshCells p
   unfolding freshCells
-  fresh-cells ds k w = let t = k .table in tabulate-is (cellTotal p) _ ds (w .size ∙ t .size) (λ i l. w .made i (omega arith) (omega (arith, t .size))
-      ∙ first-level _ _ (p .levels) i (cell-inside p (t .range) i l) (cell-number-place p (t .range) i l))
+  fresh-cells ds k w = tabulate-is (cellTotal p) _ ds (w .size ∙ k .cells) (λ i l. w .made i (omega arith) (omega (arith, k .cells))
+      ∙ first-level _ _ (p .levels) i (cell-inside p (k .range) i l) (cell-number-place p (k .range) i l))
 
   fresh-functions : (gs : List ℕ) → Passed p cs fs → Written fs gs 0 (length fs) (freshByte (functionOffset p 1)) → gs ≡ freshFunctions p
   unfolding freshFunctions
-  fresh-functions gs k w = let r = k .table .range in tabulate-is (functionTotal p) _ gs (w .size ∙ k .functions) (λ i l. w .made i (omega arith) (omega (arith, k .functions))
+  fresh-functions gs k w = let r = k .range in tabulate-is (functionTotal p) _ gs (w .size ∙ k .functions) (λ i l. w .made i (omega arith) (omega (arith, k .functions))
       ∙ first-level _ _ (p .levels) i (function-inside p r i l) (function-number-place p r i l))
 
   -- the first level lies in each table
   pub first-cells : Passed p cs fs → cellOffset p 1 ≤ length cs
-  first-cells k = omega (arith, k .table .size, offset-mono (columnsAt p) (rowsAt p) 1 (p .levels) (k .table .range .levels≥))
+  first-cells k = omega (arith, k .cells, offset-mono (columnsAt p) (rowsAt p) 1 (p .levels) (k .range .levels≥))
 
   pub first-functions : Passed p cs fs → functionOffset p 1 ≤ length fs
-  first-functions k = omega (arith, k .functions, offset-mono (functionColumnsAt p) (functionRowsAt p) 1 (p .levels) (k .table .range .levels≥))
+  first-functions k = omega (arith, k .functions, offset-mono (functionColumnsAt p) (functionRowsAt p) 1 (p .levels) (k .range .levels≥))
 
   abbrev After : ℕ → List ℕ → List ℕ → Type 0
   After n ds gs = (n ≡ openMesh p cs fs .number) × ((ds ≡ openMesh p cs fs .cells) × (gs ≡ openMesh p cs fs .functions))

@@ -7,7 +7,7 @@ use Rattle.grid.specs.Bounds.{mostCells, mostFunctions}
 use Rattle.grid.specs.Plan.{functionTotal}
 use Rattle.grid.proofs.Totals.{functions-bound}
 use Rattle.mesh.specs.Mesh.{check}
-use Rattle.tables.proofs.Calls.{Passed, check-passed}
+use Rattle.mesh.proofs.Bridge.{Passed, check-passed}
 use Rattle.calls.specs.Parts.{directionOf, byOf}
 use Rattle.calls.proofs.Outcomes.{check-refused, mark-refused, applicable, settled}
 use borrow.Author.Needs.{needs}

@@ -7,7 +7,7 @@ use Rattle.facts.proofs.Numbers.{length-tabulate}
 use Rattle.grid.specs.Plan.{functionTotal}
 use Rattle.marks.specs.Marks.{weighed}
 use Rattle.outcomes.specs.Calls.{functions, markRefusal}
-use Rattle.tables.proofs.Calls.{check-passed}
+use Rattle.mesh.proofs.Bridge.{check-passed}
 use Rattle.calls.specs.Parts.{directionOf}
 use Rattle.calls.proofs.Eligible.{judged-is, marks-below}
 use Rattle.calls.proofs.Flags.{functions-flags}

@@ -1,6 +1,6 @@
 -- `flag_marks` meets its contract: each arm is the function of that kind of marks. Assumes nothing.
 use mathlib.Core.Path.{ap}
-use Rattle.tables.proofs.Calls.{check-passed}
+use Rattle.mesh.proofs.Bridge.{check-passed}
 use Rattle.calls.specs.Parts.{byOf}
 use Rattle.calls.proofs.Flags.{flags-are}
 use borrow.Author.Needs.{needs}

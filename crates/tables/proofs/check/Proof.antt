@@ -1,7 +1,8 @@
 -- `tables::check` meets its contract. Refusals 1 to 3, then 4 to 6. Assumes nothing.
 use mathlib.Core.Path.{sym, _∙_}
 use borrow.Author.Needs.{needs}
-use Rattle.tables.proofs.Calls.{passed, check-later, check-first}
+use Rattle.mesh.proofs.Bridge.{passed}
+use Rattle.tables.proofs.Calls.{check-later, check-first}
 use Rattle.tables.proofs.check.Statement.{statement}
 use Rattle.tables.proofs.check.Tie as tie
 
@@ -9,7 +10,7 @@ refusal-requires : tie.Need-refusal-requires
 refusal-requires c κs = search needs
 
 later-refusal-requires : tie.Need-later-refusal-requires
-later-refusal-requires c κs = let k = passed _ _ _ (sym (c .before .refusal .ensures) ∙ c .if1 .taken) in (k .table, k .functions, k .small)
+later-refusal-requires c κs = let k = passed _ _ _ (sym (c .before .refusal .ensures) ∙ c .if1 .taken) in (record { range = k .range; size = k .cells }, k .functions, k .small)
 
 returns : tie.Need-returns
 returns c = c .later-refusal .ensures ∙ check-later _ _ _ (sym (c .before .before .refusal .ensures) ∙ c .before .if1 .taken)

@@ -1,7 +1,8 @@
 -- `tables::open` meets its contract. Nothing is written before the refusals are decided. Assumes nothing.
 use mathlib.Core.Path.{sym, _∙_}
 use borrow.Author.Needs.{needs}
-use Rattle.tables.proofs.Calls.{passed, first-cells, first-functions, opened, unopened}
+use Rattle.mesh.proofs.Bridge.{passed}
+use Rattle.tables.proofs.Calls.{first-cells, first-functions, opened, unopened}
 use Rattle.tables.proofs.open.Statement.{statement}
 use Rattle.tables.proofs.open.Tie as tie
 
@@ -9,7 +10,7 @@ refusal-requires : tie.Need-refusal-requires
 refusal-requires c κs = search needs
 
 cell-offset-requires : tie.Need-cell-offset-requires
-cell-offset-requires c κs = let k = passed _ _ _ (sym (c .before .refusal .ensures) ∙ c .if1 .taken) in (k .table .range, k .table .range .levels≥)
+cell-offset-requires c κs = let k = passed _ _ _ (sym (c .before .refusal .ensures) ∙ c .if1 .taken) in (k .range, k .range .levels≥)
 
 cast-first : tie.Need-cast-first
 cast-first c = search needs
@@ -18,7 +19,7 @@ fresh-requires : tie.Need-fresh-requires
 fresh-requires c κs = rw (c .before .cell-offset .ensures) (first-cells _ _ _ (passed _ _ _ (sym (c .before .before .before .refusal .ensures) ∙ c .before .before .if1 .taken)))
 
 function-offset-requires : tie.Need-function-offset-requires
-function-offset-requires c κs = let k = passed _ _ _ (sym (c .before .before .before .before .before .before .refusal .ensures) ∙ c .before .before .before .before .before .if1 .taken) in (k .table .range, k .table .range .levels≥)
+function-offset-requires c κs = let k = passed _ _ _ (sym (c .before .before .before .before .before .before .refusal .ensures) ∙ c .before .before .before .before .before .if1 .taken) in (k .range, k .range .levels≥)
 
 cast-labels : tie.Need-cast-labels
 cast-labels c = search needs
