@@ -13,7 +13,7 @@ use Rattle.facts.specs.Numbers.{tabulate}
 use Rattle.facts.specs.Ranges.{everyFrom}
 use Rattle.facts.specs.Mapped.{mapped}
 use Rattle.facts.proofs.Tests.{cases, same, differ, eqb-of, not-i, T-true, implies-i, implies-e}
-use Rattle.facts.proofs.Ranges.{from-i, from-e, from-none, from-one}
+use Rattle.facts.proofs.Ranges.{from-i, from-e, from-none, from-same}
 use Rattle.facts.proofs.Numbers.{length-tabulate, getD-tabulate, tabulate-is}
 use Rattle.facts.proofs.Mapped.{mapped-length, mapped-at, mapped-is, mapped-more}
 use Rattle.grid.specs.declared.Plan.{Plan}
@@ -24,12 +24,22 @@ use Rattle.grid.proofs.Laws.{cell-inside, cell-number-place, parent-level, is-c
 use Rattle.mesh.specs.Mesh.{active, refined, children, reactivable}
 use Rattle.mesh.proofs.Bridge.{children-e, children-i}
 use Rattle.nesting.specs.Reactivable.{reactivableByte, refinedByte, ruledOut}
-use Rattle.nesting.proofs.Levels.{offset-mono, level-before, level-from, from-join}
+use Rattle.nesting.proofs.Levels.{offset-mono, level-before, level-from, from-join, from-next}
 
 both : (a b : Bool) (x : ℕ) → cond b (cond a x 2) 2 ≡ cond (a && b) x 2
 both true b x = refl
 both false true x = refl
 both false false x = refl
+
+-- what children leave of a byte, one by one
+module _ (cells : List ℕ) (a : ℕ) where
+  pub left-none : (byte : ℕ) → byte ≡ cond (everyFrom a 0 (active cells)) byte 2
+  left-none byte = rw (from-none a (active cells))
+
+  pub left-more : (n byte : ℕ) {left r : ℕ} → left ≡ cond (everyFrom a n (active cells)) byte 2 → r ≡ cond (eqb (getD cells (a + n) 0) 1) left 2
+      → r ≡ cond (everyFrom a (n + 1) (active cells)) byte 2
+  unfolding active
+  left-more n byte e q = q ∙ (ap (λ x. cond (eqb (getD cells (a + n) 0) 1) x 2) e ∙ (both (everyFrom a n (active cells)) (active cells (a + n)) byte ∙ ap (λ t. cond t byte 2) (from-next a (active cells) n)))
 
 module _ (p : Plan) (cells : List ℕ) where
   abbrev allows : ℕ → ℕ → Bool
@@ -44,19 +54,18 @@ module _ (p : Plan) (cells : List ℕ) where
   ruled-more a m b n xs e = mapped-more _ _ _ xs (λ c x.
       both (everyFrom a m (allows c)) (everyFrom b n (allows c)) x ∙ ap (λ t. cond t x 2) (from-join a (allows c) m n b e))
 
-  -- one child
-  ruled-set : (d up : ℕ) (xs : List ℕ) → up < length xs → parent p d ≡ up → set xs up (cond (eqb (getD cells d 0) 1) (getD xs up 0) 2) ≡ mapped (ruledOut p cells d 1) xs
-  unfolding ruledOut active
-  ruled-set d up xs l e = mapped-is _ xs _ (length-set xs up _) (λ c m. rw (from-one d (allows c), e) (cases (eqb up c)
-      (λ t. rw (T-true (eqb up c) t, ← eqb→eq up c t) (getD-set-same xs up _ 0 l))
-      (λ t. rw (ne-eqb up c (differ up c t)) (getD-set-other xs up c _ 0 (λ q. differ up c t (sym q))))))
+  -- the n children from d on of one cell
+  ruled-set : (d n up : ℕ) (xs : List ℕ) → up < length xs → ((e : ℕ) → d ≤ e → e < d + n → parent p e ≡ up)
+      → set xs up (cond (everyFrom d n (active cells)) (getD xs up 0) 2) ≡ mapped (ruledOut p cells d n) xs
+  unfolding ruledOut
+  ruled-set d n up xs l h = mapped-is _ xs _ (length-set xs up _) (λ c m. cases (eqb up c)
+      (λ t. let q : up ≡ c = eqb→eq up c t in
+      let s : everyFrom d n (active cells) ≡ everyFrom d n (allows c) = from-same d n _ _ (λ e from to. rw (h e from to, T-true (eqb up c) t)) in
+      rw (← s, ← q) (getD-set-same xs up _ 0 l))
+      (λ t. let s : everyFrom d n (allows c) ≡ true = T-true _ (from-i d n (allows c) (λ e from to. rw (h e from to, ne-eqb up c (differ up c t)) tt)) in
+      rw s (getD-set-other xs up c _ 0 (λ q. differ up c t (sym q)))))
 
-  -- a row's children, one by one
-  pub ruled-next : (a n up : ℕ) (ys : List ℕ) {xs : List ℕ} → xs ≡ mapped (ruledOut p cells a n) ys → up < length xs → parent p (a + n) ≡ up
-      → set xs up (cond (eqb (getD cells (a + n) 0) 1) (getD xs up 0) 2) ≡ mapped (ruledOut p cells a (n + 1)) ys
-  ruled-next a n up ys {xs} e l q = ruled-set (a + n) up xs l q ∙ (ap (mapped (ruledOut p cells (a + n) 1)) e ∙ ruled-more a n (a + n) 1 ys refl)
-
-  -- a level's, row by row
+  -- a row's children, parent by parent, and a level's, row by row
   ruled-join : (a m b n : ℕ) (ys : List ℕ) {xs zs : List ℕ} → b ≡ a + m → xs ≡ mapped (ruledOut p cells a m) ys → zs ≡ mapped (ruledOut p cells b n) xs → zs ≡ mapped (ruledOut p cells a (m + n)) ys
   ruled-join a m b n ys q e f = f ∙ (ap (mapped (ruledOut p cells b n)) e ∙ ruled-more a m b n ys q)
 
@@ -65,6 +74,11 @@ module _ (p : Plan) (cells : List ℕ) where
   ruled-rows a w row at ys q en e f =
       let u : (row + 1) * w ≡ row * w + w = omega arith in
       rw u (ruled-join a (row * w) at w ys q e (rw en at f))
+
+  pub ruled-next : (a s x at up : ℕ) (ys : List ℕ) {n byte : ℕ} {xs : List ℕ} → at ≡ a + x * s → n ≡ s → xs ≡ mapped (ruledOut p cells a (x * s)) ys → up < length xs
+      → ((e : ℕ) → a + x * s ≤ e → e < a + x * s + s → parent p e ≡ up) → byte ≡ cond (everyFrom at n (active cells)) (getD xs up 0) 2
+      → set xs up byte ≡ mapped (ruledOut p cells a ((x + 1) * s)) ys
+  ruled-next a s x at up ys {xs = xs} ea en e l h eb = ruled-rows a s x (a + x * s) ys refl refl e (ap (set xs up) (rw (ea, en) at eb) ∙ ruled-set (a + x * s) s up xs l h)
 
   -- the levels below the first, one by one
   pub ruled-levels : (k : ℕ) (ys : List ℕ) {xs zs : List ℕ} → xs ≡ mapped (ruledOut p cells (cellOffset p 1) (cellOffset p (k + 1) - cellOffset p 1)) ys

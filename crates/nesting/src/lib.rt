@@ -1,19 +1,19 @@
-// The nesting of cells: refusal 4, and which refined cells are reactivable. Each cell is read with its parent. Levels that have one above
-// them are read row by row: a row of cells begins at `at`, and the row of their parents at `over`.
+// The nesting of cells: refusal 4, and which refined cells are reactivable. Each cell is read with its parent, row by row: a row of cells
+// begins at `at`, and the row of their parents, `width` of them, at `over`.
 use grid::Plan;
 ghost use mathlib.Core.Path.{_≡_};
 ghost use mathlib.Core.Bool.{_&&_, cond};
-ghost use Prim.Native.Nat.{ℕ, _+_, _*_, _<_};
+ghost use Prim.Native.Nat.{ℕ, _+_, _*_, _≤_, _<_};
 ghost use lib.Dec.{eqb};
 ghost use lib.ListN.{length};
 ghost use Rattle.facts.specs.Numbers.{tabulate};
 ghost use Rattle.facts.specs.Ranges.{everyFrom};
 ghost use Rattle.facts.specs.Mapped.{mapped};
-ghost use Rattle.grid.specs.Plan.{columnsAt, rowsAt, cellOffset, cellTotal};
+ghost use Rattle.grid.specs.Plan.{ratio, columnsAt, rowsAt, cellOffset, cellTotal};
 ghost use Rattle.grid.specs.Range.{InRange};
-ghost use Rattle.mesh.specs.Mesh.{isMesh};
+ghost use Rattle.mesh.specs.Mesh.{active, isMesh};
 ghost use Rattle.nesting.specs.Table.{CellTable, RowUnder};
-ghost use Rattle.nesting.specs.Nested.{byteFits, mostAt, nested};
+ghost use Rattle.nesting.specs.Nested.{byteFits, cellByteFits, mostAt, nested};
 ghost use Rattle.nesting.specs.Reactivable.{reactivableByte, refinedByte, ruledOut};
 
 // The cell is present just where it must be, and its byte is at most `most`.
@@ -25,6 +25,20 @@ fn byte_fits(byte: u8, most: u8, present: bool) -> bool
     } else {
         present & (byte <= most)
     }
+}
+
+// The same of the n cells from `at` on.
+fn all_fit(cells: &[u8], at: usize, n: usize, most: u8, present: bool) -> bool
+    requires { ⌜ at + n ≤ length (now cells) ⌝ }
+    ensures { λ r. ⌜ r ≡ everyFrom at n (cellByteFits (now (cells .entry)) most present) ⌝ }
+{
+    let mut ok = true;
+    let mut i = 0;
+    while i < n {
+        ok = ok & byte_fits(cells[at + i], most, present);
+        i += 1;
+    }
+    ok
 }
 
 // The largest byte of a cell of the level: "no cell of level L-1 is split".
@@ -41,28 +55,23 @@ fn first_level_fits(plan: Plan, cells: &[u8]) -> bool
     ensures { λ r. ⌜ r ≡ everyFrom 0 (cellOffset plan 1) (nested plan (now (cells .entry))) ⌝ }
 {
     let end = plan.cell_offset(1) as usize;
-    let mut ok = true;
-    let mut cell = 0;
-    while cell < end {
-        ok = ok & byte_fits(cells[cell], most_at(plan, 0), true);
-        cell += 1;
-    }
-    ok
+    all_fit(cells, 0, end, most_at(plan, 0), true)
 }
 
-// A row of the next level: a cell is present just where its parent is refined.
-fn row_fits(plan: Plan, cells: &[u8], level: u32, at: u32, over: u32, columns: u32) -> bool
-    requires { ⌜ RowUnder plan level at over columns ⌝ }
+// A row of the next level: the children of a cell are present just where it is refined.
+fn row_fits(plan: Plan, cells: &[u8], level: u32, at: usize, over: usize, width: usize) -> bool
+    requires { ⌜ RowUnder plan level at over width ⌝ }
     requires { ⌜ length (now cells) ≡ cellTotal plan ⌝ }
-    ensures { λ r. ⌜ r ≡ everyFrom at columns (nested plan (now (cells .entry))) ⌝ }
+    ensures { λ r. ⌜ r ≡ everyFrom at (width * ratio plan) (nested plan (now (cells .entry))) ⌝ }
 {
     let most = most_at(plan, level + 1);
     let mut ok = true;
+    let mut here = at;
     let mut column = 0;
-    while column < columns {
-        let here = (at + column) as usize;
-        let up = (over + plan.coarser(column, 1)) as usize;
-        ok = ok & byte_fits(cells[here], most, cells[up] == 2);
+    while column < width {
+        let ratio = plan.ratio() as usize;
+        ok = ok & all_fit(cells, here, ratio, most, cells[over + column] == 2);
+        here += ratio;
         column += 1;
     }
     ok
@@ -84,7 +93,15 @@ fn next_level_fits(plan: Plan, cells: &[u8], level: u32) -> bool
     let mut row = 0;
     while row < rows {
         let over = first + plan.coarser(row, 1) * width;
-        ok = ok & row_fits(plan, cells, level, at, over, columns);
+        ok = ok
+            & row_fits(
+                plan,
+                cells,
+                level,
+                at as usize,
+                over as usize,
+                width as usize,
+            );
         at += columns;
         row += 1;
     }
@@ -135,17 +152,33 @@ fn left_by(child: u8, byte: u8) -> u8
     if child == 1 { byte } else { 2 }
 }
 
-// A row of children.
-fn rule_out_row(plan: Plan, cells: &[u8], out: &mut [u8], at: u32, over: u32, columns: u32)
-    requires { ⌜ ((k : ℕ) × RowUnder plan k at over columns) ⌝ }
-    requires { ⌜ (length (now cells) ≡ cellTotal plan) × (length (now out) ≡ cellTotal plan) ⌝ }
-    ensures { λ _. ⌜ now (out .exit) ≡ mapped (ruledOut plan (now (cells .entry)) at columns) (now (out .entry)) ⌝ }
+// What the n children from `at` on leave of it.
+fn left_by_all(cells: &[u8], at: usize, n: usize, byte: u8) -> u8
+    requires { ⌜ at + n ≤ length (now cells) ⌝ }
+    ensures { λ r. ⌜ r ≡ cond (everyFrom at n (active (now (cells .entry)))) byte 2 ⌝ }
 {
+    let mut left = byte;
+    let mut i = 0;
+    while i < n {
+        left = left_by(cells[at + i], left);
+        i += 1;
+    }
+    left
+}
+
+// A row of children.
+fn rule_out_row(plan: Plan, cells: &[u8], out: &mut [u8], at: usize, over: usize, width: usize)
+    requires { ⌜ ((k : ℕ) × RowUnder plan k at over width) ⌝ }
+    requires { ⌜ (length (now cells) ≡ cellTotal plan) × (length (now out) ≡ cellTotal plan) ⌝ }
+    ensures { λ _. ⌜ now (out .exit) ≡ mapped (ruledOut plan (now (cells .entry)) at (width * ratio plan)) (now (out .entry)) ⌝ }
+{
+    let mut here = at;
     let mut column = 0;
-    while column < columns {
-        let here = (at + column) as usize;
-        let parent = (over + plan.coarser(column, 1)) as usize;
-        out[parent] = left_by(cells[here], out[parent]);
+    while column < width {
+        let ratio = plan.ratio() as usize;
+        let parent = over + column;
+        out[parent] = left_by_all(cells, here, ratio, out[parent]);
+        here += ratio;
         column += 1;
     }
 }
@@ -166,7 +199,7 @@ fn rule_out_level(plan: Plan, cells: &[u8], out: &mut [u8], level: u32)
     let mut row = 0;
     while row < rows {
         let over = first + plan.coarser(row, 1) * width;
-        rule_out_row(plan, cells, out, at, over, columns);
+        rule_out_row(plan, cells, out, at as usize, over as usize, width as usize);
         at += columns;
         row += 1;
     }
