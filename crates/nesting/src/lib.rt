@@ -2,13 +2,13 @@
 // begins at `at`, and the row of their parents, `width` of them, at `over`.
 use grid::Plan;
 ghost use mathlib.Core.Path.{_≡_};
-ghost use mathlib.Core.Bool.{_&&_, cond};
-ghost use Prim.Native.Nat.{ℕ, _+_, _*_, _≤_, _<_};
+ghost use mathlib.Core.Bool.{cond};
+ghost use Prim.Native.Nat.{ℕ, _+_, _-_, _*_, _≤_, _<_};
 ghost use lib.Dec.{eqb};
 ghost use lib.ListN.{length};
 ghost use Rattle.facts.specs.Numbers.{tabulate};
 ghost use Rattle.facts.specs.Ranges.{everyFrom};
-ghost use Rattle.facts.specs.Mapped.{mapped};
+ghost use Rattle.facts.specs.Mapped.{mapped, filled};
 ghost use Rattle.grid.specs.Plan.{ratio, columnsAt, rowsAt, cellOffset, cellTotal};
 ghost use Rattle.grid.specs.Range.{InRange};
 ghost use Rattle.mesh.specs.Mesh.{active, isMesh};
@@ -123,24 +123,21 @@ pub fn is_mesh(plan: Plan, cells: &[u8]) -> bool
     ok
 }
 
-// 1 for a refined cell that has children, 2 for any other.
-fn refined_byte(byte: u8, inner: bool) -> u8
-    ensures { λ r. ⌜ r ≡ cond (eqb byte 2 && inner) 1 2 ⌝ }
+// `kept` for a refined cell, 2 for any other.
+fn refined_byte(byte: u8, kept: u8) -> u8
+    ensures { λ r. ⌜ r ≡ cond (eqb byte 2) kept 2 ⌝ }
 {
-    if (byte == 2) & inner {
-        return 1;
-    }
-    2
+    if byte == 2 { kept } else { 2 }
 }
 
-// The same of each cell: those from `end` on are of the last level.
-fn refined_cells(cells: &[u8], out: &mut [u8], end: usize)
-    requires { ⌜ length (now out) ≡ length (now cells) ⌝ }
-    ensures { λ _. ⌜ now (out .exit) ≡ tabulate (length (now (cells .entry))) (refinedByte (now (cells .entry)) end) ⌝ }
+// The same of the cells from `from` up to `to`.
+fn refined_cells(cells: &[u8], out: &mut [u8], from: usize, to: usize, kept: u8)
+    requires { ⌜ (from ≤ to) × (to ≤ length (now cells)) × (to ≤ length (now out)) ⌝ }
+    ensures { λ _. ⌜ now (out .exit) ≡ filled from (to - from) (refinedByte (now (cells .entry)) kept) (now (out .entry)) ⌝ }
 {
-    let mut i = 0;
-    while i < cells.len() {
-        out[i] = refined_byte(cells[i], i < end);
+    let mut i = from;
+    while i < to {
+        out[i] = refined_byte(cells[i], kept);
         i += 1;
     }
 }
@@ -205,7 +202,7 @@ fn rule_out_level(plan: Plan, cells: &[u8], out: &mut [u8], level: u32)
     }
 }
 
-// 1 for each reactivable cell, 2 for any other.
+// 1 for each reactivable cell, 2 for any other. A refined cell that has children is one until a child rules it out.
 pub fn reactivable_cells(plan: Plan, cells: &[u8], out: &mut [u8])
     requires { ⌜ InRange plan ⌝ }
     requires { ⌜ (length (now cells) ≡ cellTotal plan) × (length (now out) ≡ cellTotal plan) ⌝ }
@@ -213,7 +210,8 @@ pub fn reactivable_cells(plan: Plan, cells: &[u8], out: &mut [u8])
 {
     let last = plan.levels - 1;
     let end = plan.cell_offset(last) as usize;
-    refined_cells(cells, out, end);
+    refined_cells(cells, out, 0, end, 1);
+    refined_cells(cells, out, end, cells.len(), 2);
     let mut level = 0;
     while level < last {
         rule_out_level(plan, cells, out, level);
