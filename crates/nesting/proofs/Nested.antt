@@ -1,6 +1,6 @@
 -- Each cell fits its parent just where the table is a mesh. Assumes nothing.
 use mathlib.Core.Path.{_≡_, refl, sym, ap, _∙_, subst}
-use mathlib.Core.Bool.{Bool, true, false, not, _&&_, _||_}
+use mathlib.Core.Bool.{Bool, true, false, not, _||_}
 use mathlib.Core.List.{List}
 use Prim.Native.Nat.{ℕ, zero, suc, _+_, _≤_, _<_}
 use native.Mathlib.Omega.{arith}
@@ -10,15 +10,16 @@ use borrow.Author.Tests.{ne-eqb}
 use Rattle.facts.specs.Bounded.{every}
 use Rattle.facts.specs.Ranges.{everyFrom}
 use Rattle.facts.proofs.Tests.{and-r, or-l, cases, same, differ, positive, eqb-of, not-e, T-true, T-false}
+use Rattle.facts.proofs.Ranges.{from-same}
 use Rattle.facts.proofs.Bounded.{every-i, every-e}
 use Rattle.grid.specs.declared.Plan.{Plan}
-use Rattle.grid.specs.Plan.{cellOffset, cellTotal, cellLevel, lastLevel, parent, child}
+use Rattle.grid.specs.Plan.{columnsAt, rowsAt, cellOffset, cellTotal, cellLevel, lastLevel, parent, child}
 use Rattle.grid.specs.Range.{InRange}
 use Rattle.grid.proofs.Laws.{cell-inside, cell-number-place, parent-lt, parent-level, is-child, child-lt, child-level, parent-of-child}
 use Rattle.mesh.specs.Mesh.{absent, refined, cellFits, isMesh}
 use Rattle.mesh.proofs.Bridge.{CellFits, fits-e, fits-i, rooted}
-use Rattle.nesting.specs.Nested.{byteFits, mostAt, nested}
-use Rattle.nesting.proofs.Levels.{level-before, from-next}
+use Rattle.nesting.specs.Nested.{byteFits, cellByteFits, mostAt, nested}
+use Rattle.nesting.proofs.Levels.{offset-mono, level-before}
 
 -- ---- one byte
 
@@ -108,16 +109,13 @@ module _ (p : Plan) (range : InRange p) (cells : List ℕ) where
       (λ t. every-i (cellTotal p) (cellFits p cells) (λ c i. fits-i p cells c (cell-inside p range c i .level<) (fits-of (every-e (cellTotal p) (nested p cells) t) c i)))
       (λ t. every-i (cellTotal p) (nested p cells) (nested-of (λ c i. fits-e p cells c (every-e (cellTotal p) (cellFits p cells) t c i))))
 
-  -- what is asked of a cell of level 0
-  nested-first : (c : ℕ) → c < cellTotal p → c < cellOffset p 1 → nested p cells c ≡ byteFits (mostAt p 0) true (getD cells c 0)
-  unfolding nested
-  nested-first c i l =
-      let e : cellLevel p c ≡ 0 = omega (arith, level-before _ _ (p .levels) c (cell-inside p range c i) (cell-number-place p range c i) 1 l) in
-      rw e
+  -- what is asked of the cells of level 0
+  nested-first : everyFrom 0 (cellOffset p 1) (cellByteFits cells (mostAt p 0) true) ≡ everyFrom 0 (cellOffset p 1) (nested p cells)
+  unfolding nested cellByteFits
+  nested-first = from-same 0 (cellOffset p 1) _ _ (λ c l m.
+      let i : c < cellTotal p = omega (arith, offset-mono (columnsAt p) (rowsAt p) 1 (p .levels) (range .levels≥)) in
+      let e : cellLevel p c ≡ 0 = omega (arith, level-before _ _ (p .levels) c (cell-inside p range c i) (cell-number-place p range c i) 1 (omega arith)) in
+      rw e)
 
-  -- one cell of level 0 more
-  pub first-more : (c : ℕ) {ok b : Bool} {most : ℕ} → c < cellTotal p → c < cellOffset p 1 → ok ≡ everyFrom 0 c (nested p cells) → most ≡ mostAt p 0
-      → b ≡ byteFits most true (getD cells c 0) → ok && b ≡ everyFrom 0 (c + 1) (nested p cells)
-  first-more c i l e em eb =
-      let z : 0 + c ≡ c = omega arith in
-      rw (e, eb, em, ← nested-first c i l) (ap (λ x. everyFrom 0 c (nested p cells) && nested p cells x) (sym z) ∙ from-next 0 (nested p cells) c)
+  pub first-fits : {b : Bool} {end most : ℕ} → end ≡ cellOffset p 1 → most ≡ mostAt p 0 → b ≡ everyFrom 0 end (cellByteFits cells most true) → b ≡ everyFrom 0 (cellOffset p 1) (nested p cells)
+  first-fits ee em e = (rw (ee, em) at e) ∙ nested-first

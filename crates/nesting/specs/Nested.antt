@@ -12,6 +12,10 @@ use Rattle.mesh.specs.Mesh.{refined}
 unfoldable pub byteFits : ℕ → Bool → ℕ → Bool
 byteFits most present byte = cond (eqb byte 0) (not present) (present && leb byte most)
 
+-- the same of the byte of cell c
+unfoldable pub cellByteFits : List ℕ → ℕ → Bool → ℕ → Bool
+cellByteFits cells most present c = byteFits most present (getD cells c 0)
+
 -- "no cell of level L-1 is split": the largest byte of a cell of level k
 unfoldable pub mostAt : Plan → ℕ → ℕ
 mostAt p k = cond (lastLevel p k) 1 2

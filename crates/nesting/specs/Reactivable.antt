@@ -13,9 +13,13 @@ use Rattle.mesh.specs.Mesh.{active, refined, reactivable}
 unfoldable pub reactivableByte : Plan → List ℕ → ℕ → ℕ
 reactivableByte p cells c = cond (reactivable p cells c) 1 2
 
--- 1 for a refined cell below `end`, 2 for any other
+-- `kept` for a refined cell, 2 for any other
 unfoldable pub refinedByte : List ℕ → ℕ → ℕ → ℕ
-refinedByte cells end c = cond (refined cells c && ltb c end) 1 2
+refinedByte cells kept c = cond (refined cells c) kept 2
+
+-- 1 for a refined cell before `end`, 2 for any other
+unfoldable pub innerByte : List ℕ → ℕ → ℕ → ℕ
+innerByte cells end c = cond (refined cells c && ltb c end) 1 2
 
 -- the byte of the cell c, or 2 where one of the n cells from a on is a child of c and not active
 unfoldable pub ruledOut : Plan → List ℕ → ℕ → ℕ → ℕ → ℕ → ℕ

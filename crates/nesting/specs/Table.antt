@@ -19,12 +19,12 @@ pub record MeshTable (p : Plan) (cells : List ℕ) : Type 0 where
   pub sized : CellTable p cells
   pub mesh : isMesh p cells ≡ true
 
--- a row of level k + 1: its cells are numbered from `at` on, and the row of their parents from `over` on
-pub record RowUnder (p : Plan) (k at over columns : ℕ) : Type 0 where
+-- a row of level k + 1: its cells are numbered from `at` on, and the row of their parents, `width` of them, from `over` on
+pub record RowUnder (p : Plan) (k at over width : ℕ) : Type 0 where
   pub range : InRange p
   pub level< : k + 1 < p .levels
   pub row : ℕ
   pub row< : row < rowsAt p (k + 1)
   pub at≡ : at ≡ cellOffset p (k + 1) + row * columnsAt p (k + 1)
   pub over≡ : over ≡ cellOffset p k + ancestor p 1 row * columnsAt p k
-  pub columns≡ : columns ≡ columnsAt p (k + 1)
+  pub width≡ : width ≡ columnsAt p k

@@ -1,19 +1,19 @@
-// The nesting of cells: refusal 4, and which refined cells are reactivable. Each cell is read with its parent. Levels that have one above
-// them are read row by row: a row of cells begins at `at`, and the row of their parents at `over`.
+// The nesting of cells: refusal 4, and which refined cells are reactivable. Each cell is read with its parent, row by row: a row of cells
+// begins at `at`, and the row of their parents, `width` of them, at `over`.
 use grid::Plan;
 ghost use mathlib.Core.Path.{_≡_};
-ghost use mathlib.Core.Bool.{_&&_, cond};
-ghost use Prim.Native.Nat.{ℕ, _+_, _*_, _<_};
+ghost use mathlib.Core.Bool.{cond};
+ghost use Prim.Native.Nat.{ℕ, _+_, _-_, _*_, _≤_, _<_};
 ghost use lib.Dec.{eqb};
 ghost use lib.ListN.{length};
 ghost use Rattle.facts.specs.Numbers.{tabulate};
 ghost use Rattle.facts.specs.Ranges.{everyFrom};
-ghost use Rattle.facts.specs.Mapped.{mapped};
-ghost use Rattle.grid.specs.Plan.{columnsAt, rowsAt, cellOffset, cellTotal};
+ghost use Rattle.facts.specs.Mapped.{mapped, filled};
+ghost use Rattle.grid.specs.Plan.{ratio, columnsAt, rowsAt, cellOffset, cellTotal};
 ghost use Rattle.grid.specs.Range.{InRange};
-ghost use Rattle.mesh.specs.Mesh.{isMesh};
+ghost use Rattle.mesh.specs.Mesh.{active, isMesh};
 ghost use Rattle.nesting.specs.Table.{CellTable, RowUnder};
-ghost use Rattle.nesting.specs.Nested.{byteFits, mostAt, nested};
+ghost use Rattle.nesting.specs.Nested.{byteFits, cellByteFits, mostAt, nested};
 ghost use Rattle.nesting.specs.Reactivable.{reactivableByte, refinedByte, ruledOut};
 
 // The cell is present just where it must be, and its byte is at most `most`.
@@ -25,6 +25,20 @@ fn byte_fits(byte: u8, most: u8, present: bool) -> bool
     } else {
         present & (byte <= most)
     }
+}
+
+// The same of the n cells from `at` on.
+fn all_fit(cells: &[u8], at: usize, n: usize, most: u8, present: bool) -> bool
+    requires { ⌜ at + n ≤ length (now cells) ⌝ }
+    ensures { λ r. ⌜ r ≡ everyFrom at n (cellByteFits (now (cells .entry)) most present) ⌝ }
+{
+    let mut ok = true;
+    let mut i = 0;
+    while i < n {
+        ok = ok & byte_fits(cells[at + i], most, present);
+        i += 1;
+    }
+    ok
 }
 
 // The largest byte of a cell of the level: "no cell of level L-1 is split".
@@ -41,28 +55,23 @@ fn first_level_fits(plan: Plan, cells: &[u8]) -> bool
     ensures { λ r. ⌜ r ≡ everyFrom 0 (cellOffset plan 1) (nested plan (now (cells .entry))) ⌝ }
 {
     let end = plan.cell_offset(1) as usize;
-    let mut ok = true;
-    let mut cell = 0;
-    while cell < end {
-        ok = ok & byte_fits(cells[cell], most_at(plan, 0), true);
-        cell += 1;
-    }
-    ok
+    all_fit(cells, 0, end, most_at(plan, 0), true)
 }
 
-// A row of the next level: a cell is present just where its parent is refined.
-fn row_fits(plan: Plan, cells: &[u8], level: u32, at: u32, over: u32, columns: u32) -> bool
-    requires { ⌜ RowUnder plan level at over columns ⌝ }
+// A row of the next level: the children of a cell are present just where it is refined.
+fn row_fits(plan: Plan, cells: &[u8], level: u32, at: usize, over: usize, width: usize) -> bool
+    requires { ⌜ RowUnder plan level at over width ⌝ }
     requires { ⌜ length (now cells) ≡ cellTotal plan ⌝ }
-    ensures { λ r. ⌜ r ≡ everyFrom at columns (nested plan (now (cells .entry))) ⌝ }
+    ensures { λ r. ⌜ r ≡ everyFrom at (width * ratio plan) (nested plan (now (cells .entry))) ⌝ }
 {
     let most = most_at(plan, level + 1);
     let mut ok = true;
+    let mut here = at;
     let mut column = 0;
-    while column < columns {
-        let here = (at + column) as usize;
-        let up = (over + plan.coarser(column, 1)) as usize;
-        ok = ok & byte_fits(cells[here], most, cells[up] == 2);
+    while column < width {
+        let ratio = plan.ratio() as usize;
+        ok = ok & all_fit(cells, here, ratio, most, cells[over + column] == 2);
+        here += ratio;
         column += 1;
     }
     ok
@@ -84,7 +93,15 @@ fn next_level_fits(plan: Plan, cells: &[u8], level: u32) -> bool
     let mut row = 0;
     while row < rows {
         let over = first + plan.coarser(row, 1) * width;
-        ok = ok & row_fits(plan, cells, level, at, over, columns);
+        ok = ok
+            & row_fits(
+                plan,
+                cells,
+                level,
+                at as usize,
+                over as usize,
+                width as usize,
+            );
         at += columns;
         row += 1;
     }
@@ -106,24 +123,21 @@ pub fn is_mesh(plan: Plan, cells: &[u8]) -> bool
     ok
 }
 
-// 1 for a refined cell that has children, 2 for any other.
-fn refined_byte(byte: u8, inner: bool) -> u8
-    ensures { λ r. ⌜ r ≡ cond (eqb byte 2 && inner) 1 2 ⌝ }
+// `kept` for a refined cell, 2 for any other.
+fn refined_byte(byte: u8, kept: u8) -> u8
+    ensures { λ r. ⌜ r ≡ cond (eqb byte 2) kept 2 ⌝ }
 {
-    if (byte == 2) & inner {
-        return 1;
-    }
-    2
+    if byte == 2 { kept } else { 2 }
 }
 
-// The same of each cell: those from `end` on are of the last level.
-fn refined_cells(cells: &[u8], out: &mut [u8], end: usize)
-    requires { ⌜ length (now out) ≡ length (now cells) ⌝ }
-    ensures { λ _. ⌜ now (out .exit) ≡ tabulate (length (now (cells .entry))) (refinedByte (now (cells .entry)) end) ⌝ }
+// The same of the cells from `from` up to `to`.
+fn refined_cells(cells: &[u8], out: &mut [u8], from: usize, to: usize, kept: u8)
+    requires { ⌜ (from ≤ to) × (to ≤ length (now cells)) × (to ≤ length (now out)) ⌝ }
+    ensures { λ _. ⌜ now (out .exit) ≡ filled from (to - from) (refinedByte (now (cells .entry)) kept) (now (out .entry)) ⌝ }
 {
-    let mut i = 0;
-    while i < cells.len() {
-        out[i] = refined_byte(cells[i], i < end);
+    let mut i = from;
+    while i < to {
+        out[i] = refined_byte(cells[i], kept);
         i += 1;
     }
 }
@@ -135,17 +149,33 @@ fn left_by(child: u8, byte: u8) -> u8
     if child == 1 { byte } else { 2 }
 }
 
-// A row of children.
-fn rule_out_row(plan: Plan, cells: &[u8], out: &mut [u8], at: u32, over: u32, columns: u32)
-    requires { ⌜ ((k : ℕ) × RowUnder plan k at over columns) ⌝ }
-    requires { ⌜ (length (now cells) ≡ cellTotal plan) × (length (now out) ≡ cellTotal plan) ⌝ }
-    ensures { λ _. ⌜ now (out .exit) ≡ mapped (ruledOut plan (now (cells .entry)) at columns) (now (out .entry)) ⌝ }
+// What the n children from `at` on leave of it.
+fn left_by_all(cells: &[u8], at: usize, n: usize, byte: u8) -> u8
+    requires { ⌜ at + n ≤ length (now cells) ⌝ }
+    ensures { λ r. ⌜ r ≡ cond (everyFrom at n (active (now (cells .entry)))) byte 2 ⌝ }
 {
+    let mut left = byte;
+    let mut i = 0;
+    while i < n {
+        left = left_by(cells[at + i], left);
+        i += 1;
+    }
+    left
+}
+
+// A row of children.
+fn rule_out_row(plan: Plan, cells: &[u8], out: &mut [u8], at: usize, over: usize, width: usize)
+    requires { ⌜ ((k : ℕ) × RowUnder plan k at over width) ⌝ }
+    requires { ⌜ (length (now cells) ≡ cellTotal plan) × (length (now out) ≡ cellTotal plan) ⌝ }
+    ensures { λ _. ⌜ now (out .exit) ≡ mapped (ruledOut plan (now (cells .entry)) at (width * ratio plan)) (now (out .entry)) ⌝ }
+{
+    let mut here = at;
     let mut column = 0;
-    while column < columns {
-        let here = (at + column) as usize;
-        let parent = (over + plan.coarser(column, 1)) as usize;
-        out[parent] = left_by(cells[here], out[parent]);
+    while column < width {
+        let ratio = plan.ratio() as usize;
+        let parent = over + column;
+        out[parent] = left_by_all(cells, here, ratio, out[parent]);
+        here += ratio;
         column += 1;
     }
 }
@@ -166,13 +196,13 @@ fn rule_out_level(plan: Plan, cells: &[u8], out: &mut [u8], level: u32)
     let mut row = 0;
     while row < rows {
         let over = first + plan.coarser(row, 1) * width;
-        rule_out_row(plan, cells, out, at, over, columns);
+        rule_out_row(plan, cells, out, at as usize, over as usize, width as usize);
         at += columns;
         row += 1;
     }
 }
 
-// 1 for each reactivable cell, 2 for any other.
+// 1 for each reactivable cell, 2 for any other. A refined cell that has children is one until a child rules it out.
 pub fn reactivable_cells(plan: Plan, cells: &[u8], out: &mut [u8])
     requires { ⌜ InRange plan ⌝ }
     requires { ⌜ (length (now cells) ≡ cellTotal plan) × (length (now out) ≡ cellTotal plan) ⌝ }
@@ -180,7 +210,8 @@ pub fn reactivable_cells(plan: Plan, cells: &[u8], out: &mut [u8])
 {
     let last = plan.levels - 1;
     let end = plan.cell_offset(last) as usize;
-    refined_cells(cells, out, end);
+    refined_cells(cells, out, 0, end, 1);
+    refined_cells(cells, out, end, cells.len(), 2);
     let mut level = 0;
     while level < last {
         rule_out_level(plan, cells, out, level);

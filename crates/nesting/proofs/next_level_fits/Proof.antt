@@ -4,11 +4,11 @@ use Prim.Native.Nat.{_+_, _-_, _*_, _≤_}
 use native.Mathlib.Omega.{arith}
 use borrow.Author.Needs.{needs}
 use Rattle.facts.specs.Ranges.{everyFrom}
-use Rattle.grid.specs.Plan.{columnsAt, rowsAt, cellOffset}
+use Rattle.grid.specs.Plan.{ratio, columnsAt, rowsAt, cellOffset}
 use Rattle.nesting.specs.Table.{RowUnder}
 use Rattle.nesting.specs.Nested.{nested}
 use Rattle.nesting.proofs.Levels.{from-zero, rows-join}
-use Rattle.nesting.proofs.Rows.{row-under, row-in, over-in}
+use Rattle.nesting.proofs.Rows.{columns-are, row-under, row-in, over-in}
 use Rattle.nesting.proofs.next_level_fits.Statement.{statement}
 use Rattle.nesting.proofs.next_level_fits.Tie as tie
 
@@ -46,9 +46,9 @@ coarser-requires c κs = search needs
 
 -- the row and the one above it
 under : (c : tie.After-coarser Inv-loop μ-loop) → let l = c .before .before in let s = l .before .before .before .before .before .before .before in
-    RowUnder (s .args .plan) (s .args .level) (l .loop .at) (l .before .before .cell-offset .result + c .coarser .result * l .before .before .before .columns-at2 .result) (l .before .before .before .before .columns-at .result)
+    RowUnder (s .args .plan) (s .args .level) (l .loop .at) (l .before .before .cell-offset .result + c .coarser .result * l .before .before .before .columns-at2 .result) (l .before .before .before .columns-at2 .result)
 under c = let l = c .before .before in let s = l .before .before .before .before .before .before .before in
-    row-under (s .args .plan) (s .args .level) (l .loop .row) (s .pre .0 .range) (s .pre .1) (c .before .loop-test .taken) (l .before .before .before .before .before .rows-at .ensures) (l .before .before .before .before .columns-at .ensures) (l .loop .inv .0)
+    row-under (s .args .plan) (s .args .level) (l .loop .row) (s .pre .0 .range) (s .pre .1) (c .before .loop-test .taken) (l .before .before .before .before .before .rows-at .ensures) (l .loop .inv .0)
     (l .before .before .cell-offset .ensures) (l .before .before .before .columns-at2 .ensures) (c .coarser .ensures) refl
 
 mul-over : tie.Need-mul-over Inv-loop μ-loop
@@ -57,11 +57,20 @@ mul-over c = omega (arith, over-in _ _ _ _ _ (under c))
 add-over : tie.Need-add-over Inv-loop μ-loop
 add-over c = omega (arith, over-in _ _ _ _ _ (under c))
 
+cast-row-fits : tie.Need-cast-row-fits Inv-loop μ-loop
+cast-row-fits c = omega (arith, row-in _ _ _ _ _ (under c))
+
+cast-row-fits-2 : tie.Need-cast-row-fits-2 Inv-loop μ-loop
+cast-row-fits-2 c = omega (arith, over-in _ _ _ _ _ (under c))
+
+cast-row-fits-3 : tie.Need-cast-row-fits-3 Inv-loop μ-loop
+cast-row-fits-3 c = search needs
+
 row-fits-requires : tie.Need-row-fits-requires Inv-loop μ-loop
 row-fits-requires c κs = (under c, c .before .before .before .before .before .before .before .before .before .pre .0 .size)
 
 add-at : tie.Need-add-at Inv-loop μ-loop
-add-at c = omega (arith, row-in _ _ _ _ _ (under (c .before)))
+add-at c = omega (arith, row-in _ _ _ _ _ (under (c .before)), c .before .before .before .before .before .before .before .columns-at .ensures)
 
 add-row : tie.Need-add-row Inv-loop μ-loop
 add-row c = search needs
@@ -73,8 +82,9 @@ loop-again : tie.Need-loop-again Inv-loop μ-loop
 loop-again c =
     let i = c .before .before in
     let l = i .before .loop in
-    let w = i .before .before .before .before .before .columns-at .ensures in
-    (omega (arith, w), omega arith, rows-join _ _ _ (l .row) _ (l .inv .0) w (l .inv .2) (c .row-fits .ensures))
+    let s = i .before .before .before .before .before .before .before .before in
+    let w = (λ j. i .before .before .before .before .columns-at2 .ensures j * ratio (s .args .plan)) ∙ columns-are (s .args .plan) (s .args .level) in
+    (omega (arith, i .before .before .before .before .before .columns-at .ensures), omega arith, rows-join _ _ _ (l .row) _ (l .inv .0) w (l .inv .2) (c .row-fits .ensures))
 
 returns : tie.Need-returns Inv-loop μ-loop
 returns c =
@@ -98,6 +108,9 @@ next-level-fits-spec =
     coarser-requires
     mul-over
     add-over
+    cast-row-fits
+    cast-row-fits-2
+    cast-row-fits-3
     row-fits-requires
     add-at
     add-row

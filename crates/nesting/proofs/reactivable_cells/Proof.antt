@@ -7,16 +7,18 @@ use lib.ListN.{length}
 use Rattle.facts.specs.Numbers.{tabulate}
 use Rattle.facts.specs.Mapped.{mapped}
 use Rattle.facts.proofs.Numbers.{length-tabulate}
-use Rattle.grid.specs.Plan.{cellOffset, cellTotal}
-use Rattle.nesting.specs.Reactivable.{refinedByte, ruledOut}
-use Rattle.nesting.proofs.Reactivable.{ruled-none, ruled-levels, ruled-length, all-ruled}
+use Rattle.facts.proofs.Mapped.{filled-length}
+use Rattle.grid.specs.Plan.{columnsAt, rowsAt, cellOffset, cellTotal}
+use Rattle.nesting.specs.Reactivable.{innerByte, ruledOut}
+use Rattle.nesting.proofs.Levels.{offset-mono}
+use Rattle.nesting.proofs.Reactivable.{inner-bytes, ruled-none, ruled-levels, ruled-length, all-ruled}
 use Rattle.nesting.proofs.reactivable_cells.Statement.{statement}
 use Rattle.nesting.proofs.reactivable_cells.Tie as tie
 
 abbrev Inv-loop : tie.InvT-loop
 Inv-loop plan cells out₀ last end level₀ out level =
     (level ≤ last) × (length out ≡ cellTotal plan)
-    × (out ≡ mapped (ruledOut plan cells (cellOffset plan 1) (cellOffset plan (level + 1) - cellOffset plan 1)) (tabulate (cellTotal plan) (refinedByte cells (cellOffset plan (plan .levels - 1)))))
+    × (out ≡ mapped (ruledOut plan cells (cellOffset plan 1) (cellOffset plan (level + 1) - cellOffset plan 1)) (tabulate (cellTotal plan) (innerByte cells (cellOffset plan (plan .levels - 1)))))
 
 abbrev μ-loop : tie.MeasureT-loop
 μ-loop plan cells out₀ last end level₀ out level = last - level
@@ -30,21 +32,34 @@ cell-offset-requires c κs = search needs
 cast-end : tie.Need-cast-end Inv-loop μ-loop
 cast-end c = search needs
 
+-- the last level begins in the table
+end-in : (c : tie.After-cell-offset Inv-loop μ-loop) → c .cell-offset .result ≤ cellTotal (c .before .before .before .before .args .plan)
+end-in c =
+    let p = c .before .before .before .before .args .plan in
+    omega (arith, c .cell-offset .ensures, offset-mono (columnsAt p) (rowsAt p) (p .levels - 1) (p .levels) (omega arith))
+
 refined-cells-requires : tie.Need-refined-cells-requires Inv-loop μ-loop
-refined-cells-requires c κs = search needs
+refined-cells-requires c κs = let s = c .before .before .before .before .before in let e = end-in (c .before) in (omega arith, omega (arith, s .pre .1 .0), omega (arith, s .pre .1 .1))
+
+refined-cells-requires-2 : tie.Need-refined-cells-requires-2 Inv-loop μ-loop
+refined-cells-requires-2 c κs =
+    let s = c .before .before .before .before .before .before .before .before .before in
+    let e = end-in (c .before .before .before .before .before) in
+    let n = ap length (c .before .before .before .refined-cells .ensures) ∙ filled-length _ _ _ _ in
+    (omega (arith, s .pre .1 .0), omega arith, omega (arith, n, s .pre .1))
 
 loop-holds : tie.Need-loop-holds Inv-loop μ-loop
 loop-holds c =
-    let s = c .before .before .before .before .before .before .before .before in
-    let e = c .before .before .refined-cells .ensures in
+    let s = c .before .before .before .before .before .before .before .before .before .before .before .before in
     let size = s .pre .1 .0 in
-    let start = e ∙ (λ i. tabulate (size i) (refinedByte (s .args .cells .now) (c .before .before .before .before .cell-offset .ensures i))) in
+    let made = inner-bytes (s .args .cells .now) _ _ (s .args .out .now) (omega (arith, end-in (c .before .before .before .before .before .before .before .before), size)) (s .pre .1 .1 ∙ sym size) (c .before .before .before .before .before .before .refined-cells .ensures) (c .before .before .refined-cells2 .ensures) in
+    let start = made ∙ (λ i. tabulate (size i) (innerByte (s .args .cells .now) (c .before .before .before .before .before .before .before .before .cell-offset .ensures i))) in
     (omega arith, ap length start ∙ length-tabulate _ _, start ∙ ruled-none _ _ _ _ _ (omega arith))
 
 rule-out-level-requires : tie.Need-rule-out-level-requires Inv-loop μ-loop
 rule-out-level-requires c κs =
     let l = c .before .before in
-    let s = l .before .before .before .before .before .before .before .before .before in
+    let s = l .before .before .before .before .before .before .before .before .before .before .before .before .before in
     (record { range = s .pre .0; size = s .pre .1 .0 }, (l .loop .inv .1, omega arith))
 
 add-level : tie.Need-add-level Inv-loop μ-loop
@@ -60,11 +75,11 @@ loop-again c =
     (omega arith, ruled-length _ _ _ _ _ e ∙ length-tabulate _ _, e)
 
 same-length : tie.Need-same-length Inv-loop μ-loop
-same-length c = let s = c .before .before .before .before .before .before .before .before .before .before in c .before .loop .inv .1 ∙ sym (s .pre .1 .1)
+same-length c = let s = c .before .before .before .before .before .before .before .before .before .before .before .before .before .before in c .before .loop .inv .1 ∙ sym (s .pre .1 .1)
 
 returns : tie.Need-returns Inv-loop μ-loop
 returns c =
-    let s = c .before .before .before .before .before .before .before .before .before .before in
+    let s = c .before .before .before .before .before .before .before .before .before .before .before .before .before .before in
     let q : c .before .loop .level + 1 ≡ s .args .plan .levels = omega (arith, s .pre .0) in
     all-ruled (s .args .plan) (s .pre .0) (s .args .cells .now) _ (rw q at (c .before .loop .inv .2))
 
@@ -78,6 +93,7 @@ reactivable-cells-spec =
     cell-offset-requires
     cast-end
     refined-cells-requires
+    refined-cells-requires-2
     loop-holds
     rule-out-level-requires
     add-level

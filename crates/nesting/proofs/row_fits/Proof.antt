@@ -1,21 +1,23 @@
--- `nesting::row_fits` meets its contract. The invariant: the cells so far fit. Assumes nothing.
-use mathlib.Core.Path.{_≡_, sym}
-use Prim.Native.Nat.{_+_, _-_, _≤_, _<_}
+-- `nesting::row_fits` meets its contract. The invariant: the children of the cells so far fit, and where the next begin. Assumes nothing.
+use mathlib.Core.Path.{_≡_}
+use Prim.Native.Nat.{_+_, _-_, _*_, _≤_, _<_}
 use native.Mathlib.Omega.{arith}
 use lib.ListN.{length}
 use borrow.Author.Needs.{needs}
 use Rattle.facts.specs.Ranges.{everyFrom}
-use Rattle.facts.proofs.Ranges.{from-none}
+use Rattle.grid.specs.Plan.{ratio}
 use Rattle.nesting.specs.Nested.{mostAt, nested}
-use Rattle.nesting.proofs.Rows.{total-small, row-in, cell-lt, parent-in, row-more}
+use Rattle.nesting.proofs.Levels.{from-zero}
+use Rattle.nesting.proofs.Rows.{parent-in, children-in, row-more}
 use Rattle.nesting.proofs.row_fits.Statement.{statement}
 use Rattle.nesting.proofs.row_fits.Tie as tie
 
 abbrev Inv-loop : tie.InvT-loop
-Inv-loop plan cells level at over columns most ok₀ column₀ ok column = (most ≡ mostAt plan (level + 1)) × (column ≤ columns) × (ok ≡ everyFrom at column (nested plan cells))
+Inv-loop plan cells level at over width most ok₀ here₀ column₀ ok here column =
+    (most ≡ mostAt plan (level + 1)) × (here ≡ at + column * ratio plan) × (column ≤ width) × (ok ≡ everyFrom at (column * ratio plan) (nested plan cells))
 
 abbrev μ-loop : tie.MeasureT-loop
-μ-loop plan cells level at over columns most ok₀ column₀ ok column = columns - column
+μ-loop plan cells level at over width most ok₀ here₀ column₀ ok here column = width - column
 
 add-most-at : tie.Need-add-most-at Inv-loop μ-loop
 add-most-at c = search needs
@@ -24,38 +26,35 @@ most-at-requires : tie.Need-most-at-requires Inv-loop μ-loop
 most-at-requires c κs = search needs
 
 loop-holds : tie.Need-loop-holds Inv-loop μ-loop
-loop-holds c = (c .most-at .ensures, omega arith, sym (from-none _ _))
+loop-holds c = (c .most-at .ensures, omega arith, omega arith, from-zero _ _ _ (omega arith))
 
-cast-here : tie.Need-cast-here Inv-loop μ-loop
-cast-here c = search needs
+ratio-requires : tie.Need-ratio-requires Inv-loop μ-loop
+ratio-requires c κs = search needs
 
--- the cell and its parent lie in the table
-cell : (c : tie.In-loop Inv-loop μ-loop) → let s = c .before .before .before .before in s .args .at + c .before .loop .column < length (s .args .cells .now)
-cell c = let s = c .before .before .before .before in rw (s .pre .1) (cell-lt _ _ _ _ _ (s .pre .0) (c .before .loop .column) (c .loop-test .taken))
+cast-ratio : tie.Need-cast-ratio Inv-loop μ-loop
+cast-ratio c = search needs
 
-parent : (c : tie.After-coarser Inv-loop μ-loop) → let s = c .before .before .before .before .before in s .args .over + c .coarser .result < length (s .args .cells .now)
-parent c = let s = c .before .before .before .before .before in rw (s .pre .1, c .coarser .ensures) (parent-in _ _ _ _ _ (s .pre .0) (c .before .before .loop .column) (c .before .loop-test .taken))
+-- the cell and its children lie in the table
+parent : (c : tie.After-ratio Inv-loop μ-loop) → let s = c .before .before .before .before .before in s .args .over + c .before .before .loop .column < length (s .args .cells .now)
+parent c = let s = c .before .before .before .before .before in rw (s .pre .1) (parent-in _ _ _ _ _ (s .pre .0) (c .before .before .loop .column) (c .before .loop-test .taken))
+
+children : (c : tie.After-ratio Inv-loop μ-loop) → let s = c .before .before .before .before .before in c .before .before .loop .here + c .ratio .result ≤ length (s .args .cells .now)
+children c =
+    let s = c .before .before .before .before .before in
+    let l = c .before .before .loop in
+    omega (arith, children-in _ _ _ _ _ (s .pre .0) (l .column) (c .before .loop-test .taken), c .ratio .ensures, l .inv .1, s .pre .1)
+
+add-all-fit : tie.Need-add-all-fit Inv-loop μ-loop
+add-all-fit c = omega (arith, parent c)
+
+shared-slice-read-all-fit : tie.Need-shared-slice-read-all-fit Inv-loop μ-loop
+shared-slice-read-all-fit c = parent (c .before)
+
+all-fit-requires : tie.Need-all-fit-requires Inv-loop μ-loop
+all-fit-requires c κs = omega (arith, children (c .before), c .before .before .before .loop .inv .1)
 
 add-here : tie.Need-add-here Inv-loop μ-loop
-add-here c = omega (arith, row-in _ _ _ _ _ (c .before .before .before .before .pre .0))
-
-coarser-requires : tie.Need-coarser-requires Inv-loop μ-loop
-coarser-requires c κs = search needs
-
-cast-up : tie.Need-cast-up Inv-loop μ-loop
-cast-up c = search needs
-
-add-up : tie.Need-add-up Inv-loop μ-loop
-add-up c = let s = c .before .before .before .before .before in omega (arith, parent c, s .pre .1, total-small (s .args .plan) (s .pre .0 .range))
-
-shared-slice-read-byte-fits : tie.Need-shared-slice-read-byte-fits Inv-loop μ-loop
-shared-slice-read-byte-fits c = cell (c .before .before)
-
-shared-slice-read-byte-fits-2 : tie.Need-shared-slice-read-byte-fits-2 Inv-loop μ-loop
-shared-slice-read-byte-fits-2 c = parent (c .before .before)
-
-byte-fits-requires : tie.Need-byte-fits-requires Inv-loop μ-loop
-byte-fits-requires c κs = search needs
+add-here c = omega (arith, children (c .before .before))
 
 add-column : tie.Need-add-column Inv-loop μ-loop
 add-column c = search needs
@@ -65,12 +64,18 @@ loop-less c = search needs
 
 loop-again : tie.Need-loop-again Inv-loop μ-loop
 loop-again c =
-    let s = c .before .before .before .before .before .before .before .before in
-    let l = c .before .before .before .before .before .loop in
-    (l .inv .0, omega arith, row-more _ _ _ _ _ (s .pre .0) (l .column) (c .before .before .before .before .loop-test .taken) (s .args .cells .now) (l .inv .2) (l .inv .0) (c .before .before .before .coarser .ensures) (c .byte-fits .ensures))
+    let r = c .before .before in
+    let l = r .before .before .loop in
+    let s = r .before .before .before .before .before in
+    let e = r .ratio .ensures in (
+      l .inv .0,
+      omega (arith, e),
+      omega arith,
+      row-more _ _ _ _ _ (s .pre .0) (l .column) (r .before .loop-test .taken) (s .args .cells .now) (l .inv .1) e (l .inv .0) (l .inv .3) (c .all-fit .ensures),
+    )
 
 returns : tie.Need-returns Inv-loop μ-loop
-returns c = let q : c .before .loop .column ≡ c .before .before .before .before .args .columns = omega arith in rw q at (c .before .loop .inv .2)
+returns c = let q : c .before .loop .column ≡ c .before .before .before .before .args .width = omega arith in rw q at (c .before .loop .inv .3)
 
 pub row-fits-spec : {M : Type 1} → statement M
 row-fits-spec =
@@ -81,14 +86,12 @@ row-fits-spec =
     add-most-at
     most-at-requires
     loop-holds
+    ratio-requires
+    cast-ratio
+    add-all-fit
+    shared-slice-read-all-fit
+    all-fit-requires
     add-here
-    cast-here
-    coarser-requires
-    add-up
-    cast-up
-    shared-slice-read-byte-fits
-    shared-slice-read-byte-fits-2
-    byte-fits-requires
     add-column
     loop-less
     loop-again

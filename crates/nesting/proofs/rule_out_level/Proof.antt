@@ -6,10 +6,10 @@ use native.Mathlib.Omega.{arith}
 use borrow.Author.Needs.{needs}
 use lib.ListN.{length}
 use Rattle.facts.specs.Mapped.{mapped}
-use Rattle.grid.specs.Plan.{columnsAt, rowsAt, cellOffset}
+use Rattle.grid.specs.Plan.{ratio, columnsAt, rowsAt, cellOffset}
 use Rattle.nesting.specs.Table.{RowUnder}
 use Rattle.nesting.specs.Reactivable.{ruledOut}
-use Rattle.nesting.proofs.Rows.{row-under, row-in, over-in}
+use Rattle.nesting.proofs.Rows.{columns-are, row-under, row-in, over-in}
 use Rattle.nesting.proofs.Reactivable.{ruled-none, ruled-rows, ruled-length}
 use Rattle.nesting.proofs.rule_out_level.Statement.{statement}
 use Rattle.nesting.proofs.rule_out_level.Tie as tie
@@ -48,9 +48,9 @@ coarser-requires c κs = search needs
 
 -- the row and the one above it
 under : (c : tie.After-coarser Inv-loop μ-loop) → let l = c .before .before in let s = l .before .before .before .before .before .before .before .before in
-    RowUnder (s .args .plan) (s .args .level) (l .loop .at) (l .before .before .cell-offset .result + c .coarser .result * l .before .before .before .columns-at2 .result) (l .before .before .before .before .columns-at .result)
+    RowUnder (s .args .plan) (s .args .level) (l .loop .at) (l .before .before .cell-offset .result + c .coarser .result * l .before .before .before .columns-at2 .result) (l .before .before .before .columns-at2 .result)
 under c = let l = c .before .before in let s = l .before .before .before .before .before .before .before .before in
-    row-under (s .args .plan) (s .args .level) (l .loop .row) (s .pre .0 .range) (s .pre .1 .1) (c .before .loop-test .taken) (l .before .before .before .before .before .rows-at .ensures) (l .before .before .before .before .columns-at .ensures) (l .loop .inv .0)
+    row-under (s .args .plan) (s .args .level) (l .loop .row) (s .pre .0 .range) (s .pre .1 .1) (c .before .loop-test .taken) (l .before .before .before .before .before .rows-at .ensures) (l .loop .inv .0)
     (l .before .before .cell-offset .ensures) (l .before .before .before .columns-at2 .ensures) (c .coarser .ensures) refl
 
 mul-over : tie.Need-mul-over Inv-loop μ-loop
@@ -59,6 +59,15 @@ mul-over c = omega (arith, over-in _ _ _ _ _ (under c))
 add-over : tie.Need-add-over Inv-loop μ-loop
 add-over c = omega (arith, over-in _ _ _ _ _ (under c))
 
+cast-rule-out-row : tie.Need-cast-rule-out-row Inv-loop μ-loop
+cast-rule-out-row c = omega (arith, row-in _ _ _ _ _ (under (c .before)))
+
+cast-rule-out-row-2 : tie.Need-cast-rule-out-row-2 Inv-loop μ-loop
+cast-rule-out-row-2 c = omega (arith, over-in _ _ _ _ _ (under (c .before)))
+
+cast-rule-out-row-3 : tie.Need-cast-rule-out-row-3 Inv-loop μ-loop
+cast-rule-out-row-3 c = search needs
+
 rule-out-row-requires : tie.Need-rule-out-row-requires Inv-loop μ-loop
 rule-out-row-requires c κs =
     let l = c .before .before .before in
@@ -66,7 +75,7 @@ rule-out-row-requires c κs =
     ((s .args .level, under (c .before)), (s .pre .0 .size, l .loop .inv .2 ∙ s .pre .1 .0))
 
 add-at : tie.Need-add-at Inv-loop μ-loop
-add-at c = omega (arith, row-in _ _ _ _ _ (under (c .before .before .before .before)))
+add-at c = omega (arith, row-in _ _ _ _ _ (under (c .before .before .before .before)), c .before .before .before .before .before .before .before .before .before .before .columns-at .ensures)
 
 add-row : tie.Need-add-row Inv-loop μ-loop
 add-row c = search needs
@@ -77,9 +86,10 @@ loop-less c = search needs
 loop-again : tie.Need-loop-again Inv-loop μ-loop
 loop-again c =
     let l = c .before .before .before .before .before .before in
-    let w = l .before .before .before .before .columns-at .ensures in
+    let s = l .before .before .before .before .before .before .before .before in
+    let w = (λ j. l .before .before .before .columns-at2 .ensures j * ratio (s .args .plan)) ∙ columns-are (s .args .plan) (s .args .level) in
     let e = ruled-rows _ _ _ _ (l .loop .row) _ _ (l .loop .inv .0) w (l .loop .inv .3) (c .before .before .rule-out-row .ensures) in
-    (omega (arith, w), omega arith, ruled-length _ _ _ _ _ e, e)
+    (omega (arith, l .before .before .before .before .columns-at .ensures), omega arith, ruled-length _ _ _ _ _ e, e)
 
 same-length : tie.Need-same-length Inv-loop μ-loop
 same-length c = c .before .loop .inv .2
@@ -107,6 +117,9 @@ rule-out-level-spec =
     coarser-requires
     mul-over
     add-over
+    cast-rule-out-row
+    cast-rule-out-row-2
+    cast-rule-out-row-3
     rule-out-row-requires
     add-at
     add-row

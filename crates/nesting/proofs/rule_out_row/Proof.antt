@@ -1,59 +1,61 @@
--- `nesting::rule_out_row` meets its contract. The invariant: the children so far have ruled out their parents. Assumes nothing.
-use mathlib.Core.Path.{_≡_, refl, sym, ap, _∙_}
-use Prim.Native.Nat.{_+_, _-_, _≤_, _<_}
+-- `nesting::rule_out_row` meets its contract. The invariant: the children so far have ruled out their parents, and where the next begin.
+-- Assumes nothing.
+use mathlib.Core.Path.{_≡_, refl}
+use Prim.Native.Nat.{_+_, _-_, _*_, _≤_, _<_}
 use native.Mathlib.Omega.{arith}
 use borrow.Author.Needs.{needs}
-use lib.ListN.{length, set}
+use lib.ListN.{length}
 use Rattle.facts.specs.Mapped.{mapped}
-use Rattle.grid.specs.Plan.{cellTotal}
+use Rattle.grid.specs.Plan.{ratio}
 use Rattle.nesting.specs.Reactivable.{ruledOut}
-use Rattle.nesting.proofs.Rows.{total-small, row-in, cell-lt, parent-in, parent-is}
+use Rattle.nesting.proofs.Rows.{parent-in, children-in, parent-of}
 use Rattle.nesting.proofs.Reactivable.{ruled-none, ruled-next, ruled-length}
 use Rattle.nesting.proofs.rule_out_row.Statement.{statement}
 use Rattle.nesting.proofs.rule_out_row.Tie as tie
 
 abbrev Inv-loop : tie.InvT-loop
-Inv-loop plan cells out₀ at over columns column₀ out column = (out ≡ mapped (ruledOut plan cells at column) out₀) × (column ≤ columns) × (length out ≡ length out₀)
+Inv-loop plan cells out₀ at over width here₀ column₀ out here column =
+    (here ≡ at + column * ratio plan) × (column ≤ width) × (length out ≡ length out₀) × (out ≡ mapped (ruledOut plan cells at (column * ratio plan)) out₀)
 
 abbrev μ-loop : tie.MeasureT-loop
-μ-loop plan cells out₀ at over columns column₀ out column = columns - column
+μ-loop plan cells out₀ at over width here₀ column₀ out here column = width - column
 
 loop-holds : tie.Need-loop-holds Inv-loop μ-loop
-loop-holds c = (ruled-none _ _ _ _ _ refl, omega arith, refl)
+loop-holds c = (omega arith, omega arith, refl, ruled-none _ _ _ _ _ (omega arith))
 
-cast-here : tie.Need-cast-here Inv-loop μ-loop
-cast-here c = search needs
+ratio-requires : tie.Need-ratio-requires Inv-loop μ-loop
+ratio-requires c κs = search needs
 
--- the cell and its parent lie in the tables
-cell : (c : tie.In-loop Inv-loop μ-loop) → let s = c .before .before .before .before in s .args .at + c .before .loop .column < cellTotal (s .args .plan)
-cell c = let s = c .before .before .before .before in cell-lt _ _ _ _ _ (s .pre .0 .1) (c .before .loop .column) (c .loop-test .taken)
+cast-ratio : tie.Need-cast-ratio Inv-loop μ-loop
+cast-ratio c = search needs
 
-parent : (c : tie.After-coarser Inv-loop μ-loop) → let s = c .before .before .before .before .before in s .args .over + c .coarser .result < cellTotal (s .args .plan)
-parent c = let s = c .before .before .before .before .before in rw (c .coarser .ensures) (parent-in _ _ _ _ _ (s .pre .0 .1) (c .before .before .loop .column) (c .before .loop-test .taken))
+-- the cell and its children lie in the tables
+parent : (c : tie.After-ratio Inv-loop μ-loop) → let s = c .before .before .before .before .before in s .args .over + c .before .before .loop .column < length (c .before .before .loop .out)
+parent c =
+    let s = c .before .before .before .before .before in
+    let l = c .before .before .loop in
+    omega (arith, parent-in _ _ _ _ _ (s .pre .0 .1) (l .column) (c .before .loop-test .taken), s .pre .1 .1, l .inv .2)
 
-add-here : tie.Need-add-here Inv-loop μ-loop
-add-here c = omega (arith, row-in _ _ _ _ _ (c .before .before .before .before .pre .0 .1))
-
-coarser-requires : tie.Need-coarser-requires Inv-loop μ-loop
-coarser-requires c κs = search needs
-
-cast-parent : tie.Need-cast-parent Inv-loop μ-loop
-cast-parent c = search needs
+children : (c : tie.After-ratio Inv-loop μ-loop) → let s = c .before .before .before .before .before in c .before .before .loop .here + c .ratio .result ≤ length (s .args .cells .now)
+children c =
+    let s = c .before .before .before .before .before in
+    let l = c .before .before .loop in
+    omega (arith, children-in _ _ _ _ _ (s .pre .0 .1) (l .column) (c .before .loop-test .taken), c .ratio .ensures, l .inv .0, s .pre .1 .0)
 
 add-parent : tie.Need-add-parent Inv-loop μ-loop
-add-parent c = omega (arith, parent c, total-small _ (c .before .before .before .before .before .pre .0 .1 .range))
+add-parent c = omega (arith, parent c)
 
-shared-slice-read-left-by : tie.Need-shared-slice-read-left-by Inv-loop μ-loop
-shared-slice-read-left-by c = omega (arith, cell (c .before .before), c .before .before .before .before .before .before .pre .1 .0)
+slice-read-left-by-all : tie.Need-slice-read-left-by-all Inv-loop μ-loop
+slice-read-left-by-all c = parent (c .before)
 
-slice-read-left-by : tie.Need-slice-read-left-by Inv-loop μ-loop
-slice-read-left-by c = omega (arith, parent (c .before .before), c .before .before .before .before .before .before .before .pre .1 .1, c .before .before .before .before .loop .inv .2)
-
-left-by-requires : tie.Need-left-by-requires Inv-loop μ-loop
-left-by-requires c κs = search needs
+left-by-all-requires : tie.Need-left-by-all-requires Inv-loop μ-loop
+left-by-all-requires c κs = children (c .before)
 
 slice-write-out : tie.Need-slice-write-out Inv-loop μ-loop
-slice-write-out c = omega (arith, parent (c .before .before .before), c .before .before .before .before .before .before .before .before .pre .1 .1, c .before .before .before .before .before .loop .inv .2)
+slice-write-out c = parent (c .before .before)
+
+add-here : tie.Need-add-here Inv-loop μ-loop
+add-here c = omega (arith, children (c .before .before))
 
 add-column : tie.Need-add-column Inv-loop μ-loop
 add-column c = search needs
@@ -63,19 +65,19 @@ loop-less c = search needs
 
 loop-again : tie.Need-loop-again Inv-loop μ-loop
 loop-again c =
-    let k = c .before .before .before in
-    let l = k .before .before .loop in
-    let s = k .before .before .before .before .before in
-    let e = ruled-next (s .args .plan) (s .args .cells .now) (s .args .at) (l .column) _ (s .args .out .now) (l .inv .0) (omega (arith, parent k, s .pre .1 .1, l .inv .2))
-    (parent-is _ _ _ _ _ (s .pre .0 .1) (l .column) (k .before .loop-test .taken) ∙ ap (λ x. s .args .over + x) (sym (k .coarser .ensures))) in
-    let f = ap (set (l .out) (s .args .over + k .coarser .result)) (c .left-by .ensures) ∙ e in
-    (f, omega arith, ruled-length _ _ _ _ _ f)
+    let r = c .before .before in
+    let l = r .before .before .loop in
+    let s = r .before .before .before .before .before in
+    let n = r .ratio .ensures in
+    let e = ruled-next (s .args .plan) (s .args .cells .now) _ _ (l .column) _ _ (s .args .out .now) (l .inv .0) n (l .inv .3) (parent r)
+    (parent-of _ _ _ _ _ (s .pre .0 .1) (l .column) (r .before .loop-test .taken)) (c .left-by-all .ensures) in
+    (omega (arith, n), omega arith, ruled-length _ _ _ _ _ e, e)
 
 same-length : tie.Need-same-length Inv-loop μ-loop
 same-length c = c .before .loop .inv .2
 
 returns : tie.Need-returns Inv-loop μ-loop
-returns c = let q : c .before .loop .column ≡ c .before .before .before .before .args .columns = omega arith in rw q at (c .before .loop .inv .0)
+returns c = let q : c .before .loop .column ≡ c .before .before .before .before .args .width = omega arith in rw q at (c .before .loop .inv .3)
 
 pub rule-out-row-spec : {M : Type 1} → statement M
 rule-out-row-spec =
@@ -84,15 +86,13 @@ rule-out-row-spec =
     Inv-loop
     μ-loop
     loop-holds
-    add-here
-    cast-here
-    coarser-requires
+    ratio-requires
+    cast-ratio
     add-parent
-    cast-parent
-    shared-slice-read-left-by
-    slice-read-left-by
-    left-by-requires
+    slice-read-left-by-all
+    left-by-all-requires
     slice-write-out
+    add-here
     add-column
     loop-less
     loop-again
