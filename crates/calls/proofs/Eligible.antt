@@ -22,7 +22,7 @@ use Rattle.marks.specs.Marks.{verdict, MarksBelow}
 use Rattle.nesting.specs.Reactivable.{reactivableByte}
 use Rattle.cover.specs.Cover.{coarsenableByte, NonZero}
 use Rattle.calls.specs.Parts.{Eligible}
-use Rattle.calls.proofs.LastLevel.{cell-last, function-last}
+use Rattle.grid.proofs.LastLevel.{cell-last, function-last}
 
 -- ---- refusals 7, 8, 9 by a table of kinds and the first number that is too deep
 

@@ -1,4 +1,3 @@
-pub mod LastLevel
 pub mod Eligible
 pub mod Flags
 pub mod Outcomes

@@ -9,3 +9,4 @@ pub mod Totals
 pub mod Rectangles
 pub mod Sides
 pub mod First
+pub mod LastLevel

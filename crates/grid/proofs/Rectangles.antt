@@ -13,7 +13,7 @@ use Rattle.grid.specs.declared.Span.{Span}
 use Rattle.grid.specs.declared.Rectangle.{Rectangle}
 use Rattle.grid.specs.Plan.{ratio, grown, columnsAt, rowsAt, cellTotal, cellPlace, cellNumber, cellLevel, CellInside, above, parent}
 use Rattle.grid.specs.Range.{InRange, HasNeighbourhood}
-use Rattle.grid.specs.Spans.{inRectangle, aroundSpan, finerSpan, childrenOf, around, ancestorOf, neighbourhood}
+use Rattle.grid.specs.Spans.{inRectangle, aroundSpan, finerSpan, childrenOf, nearLevel, around, ancestorOf, neighbourhood}
 use Rattle.grid.proofs.Direction.{grown-down}
 use Rattle.grid.proofs.Laws.{ratio-pos, cell-number-lt, cell-number-place, cell-place-number, parent-place}
 use Rattle.grid.proofs.Spans.{InSpan, InRectangle, rectangle-fact, rectangle-test, ancestor-in}
@@ -122,10 +122,6 @@ around-span-in n d x l = record {
   some = le-min {a = x + d + 1} {b = n} (omega arith) (omega arith);
   within = min-le-right (x + d + 1) n;
 }
-
--- the level of the neighbourhoods of the cells of level j
-abbrev pub nearLevel : Plan → ℕ → ℕ
-nearLevel p j = j - (p .class - 1)
 
 pub neighbourhood-level : (p : Plan) → InRange p → (x : Place) → HasNeighbourhood p (x .level) → neighbourhood p x .level ≡ nearLevel p (x .level)
 unfolding neighbourhood around ancestorOf

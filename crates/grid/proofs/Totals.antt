@@ -1,5 +1,5 @@
 -- How many cells and functions a plan has: T's closed form, and the largest F. Assumes nothing.
-use Prim.Native.Nat.{ℕ, zero, suc, _+_, _-_, _*_, _/_, _^_, _≤_}
+use Prim.Native.Nat.{ℕ, zero, suc, _+_, _-_, _*_, _/_, _^_, _≤_, _<_}
 use native.Mathlib.Nat.{pow-zero, pow-suc, mul-one, mul-sub, mul-le-mul, le-trans, div-eq-of-eq-mul-right}
 use native.Mathlib.Omega.{arith}
 use mathlib.Core.Bool.{Bool, _&&_}
@@ -10,8 +10,10 @@ use Rattle.facts.proofs.Bounded.{every-e}
 use Rattle.facts.proofs.Tests.{and-i, implies-e}
 use Rattle.grid.specs.declared.Plan.{Plan}
 use Rattle.grid.specs.Numbering.{offset}
-use Rattle.grid.specs.Plan.{ratio, grown, functionColumnsAt, functionRowsAt, cellOffset, cellTotal, functionTotal}
+use Rattle.grid.specs.Plan.{ratio, grown, columnsAt, rowsAt, functionColumnsAt, functionRowsAt, cellOffset, cellTotal, functionTotal}
 use Rattle.grid.specs.Range.{InRange}
+use Rattle.grid.specs.Bounds.{mostCells, mostFunctions}
+use Rattle.grid.proofs.Numbering.{level-ends}
 
 -- ---- T = A·B·(4^L - 1)/3
 
@@ -76,9 +78,9 @@ module _ (limit bound : ℕ) (all-fit : T (every 9 (shapesFit limit bound))) whe
       (offset-le (functionColumnsAt p) (functionRowsAt p) (functionColumnsAt s) (functionRowsAt s) (λ k. omega arith) (λ k. omega arith) (p .levels))
       (fits-fact (p .levels) (p .columns) (p .rows) f3 (r .columns≥) (r .rows≥) m)
 
-pub functions-bound : (p : Plan) → InRange p → cellTotal p ≤ 21845 → functionTotal p ≤ 26220
+pub functions-bound : (p : Plan) → InRange p → cellTotal p ≤ mostCells → functionTotal p ≤ mostFunctions
 unfolding every fits offset grown ratio
-functions-bound = functions-within 21845 26220 tt
+functions-bound = functions-within mostCells mostFunctions tt
 
 -- the session program's walls have at most 4,096 cells
 pub session-functions-bound : (p : Plan) → InRange p → cellTotal p ≤ 4096 → functionTotal p ≤ 5784
@@ -86,6 +88,35 @@ unfolding every fits offset grown ratio
 session-functions-bound = functions-within 4096 5784 tt
 
 -- and no smaller bound holds: 16 1 6 of degree 4 has as many
-pub functions-reached : (p : Plan) × InRange p × (cellTotal p ≤ 21845) × (functionTotal p ≡ 26220)
+pub functions-reached : (p : Plan) × InRange p × (cellTotal p ≤ mostCells) × (functionTotal p ≡ mostFunctions)
 unfolding offset grown ratio
 functions-reached = (shape 6 16 1, omega arith, lit≤ tt, refl)
+
+-- ---- one level with twice the degrees more columns and rows than cells: the largest table of windows
+
+-- each level of at most so many cells is tried
+unfoldable tried : ℕ → ℕ → ℕ → ℕ → Bool
+tried s k a b = implies (leb (grown s b k * grown s a k) mostCells) (leb ((grown s b k + 8) * (grown s a k + 8)) mostFunctions)
+
+abbrev triedRow : ℕ → ℕ → ℕ → Bool
+triedRow s k a = every 17 (tried s k a)
+
+abbrev triedLevel : ℕ → ℕ → Bool
+triedLevel s k = every 17 (triedRow s k)
+
+all-tried : (p : Plan) → T (every 8 (triedLevel (ratio p)))
+unfolding every tried grown ratio
+all-tried p = tt
+
+tried-fact : (s k a b : ℕ) → T (tried s k a b) → grown s b k * grown s a k ≤ mostCells → (grown s b k + 8) * (grown s a k + 8) ≤ mostFunctions
+unfolding tried
+tried-fact s k a b t l = leb→le _ _ (implies-e (leb (grown s b k * grown s a k) mostCells) _ t (le→leb _ _ l))
+
+pub windows-bound : (p : Plan) → InRange p → cellTotal p ≤ mostCells → (k : ℕ) → k < p .levels → (rowsAt p k + 8) * (columnsAt p k + 8) ≤ mostFunctions
+windows-bound p r m k l =
+    let s = ratio p in
+    let e = level-ends (columnsAt p) (rowsAt p) k (p .levels) l in
+    let t1 = every-e 8 (triedLevel s) (all-tried p) k (omega (arith, r .levels≤)) in
+    let t2 = every-e 17 (triedRow s k) t1 (p .columns) (omega (arith, r .columns≤)) in
+    let t3 = every-e 17 (tried s k (p .columns)) t2 (p .rows) (omega (arith, r .rows≤)) in
+    tried-fact s k (p .columns) (p .rows) t3 (omega arith)

@@ -39,10 +39,14 @@ around p x = record {
   columns = aroundSpan (columnsAt p (x .level)) (p .«degree_across») (x .column);
 }
 
+-- the level of the neighbourhoods of the cells of level j
+abbrev pub nearLevel : Plan → ℕ → ℕ
+nearLevel p j = j - (p .class - 1)
+
 -- "its ancestor there": of level j-m+1
 unfoldable pub ancestorOf : Plan → Place → Place
 ancestorOf p q = record {
-  level = q .level - (p .class - 1);
+  level = nearLevel p (q .level);
   row = ancestor p (p .class - 1) (q .row);
   column = ancestor p (p .class - 1) (q .column);
 }

@@ -18,9 +18,8 @@ use Rattle.grid.specs.declared.Place.{Place}
 use Rattle.grid.specs.Plan.{cellTotal, cellPlace, cellNumber, cellLevel, CellInside, acrossAt, upAt, near}
 use Rattle.grid.specs.Range.{InRange, HasNeighbourhood}
 use Rattle.grid.specs.Side.{firstOver}
-use Rattle.grid.specs.Spans.{ancestorOf}
+use Rattle.grid.specs.Spans.{nearLevel, ancestorOf}
 use Rattle.grid.proofs.Laws.{cell-number-lt, cell-place-number, near-in}
-use Rattle.grid.proofs.Rectangles.{nearLevel}
 use Rattle.grid.proofs.Sides.{first-lt}
 use Rattle.grid.proofs.Spans.{ancestor-in, near-neighbourhood}
 use Rattle.windows.specs.Level.{leastUnder, levelLeast, wide, high, LevelRoom, NearRoom}

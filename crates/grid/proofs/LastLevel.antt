@@ -1,13 +1,13 @@
--- The numbers of the last level begin at its offset. Of the grid alone. Assumes nothing.
+-- The numbers of the last level begin at its offset. Assumes nothing.
 use mathlib.Core.Path.{_≡_, subst}
 use Prim.Native.Nat.{ℕ, zero, suc, _+_, _-_, _<_}
 use native.Mathlib.Omega.{arith}
 use lib.Dec.{eqb, eqb→eq, ltb, leb, ltb→lt, leb→le, le→leb, nltb→le}
 use Rattle.facts.proofs.Tests.{T-true, T-false, eqb-of, cases, same, not-e}
 use Rattle.grid.specs.declared.Plan.{Plan}
 use Rattle.grid.specs.Numbering.{offset, levelOf, placeOn, place}
 use Rattle.grid.specs.Plan.{cellTotal, functionTotal, cellOffset, functionOffset, cellLevel, functionLevel, lastLevel}
 use Rattle.grid.specs.Range.{InRange}
 
 module _ (w h : ℕ → ℕ) where
   level-below : (k n : ℕ) → n < offset w h k → levelOf w h k n < k
