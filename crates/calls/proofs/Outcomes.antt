@@ -1,12 +1,12 @@
 -- The outcome of a call by the number of its refusal, and of what the flags settle. Assumes nothing.
-use mathlib.Core.Path.{_≡_, refl, sym, ap, _∙_, subst}
+use mathlib.Core.Path.{_≡_, sym, ap, _∙_, subst}
 use mathlib.Core.Logic.{_≢_}
 use mathlib.Core.List.{List}
 use Prim.Native.Nat.{ℕ}
-use lib.Dec.{T, eqb, eqb→eq}
+use lib.Dec.{T}
 use lib.ListN.{length}
 use Rattle.facts.specs.Numbers.{elem, first}
-use Rattle.facts.proofs.Tests.{T-true, T-false, eqb-of}
+use Rattle.facts.proofs.Tests.{T-true}
 use Rattle.facts.proofs.Numbers.{first-zero}
 use Rattle.grid.specs.declared.Plan.{Plan}
 use Rattle.grid.specs.Plan.{functionTotal}
@@ -14,10 +14,10 @@ use Rattle.grid.proofs.Totals.{functions-bound}
 use Rattle.mesh.specs.Mesh.{isMesh, labels, check}
 use Rattle.mesh.proofs.Bridge.{Good, check-good, is-mesh, length-labels}
 use Rattle.outcomes.specs.declared.Answer.{Answer}
-use Rattle.outcomes.specs.Calls.{Direction, By, markRefusal, refused, settle, newCells, refusal, outcome}
+use Rattle.outcomes.specs.Calls.{Direction, By, markRefusal, refused, settle, newCells, outcome}
 use Rattle.outcomes.specs.Contracts.{outcomeOf}
-use Rattle.outcomes.proofs.Marks.{Fits, fits-e, selected-may}
-use Rattle.outcomes.proofs.Results.{new-good}
+use Rattle.outcomes.proofs.Marks.{Fits, fits-e, refusal-mark, selected-may}
+use Rattle.outcomes.proofs.Results.{outcome-settled, outcome-check, outcome-mark, new-good}
 use Rattle.nesting.specs.Table.{MeshTable}
 use Rattle.closure.specs.Ready.{Ready}
 use Rattle.closure.proofs.Marked.{good-ready, flags-mean}
@@ -30,19 +30,6 @@ module _ (d : Direction) (by : By) (p : Plan) (cs fs marks cl fl : List ℕ) whe
   abbrev judged : ℕ
   judged = first (markRefusal d by p cs fs) marks
 
-  outcome-check : check p cs fs ≢ 0 → outcome d by p cs fs marks cl fl ≡ refused (check p cs fs) cs fs cl fl
-  unfolding outcome refusal
-  outcome-check n = let e = T-false (eqb (check p cs fs) 0) (λ t. n (eqb→eq _ _ t)) in rw (e, e) refl
-
-  outcome-mark : check p cs fs ≡ 0 → judged ≢ 0 → outcome d by p cs fs marks cl fl ≡ refused judged cs fs cl fl
-  unfolding outcome refusal
-  outcome-mark e n = rw (T-true (eqb (check p cs fs) 0) (eqb-of _ _ e), T-false (eqb judged 0) (λ t. n (eqb→eq _ _ t))) refl
-
-  outcome-settle : check p cs fs ≡ 0 → judged ≡ 0
-      → outcome d by p cs fs marks cl fl ≡ settle p cs fs cl fl (newCells d by p cs fs marks) (labels p (newCells d by p cs fs marks))
-  unfolding outcome refusal
-  outcome-settle e z = rw (T-true (eqb (check p cs fs) 0) (eqb-of _ _ e), T-true (eqb judged 0) (eqb-of _ _ z)) refl
-
   -- a refusal's answer, with the tables and lists as they were, is the call's outcome
   module _ (r : Answer) (n : ℕ) (e : r ≡ record { number = n; cells = 0; functions = 0 }) (stopped : n ≢ 0) where
     refused-made : outcomeOf r cs fs cl fl ≡ refused n cs fs cl fl
@@ -50,10 +37,10 @@ module _ (d : Direction) (by : By) (p : Plan) (cs fs marks cl fl : List ℕ) whe
     refused-made = ap (λ a. outcomeOf a cs fs cl fl) e
 
     pub check-refused : n ≡ check p cs fs → outcomeOf r cs fs cl fl ≡ outcome d by p cs fs marks cl fl
-    check-refused q = refused-made ∙ ap (λ m. refused m cs fs cl fl) q ∙ sym (outcome-check (λ z. stopped (q ∙ z)))
+    check-refused q = refused-made ∙ ap (λ m. refused m cs fs cl fl) q ∙ sym (outcome-check d by p cs fs marks cl fl (λ z. stopped (q ∙ z)))
 
     pub mark-refused : check p cs fs ≡ 0 → n ≡ judged → outcomeOf r cs fs cl fl ≡ outcome d by p cs fs marks cl fl
-    mark-refused k q = refused-made ∙ ap (λ m. refused m cs fs cl fl) q ∙ sym (outcome-mark k (λ z. stopped (q ∙ z)))
+    mark-refused k q = refused-made ∙ ap (λ m. refused m cs fs cl fl) q ∙ sym (outcome-mark d by p cs fs marks cl fl k (λ z. stopped (q ∙ z)))
 
 -- ---- settled: the flags say what the marks mean
 
@@ -84,7 +71,7 @@ module _ (d : Direction) (by : By) (p : Plan) (cs fs marks flags : List ℕ) (k 
   }
 
   pub settled : (cl fl : List ℕ) → settle p cs fs cl fl (renewed d p cs flags) (labels p (renewed d p cs flags)) ≡ outcome d by p cs fs marks cl fl
-  settled cl fl = ap (λ u. settle p cs fs cl fl u (labels p u)) new-is ∙ sym (outcome-settle d by p cs fs marks cl fl k fine)
+  settled cl fl = ap (λ u. settle p cs fs cl fl u (labels p u)) new-is ∙ sym (outcome-settled d by p cs fs marks cl fl (refusal-mark d by p cs fs marks k ∙ fine))
 
 -- ---- the new tables
 
