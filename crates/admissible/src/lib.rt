@@ -1,5 +1,5 @@
 // Refusal 5: the mesh is admissible. The least bytes of neighbourhoods are found for a level at once, and read for its refined cells.
-use grid::MOST_FUNCTIONS;
+use grid::MOST_NEAR;
 use grid::Place;
 use grid::Plan;
 ghost use mathlib.Core.Path.{_≡_};
@@ -18,7 +18,7 @@ ghost use Rattle.admissible.specs.Admissible.{cellAdmissible};
 fn row_admissible(plan: Plan, cells: &[u8], near: &[u8], level: u32, row: u32, at: usize) -> bool
     requires { ⌜ MeshTable plan (now cells) ⌝ }
     requires { ⌜ (NearRoom plan (length (now near))) × (NearTable plan (now cells) (now near) level) ⌝ }
-    requires { ⌜ (level < plan .levels) × (row < rowsAt plan level) ⌝ }
+    requires { ⌜ (level + 1 < plan .levels) × (row < rowsAt plan level) ⌝ }
     requires { ⌜ at ≡ cellOffset plan level + row * columnsAt plan level ⌝ }
     ensures { λ r. ⌜ r ≡ everyFrom at (columnsAt plan level) (cellAdmissible plan (now (cells .entry))) ⌝ }
 {
@@ -44,7 +44,7 @@ fn level_admissible(
 ) -> bool
     requires { ⌜ MeshTable plan (now cells) ⌝ }
     requires { ⌜ (NearRoom plan (length (now near))) × (NearRoom plan (length (now scratch))) ⌝ }
-    requires { ⌜ level < plan .levels ⌝ }
+    requires { ⌜ level + 1 < plan .levels ⌝ }
     ensures { λ r. ⌜ r ≡ everyFrom (cellOffset plan level) (rowsAt plan level * columnsAt plan level) (cellAdmissible plan (now (cells .entry))) ⌝ }
 {
     windows::neighbourhoods(plan, cells, level, scratch, near);
@@ -82,8 +82,8 @@ pub fn is_admissible(plan: Plan, cells: &[u8]) -> bool
     requires { ⌜ (MeshTable plan (now cells)) × (cellTotal plan ≤ mostCells) ⌝ }
     ensures { λ r. ⌜ r ≡ isAdmissible plan (now (cells .entry)) ⌝ }
 {
-    let room = MOST_FUNCTIONS;
-    let mut near = [0u8; MOST_FUNCTIONS];
-    let mut scratch = [0u8; MOST_FUNCTIONS];
+    let room = MOST_NEAR;
+    let mut near = [0u8; MOST_NEAR];
+    let mut scratch = [0u8; MOST_NEAR];
     levels_admissible(plan, cells, &mut near[..room], &mut scratch[..room])
 }

@@ -1,6 +1,6 @@
 // From a cell table to the smallest admissible mesh around a base set: the closure under neighbourhoods, in code.
 use grid::Cell;
-use grid::MOST_FUNCTIONS;
+use grid::MOST_NEAR;
 use grid::Place;
 use grid::Plan;
 use grid::Rectangle;
@@ -254,9 +254,9 @@ fn run(plan: Plan, cells: &mut [u8], flags: &[u8], step: Pass)
     requires { ⌜ length (now flags) ≡ cellTotal plan ⌝ }
     ensures { λ _. ⌜ now (cells .exit) ≡ pass step plan (now (flags .entry)) (now (cells .entry)) ⌝ }
 {
-    let room = MOST_FUNCTIONS;
-    let mut near = [0u8; MOST_FUNCTIONS];
-    let mut scratch = [0u8; MOST_FUNCTIONS];
+    let room = MOST_NEAR;
+    let mut near = [0u8; MOST_NEAR];
+    let mut scratch = [0u8; MOST_NEAR];
     run_levels(
         plan,
         cells,

@@ -15,7 +15,7 @@ ghost use Rattle.grid.specs.Plan.{columnsAt, rowsAt, functionColumnsAt, functio
 ghost use Rattle.cover.specs.Cover.{coarsenableByte, NonZero};
 ghost use Rattle.cover.specs.Level.{picked, rowRead, levelRead, ReadIn};
 ghost use Rattle.grid.specs.Side.{SideIn, firsts};
-ghost use Rattle.windows.specs.Level.{leastValue, NearRoom};
+ghost use Rattle.windows.specs.Level.{leastValue, ValueRoom};
 ghost use Rattle.grid.specs.Bounds.{mostCells};
 
 // 1 where a function has byte 2 and the least byte of its support is 1, 0 for any other.
@@ -151,7 +151,7 @@ fn cover_on(
 )
     requires { ⌜ InRange plan ⌝ }
     requires { ⌜ (length (now values) ≡ functionTotal plan) × (length (now out) ≡ cellTotal plan) ⌝ }
-    requires { ⌜ (NearRoom plan (length (now scratch))) × (NearRoom plan (length (now table))) ⌝ }
+    requires { ⌜ (ValueRoom plan (length (now scratch))) × (ValueRoom plan (length (now table))) ⌝ }
     requires { ⌜ level < plan .levels ⌝ }
     ensures { λ _. ⌜ now (out .exit) ≡ filled (cellOffset plan level) (rowsAt plan level * columnsAt plan level) (leastValue plan (now (values .entry))) (now (out .entry)) ⌝ }
 {
@@ -165,7 +165,7 @@ fn cover_on(
 fn cover_levels(plan: Plan, values: &[u8], out: &mut [u8], scratch: &mut [u8], table: &mut [u8])
     requires { ⌜ InRange plan ⌝ }
     requires { ⌜ (length (now values) ≡ functionTotal plan) × (length (now out) ≡ cellTotal plan) ⌝ }
-    requires { ⌜ (NearRoom plan (length (now scratch))) × (NearRoom plan (length (now table))) ⌝ }
+    requires { ⌜ (ValueRoom plan (length (now scratch))) × (ValueRoom plan (length (now table))) ⌝ }
     ensures { λ _. ⌜ now (out .exit) ≡ tabulate (cellTotal plan) (leastValue plan (now (values .entry))) ⌝ }
 {
     let levels = plan.levels;

@@ -12,7 +12,7 @@ use Rattle.grid.specs.declared.Plan.{Plan}
 use Rattle.grid.specs.Numbering.{offset}
 use Rattle.grid.specs.Plan.{ratio, grown, columnsAt, rowsAt, functionColumnsAt, functionRowsAt, cellOffset, cellTotal, functionTotal}
 use Rattle.grid.specs.Range.{InRange}
-use Rattle.grid.specs.Bounds.{mostCells, mostFunctions}
+use Rattle.grid.specs.Bounds.{mostCells, mostFunctions, mostNear}
 use Rattle.grid.proofs.Numbering.{level-ends}
 
 -- ---- T = A·B·(4^L - 1)/3
@@ -92,31 +92,40 @@ pub functions-reached : (p : Plan) × InRange p × (cellTotal p ≤ mostCells) �
 unfolding offset grown ratio
 functions-reached = (shape 6 16 1, omega arith, lit≤ tt, refl)
 
--- ---- one level with twice the degrees more columns and rows than cells: the largest table of windows
+-- ---- one level with twice the degrees more columns and rows than cells: the tables of windows
 
--- each level of at most so many cells is tried
-unfoldable tried : ℕ → ℕ → ℕ → ℕ → Bool
-tried s k a b = implies (leb (grown s b k * grown s a k) mostCells) (leb ((grown s b k + 8) * (grown s a k + 8)) mostFunctions)
+-- each level of which the level `finer` levels down has at most so many cells is tried
+unfoldable tried : ℕ → ℕ → ℕ → ℕ → ℕ → ℕ → Bool
+tried finer bound s k a b =
+    implies (leb 1 a && (leb 1 b && leb (grown s b (k + finer) * grown s a (k + finer)) mostCells)) (leb ((grown s b k + 8) * (grown s a k + 8)) bound)
 
-abbrev triedRow : ℕ → ℕ → ℕ → Bool
-triedRow s k a = every 17 (tried s k a)
+abbrev triedRow : ℕ → ℕ → ℕ → ℕ → ℕ → Bool
+triedRow finer bound s k a = every 17 (tried finer bound s k a)
 
-abbrev triedLevel : ℕ → ℕ → Bool
-triedLevel s k = every 17 (triedRow s k)
+abbrev triedLevel : ℕ → ℕ → ℕ → ℕ → Bool
+triedLevel finer bound s k = every 17 (triedRow finer bound s k)
 
-all-tried : (p : Plan) → T (every 8 (triedLevel (ratio p)))
-unfolding every tried grown ratio
-all-tried p = tt
+module _ (finer bound : ℕ) (p : Plan) (all-tried : T (every 8 (triedLevel finer bound (ratio p)))) where
+  tried-fact : (s k a b : ℕ) → T (tried finer bound s k a b) → 1 ≤ a → 1 ≤ b → grown s b (k + finer) * grown s a (k + finer) ≤ mostCells → (grown s b k + 8) * (grown s a k + 8) ≤ bound
+  unfolding tried
+  tried-fact s k a b t x y l =
+      leb→le _ _ (implies-e (leb 1 a && (leb 1 b && leb (grown s b (k + finer) * grown s a (k + finer)) mostCells)) _ t
+      (and-i (leb 1 a) _ (le→leb 1 a x) (and-i (leb 1 b) _ (le→leb 1 b y) (le→leb _ _ l))))
 
-tried-fact : (s k a b : ℕ) → T (tried s k a b) → grown s b k * grown s a k ≤ mostCells → (grown s b k + 8) * (grown s a k + 8) ≤ mostFunctions
-unfolding tried
-tried-fact s k a b t l = leb→le _ _ (implies-e (leb (grown s b k * grown s a k) mostCells) _ t (le→leb _ _ l))
+  level-within : InRange p → cellTotal p ≤ mostCells → (k : ℕ) → k + finer < p .levels → (rowsAt p k + 8) * (columnsAt p k + 8) ≤ bound
+  level-within r m k l =
+      let s = ratio p in
+      let e = level-ends (columnsAt p) (rowsAt p) (k + finer) (p .levels) l in
+      let t1 = every-e 8 (triedLevel finer bound s) all-tried k (omega (arith, r .levels≤)) in
+      let t2 = every-e 17 (triedRow finer bound s k) t1 (p .columns) (omega (arith, r .columns≤)) in
+      let t3 = every-e 17 (tried finer bound s k (p .columns)) t2 (p .rows) (omega (arith, r .rows≤)) in
+      tried-fact s k (p .columns) (p .rows) t3 (r .columns≥) (r .rows≥) (omega arith)
 
 pub windows-bound : (p : Plan) → InRange p → cellTotal p ≤ mostCells → (k : ℕ) → k < p .levels → (rowsAt p k + 8) * (columnsAt p k + 8) ≤ mostFunctions
-windows-bound p r m k l =
-    let s = ratio p in
-    let e = level-ends (columnsAt p) (rowsAt p) k (p .levels) l in
-    let t1 = every-e 8 (triedLevel s) (all-tried p) k (omega (arith, r .levels≤)) in
-    let t2 = every-e 17 (triedRow s k) t1 (p .columns) (omega (arith, r .columns≤)) in
-    let t3 = every-e 17 (tried s k (p .columns)) t2 (p .rows) (omega (arith, r .rows≤)) in
-    tried-fact s k (p .columns) (p .rows) t3 (omega arith)
+unfolding every tried grown ratio
+windows-bound p r m k l = level-within 0 mostFunctions p tt r m k (omega arith)
+
+-- neighbourhoods lie on levels with two finer ones: those of cells that have children, and one more for the class
+pub near-bound : (p : Plan) → InRange p → cellTotal p ≤ mostCells → (k : ℕ) → k + 2 < p .levels → (rowsAt p k + 8) * (columnsAt p k + 8) ≤ mostNear
+unfolding every tried grown ratio
+near-bound p r m k l = level-within 2 mostNear p tt r m k l

@@ -7,10 +7,12 @@ ghost use Rattle.grid.specs.Spans.{aroundSpan, childrenOf, around, ances
 ghost use Rattle.grid.specs.Side.{SideIn, functions, firstOver, firsts};
 ghost use Rattle.grid.specs.Plan.{between, inRange, ratio, grown, widened, columnsAt, rowsAt, acrossAt, upAt, functionColumnsAt, functionRowsAt, cellOffset, functionOffset, cellTotal, functionTotal, tooLarge, cellPlace, cellNumber, functionPlace, functionNumber, CellInside, FunctionInside, cellLevel, above, parent, ancestor};
 
-// The most cells that a plan may have, and the most functions of such a plan: what lent tables need.
+// The most cells that a plan may have, the most functions of such a plan, and the largest table of neighbourhoods: what lent tables need.
 pub const MOST_CELLS: usize = 21845;
 
 pub const MOST_FUNCTIONS: usize = 26220;
+
+pub const MOST_NEAR: usize = 2176;
 
 // Document 01, "The plan": six numbers handed over by value.
 #[repr(C)]

@@ -3,7 +3,7 @@
 use mathlib.Core.Path.{_≡_, refl, sym, ap, subst, _∙_}
 use mathlib.Core.Bool.{not, cond}
 use mathlib.Core.List.{List}
-use Prim.Native.Nat.{ℕ, _+_, _*_, _≤_, _<_}
+use Prim.Native.Nat.{ℕ, _+_, _-_, _*_, _≤_, _<_}
 use native.Mathlib.Nat.{le-refl, le-of-eq, le-antisymm, mul-le-mul-right}
 use native.Mathlib.Omega.{arith}
 use lib.Dec.{T, eqb, eqb→eq, leb, leb→le, le→leb}
@@ -85,6 +85,10 @@ module _ (p : Plan) (range : InRange p) (cells : List ℕ) (q : ℕ) where
 
 -- ---- the place where it is read
 
+above-level : (p : Plan) (x : Place) → ancestorOf p x .level ≡ nearLevel p (x .level)
+unfolding ancestorOf
+above-level p x = refl
+
 module _ (p : Plan) (x : Place) (i : CellInside p x) (has : HasNeighbourhood p (x .level)) where
   abbrev a : Place
   a = ancestorOf p x
@@ -98,39 +102,41 @@ module _ (p : Plan) (x : Place) (i : CellInside p x) (has : HasNeighbourhood p (
   column-in : firstOver (acrossAt p (a .level)) (a .column) + p .«degree_across» < wide p (a .level) (2 * p .«degree_across»)
   column-in = omega (arith, first-lt (acrossAt p (a .level)) (a .column) (above-in .column<))
 
-  pub index-fits : {n : ℕ} → NearRoom p n → nearIndex p a < n
+  -- on a level with two finer ones
+  above-deep : InRange p → x .level + 1 < p .levels → a .level < p .levels - 2
+  above-deep range deep = rw (above-level p x) (omega (arith, has .class≢, has .level≥, range .class≢))
+
+  pub index-fits : InRange p → x .level + 1 < p .levels → {n : ℕ} → NearRoom p n → nearIndex p a < n
   unfolding nearIndex
-  index-fits room =
+  index-fits range deep room =
       let m = mul-le-mul-right (wide p (a .level) (2 * p .«degree_across»)) row-in in
       let c = column-in in
-      omega (arith, room .enough (a .level) (above-in .level<))
+      omega (arith, room .enough (a .level) (above-deep range deep))
 
   -- in the table of the windows over the ancestor's level
-  read-is : (range : InRange p) (cells found start : List ℕ) → NearRoom p (length start)
+  read-is : (range : InRange p) → x .level + 1 < p .levels → (cells found start : List ℕ) → NearRoom p (length start)
       → found ≡ filled 0 (high p (a .level) (2 * p .«degree_up») * wide p (a .level) (2 * p .«degree_across»)) (levelLeast p cells (a .level) (2 * p .«degree_across») (2 * p .«degree_up»)) start
       → getD found (nearIndex p a) 0 ≡ leastNear p cells (cellNumber p x)
   unfolding nearIndex
-  read-is range cells found start room e =
+  read-is range deep cells found start room e =
       let q : cellPlace p (cellNumber p x) ≡ x = cell-place-number p range x i in
-      level-at p cells found start (a .level) (2 * p .«degree_across») (2 * p .«degree_up») e (room .enough (a .level) (above-in .level<)) _ _ row-in column-in
+      level-at p cells found start (a .level) (2 * p .«degree_across») (2 * p .«degree_up») e (room .enough (a .level) (above-deep range deep)) _ _ row-in column-in
       ∙ (rw q at (window-near p range cells (cellNumber p x) (cell-number-lt p range x i) (subst (λ (y : Place). HasNeighbourhood p (y .level)) (sym q) has)))
 
 -- ---- the table of a level
 
-above-level : (p : Plan) (x : Place) → ancestorOf p x .level ≡ nearLevel p (x .level)
-unfolding ancestorOf
-above-level p x = refl
-
-module _ (p : Plan) (range : InRange p) (cells : List ℕ) (j : ℕ) (l : j < p .levels) where
-  pub near-room-level : {n m : ℕ} → cellTotal p ≤ length cells → NearRoom p n → NearRoom p m
+module _ (p : Plan) (range : InRange p) (cells : List ℕ) (j : ℕ) (l : j + 1 < p .levels) where
+  pub near-room-level : {n m : ℕ} → HasNeighbourhood p j → cellTotal p ≤ length cells → NearRoom p n → NearRoom p m
       → LevelRoom p (nearLevel p j) (length cells) m n (2 * p .«degree_across») (2 * p .«degree_up»)
-  near-room-level s x y = record {
-    range = range;
-    level< = omega arith;
-    cells≤ = s;
-    scratch≤ = y .enough (nearLevel p j) (omega arith);
-    out≤ = x .enough (nearLevel p j) (omega arith);
-  }
+  near-room-level has s x y =
+      let d : nearLevel p j < p .levels - 2 = omega (arith, has .class≢, has .level≥, range .class≢) in
+      record {
+        range = range;
+        level< = omega arith;
+        cells≤ = s;
+        scratch≤ = y .enough (nearLevel p j) d;
+        out≤ = x .enough (nearLevel p j) d;
+      }
 
   pub near-table : T (hasNear p j) → (found start : List ℕ) → NearRoom p (length start)
       → found ≡ filled 0 (high p (nearLevel p j) (2 * p .«degree_up») * wide p (nearLevel p j) (2 * p .«degree_across»)) (levelLeast p cells (nearLevel p j) (2 * p .«degree_across») (2 * p .«degree_up»)) start
@@ -140,7 +146,7 @@ module _ (p : Plan) (range : InRange p) (cells : List ℕ) (j : ℕ) (l : j < p 
     made = λ x i q.
         let h : T (hasNear p (x .level)) = subst (λ (n : ℕ). T (hasNear p n)) (sym q) has in
         let k : nearLevel p j ≡ ancestorOf p x .level = ap (nearLevel p) (sym q) ∙ sym (above-level p x) in
-        rw (T-true (hasNear p (x .level)) h) (read-is p x i (has-fact p (x .level) h) range cells found start room (rw k at e));
+        rw (T-true (hasNear p (x .level)) h) (read-is p x i (has-fact p (x .level) h) range (omega (arith, q)) cells found start room (rw k at e));
   }
 
   pub near-table-none : (T (hasNear p j) → ⊥) → (found : List ℕ) → NearTable p cells found j

@@ -1,4 +1,4 @@
--- 26,220 bytes are enough for the table of any level of a plan that is not too large. Assumes nothing.
+-- How many bytes are enough for tables of windows, of any plan that is not too large. Assumes nothing.
 use mathlib.Core.Path.{_≡_}
 use Prim.Native.Nat.{ℕ, _+_, _*_, _≤_}
 use native.Mathlib.Nat.{mul-le-mul, le-trans}
@@ -9,22 +9,24 @@ use Rattle.grid.specs.declared.Plan.{Plan}
 use Rattle.grid.specs.Plan.{columnsAt, rowsAt, cellTotal}
 use Rattle.grid.specs.Side.{functions, firsts}
 use Rattle.grid.specs.Range.{InRange}
-use Rattle.grid.proofs.Totals.{windows-bound}
-use Rattle.windows.specs.Level.{wide, high, NearRoom}
-use Rattle.grid.specs.Bounds.{mostCells, mostFunctions}
+use Rattle.grid.proofs.Totals.{windows-bound, near-bound}
+use Rattle.windows.specs.Level.{wide, high, ValueRoom, NearRoom}
+use Rattle.grid.specs.Bounds.{mostCells, mostFunctions, mostNear}
 
-pub near-room : (p : Plan) → InRange p → cellTotal p ≤ mostCells → NearRoom p mostFunctions
+-- twice the degrees are at most 8
+table-le : (p : Plan) → InRange p → (k n : ℕ) → (rowsAt p k + 8) * (columnsAt p k + 8) ≤ n → high p k (2 * p .«degree_up») * wide p k (2 * p .«degree_across») ≤ n
 unfolding firsts functions
-near-room p r s = record {
-  enough = λ k l.
-      let m : high p k (2 * p .«degree_up») ≤ rowsAt p k + 8 = omega (arith, r .up≤) in
-      let n : wide p k (2 * p .«degree_across») ≤ columnsAt p k + 8 = omega (arith, r .across≤) in
-      le-trans (mul-le-mul m n) (windows-bound p r s k l);
-}
+table-le p r k n b =
+    let h : high p k (2 * p .«degree_up») ≤ rowsAt p k + 8 = omega (arith, r .up≤) in
+    let w : wide p k (2 * p .«degree_across») ≤ columnsAt p k + 8 = omega (arith, r .across≤) in
+    le-trans (mul-le-mul h w) b
 
 -- an array lent whole
-pub zeros-length : length {A = ℕ} (take mostFunctions (replicate mostFunctions 0)) ≡ mostFunctions
-zeros-length = length-take-le {A = ℕ} mostFunctions (replicate mostFunctions 0) (rw length-replicate (omega arith))
+pub zeros-length : (n : ℕ) → length {A = ℕ} (take n (replicate n 0)) ≡ n
+zeros-length n = length-take-le {A = ℕ} n (replicate n 0) (rw length-replicate (omega arith))
 
-pub zeros-room : (p : Plan) → NearRoom p mostFunctions → NearRoom p (length {A = ℕ} (take mostFunctions (replicate mostFunctions 0)))
-zeros-room p r = rw zeros-length r
+pub value-room : (p : Plan) → InRange p → cellTotal p ≤ mostCells → ValueRoom p (length {A = ℕ} (take mostFunctions (replicate mostFunctions 0)))
+value-room p r s = rw (zeros-length mostFunctions) (record { enough = λ k l. table-le p r k _ (windows-bound p r s k l) })
+
+pub near-room : (p : Plan) → InRange p → cellTotal p ≤ mostCells → NearRoom p (length {A = ℕ} (take mostNear (replicate mostNear 0)))
+near-room p r s = rw (zeros-length mostNear) (record { enough = λ k l. table-le p r k _ (near-bound p r s k (omega arith)) })

@@ -25,7 +25,7 @@ use Rattle.grid.proofs.Numbering.{level-ends}
 use Rattle.grid.proofs.Sides.{across-in, up-in, across-firsts, up-firsts, first-lt}
 use Rattle.grid.proofs.First.{supported-under, under-supported}
 use Rattle.windows.specs.Windows.{back, windowAt, windowLeast, LevelIn}
-use Rattle.windows.specs.Level.{wide, high, NearRoom, leastValue, ValueTable}
+use Rattle.windows.specs.Level.{wide, high, ValueRoom, leastValue, ValueTable}
 use Rattle.windows.proofs.Slides.{back-le, back-ge}
 
 abbrev at : ℕ → ℕ → ℕ → Place
@@ -118,7 +118,7 @@ module _ (p : Plan) (range : InRange p) (values : List ℕ) (k : ℕ) (l : k < p
   rows-are : FH + p .«degree_up» ≡ high p k (2 * p .«degree_up»)
   rows-are = omega (arith, up-firsts p k)
 
-  pub values-in : {columns rows here n m : ℕ} → columns ≡ FW → rows ≡ FH → here ≡ from → length values ≡ functionTotal p → NearRoom p m → NearRoom p n
+  pub values-in : {columns rows here n m : ℕ} → columns ≡ FW → rows ≡ FH → here ≡ from → length values ≡ functionTotal p → ValueRoom p m → ValueRoom p n
       → LevelIn (length values - here) m n columns rows (p .«degree_across») (p .«degree_up») × (here ≤ length values)
   values-in {columns} {rows} {here} {n} {m} ec er eh s x y =
       let o = level-ends (functionColumnsAt p) (functionRowsAt p) k (p .levels) l in
@@ -137,7 +137,7 @@ module _ (p : Plan) (range : InRange p) (values : List ℕ) (k : ℕ) (l : k < p
         omega arith,
       )
 
-  pub value-table : {columns rows here : ℕ} (found start : List ℕ) → columns ≡ FW → rows ≡ FH → here ≡ from → NearRoom p (length start)
+  pub value-table : {columns rows here : ℕ} (found start : List ℕ) → columns ≡ FW → rows ≡ FH → here ≡ from → ValueRoom p (length start)
       → found ≡ filled 0 ((rows + p .«degree_up») * (columns + p .«degree_across»)) (windowLeast (midOf here (length values - here) values) columns rows (p .«degree_across») (p .«degree_up»)) start
       → ValueTable p values found k
   unfolding filled windowLeast

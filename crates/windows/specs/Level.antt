@@ -1,7 +1,7 @@
 -- A level's cells under windows: each cell stands where its first functions across and up do. Definitions only.
 use mathlib.Core.Bool.{cond}
 use mathlib.Core.List.{List}
-use Prim.Native.Nat.{ℕ, _+_, _*_, _/_, _%_, _≤_, _<_}
+use Prim.Native.Nat.{ℕ, _+_, _-_, _*_, _/_, _%_, _≤_, _<_}
 use mathlib.Core.Path.{_≡_}
 use lib.ListN.{length, getD}
 use Rattle.facts.specs.Least.{least}
@@ -40,10 +40,17 @@ pub record LevelRoom (p : Plan) (k size room place across up : ℕ) : Type 0 whe
   pub scratch≤ : high p k up * wide p k across ≤ room
   pub out≤ : high p k up * wide p k across ≤ place
 
--- n bytes are enough for the table of any level with windows of twice the degrees, and for that of its functions with windows of the
--- degrees
-pub record NearRoom (p : Plan) (n : ℕ) : Type 0 where
-  pub enough : (k : ℕ) → k < p .levels → high p k (2 * p .«degree_up») * wide p k (2 * p .«degree_across») ≤ n
+-- n bytes are enough for the table of any of the first levels with windows of twice the degrees, and for that of its functions with
+-- windows of the degrees
+pub record TableRoom (p : Plan) (levels n : ℕ) : Type 0 where
+  pub enough : (k : ℕ) → k < levels → high p k (2 * p .«degree_up») * wide p k (2 * p .«degree_across») ≤ n
+
+-- the values of functions are of any level; the neighbourhoods of cells that have children are not of the last two
+abbrev pub ValueRoom : Plan → ℕ → Type 0
+ValueRoom p = TableRoom p (p .levels)
+
+abbrev pub NearRoom : Plan → ℕ → Type 0
+NearRoom p = TableRoom p (p .levels - 2)
 
 -- ---- the functions over a cell
 

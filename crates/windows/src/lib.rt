@@ -7,7 +7,7 @@ ghost use Prim.Native.Nat.{min, _+_, _*_, _≤_, _<_};
 ghost use lib.ListN.{length};
 ghost use Rattle.facts.specs.Mapped.{filled};
 ghost use Rattle.windows.specs.Windows.{always, lowered, slid, rowSlid, windowLeast, SlideIn, RowsIn, LevelIn};
-ghost use Rattle.windows.specs.Level.{levelLeast, wide, high, LevelRoom, NearRoom, ValueTable};
+ghost use Rattle.windows.specs.Level.{levelLeast, wide, high, LevelRoom, ValueRoom, NearRoom, ValueTable};
 ghost use Rattle.windows.specs.Near.{hasNear, nearByte, NearTable};
 ghost use Rattle.grid.specs.Plan.{cellTotal, functionTotal, CellInside};
 ghost use Rattle.grid.specs.Range.{InRange};
@@ -116,7 +116,7 @@ pub fn level(
 // A level's functions: the least value of those over a cell is where the windows of the degrees end, after the cell's first functions.
 pub fn functions(plan: Plan, values: &[u8], level: u32, scratch: &mut [u8], out: &mut [u8])
     requires { ⌜ (InRange plan) × (level < plan .levels) × (length (now values) ≡ functionTotal plan) ⌝ }
-    requires { ⌜ (NearRoom plan (length (now scratch))) × (NearRoom plan (length (now out))) ⌝ }
+    requires { ⌜ (ValueRoom plan (length (now scratch))) × (ValueRoom plan (length (now out))) ⌝ }
     ensures { λ _. ⌜ ValueTable plan (now (values .entry)) (now (out .exit)) level ⌝ }
 {
     let columns = plan.function_columns_at(level) as usize;
@@ -139,7 +139,7 @@ fn has_near(plan: Plan, level: u32) -> bool
 // The table of the neighbourhoods of a level's cells, where they have some: the windows of twice the degrees over the level in which
 // these lie.
 pub fn neighbourhoods(plan: Plan, cells: &[u8], fine: u32, scratch: &mut [u8], near: &mut [u8])
-    requires { ⌜ (InRange plan) × (fine < plan .levels) × (cellTotal plan ≤ length (now cells)) ⌝ }
+    requires { ⌜ (InRange plan) × (fine + 1 < plan .levels) × (cellTotal plan ≤ length (now cells)) ⌝ }
     requires { ⌜ (NearRoom plan (length (now scratch))) × (NearRoom plan (length (now near))) ⌝ }
     ensures { λ _. ⌜ NearTable plan (now (cells .entry)) (now (near .exit)) fine ⌝ }
 {
@@ -154,7 +154,7 @@ pub fn neighbourhoods(plan: Plan, cells: &[u8], fine: u32, scratch: &mut [u8], n
 // The least byte of the neighbourhood of the cell at a place, by the table of its level; 2 where it has none.
 pub fn least_near(plan: Plan, near: &[u8], place: Place) -> u8
     requires { ⌜ InRange plan ⌝ }
-    requires { ⌜ CellInside plan place ⌝ }
+    requires { ⌜ (CellInside plan place) × (place .level + 1 < plan .levels) ⌝ }
     requires { ⌜ NearRoom plan (length (now near)) ⌝ }
     ensures { λ r. ⌜ r ≡ nearByte plan (now (near .entry)) place ⌝ }
 {

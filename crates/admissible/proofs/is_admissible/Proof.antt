@@ -1,6 +1,6 @@
 -- `admissible::is_admissible` meets its contract. Assumes nothing.
 use borrow.Author.Needs.{needs}
-use Rattle.windows.proofs.Rooms.{near-room, zeros-room}
+use Rattle.windows.proofs.Rooms.{near-room}
 use Rattle.admissible.proofs.is_admissible.Statement.{statement}
 use Rattle.admissible.proofs.is_admissible.Tie as tie
 
@@ -17,7 +17,7 @@ slice-aggregate-levels-admissible-2 : tie.Need-slice-aggregate-levels-admissible
 slice-aggregate-levels-admissible-2 c = search needs
 
 levels-admissible-requires : tie.Need-levels-admissible-requires
-levels-admissible-requires c κs = let s = c .before .before .before in let r = zeros-room (s .args .plan) (near-room (s .args .plan) (s .pre .0 .sized .range) (s .pre .1)) in (s .pre .0, (r, r))
+levels-admissible-requires c κs = let s = c .before .before .before in let r = near-room (s .args .plan) (s .pre .0 .sized .range) (s .pre .1) in (s .pre .0, (r, r))
 
 returns : tie.Need-returns
 returns c = search needs

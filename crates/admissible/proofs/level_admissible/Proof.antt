@@ -25,13 +25,13 @@ neighbourhoods-requires : tie.Need-neighbourhoods-requires Inv-loop μ-loop
 neighbourhoods-requires c κs = let s = c .before .before .before .before .before in ((s .pre .0 .sized .range, s .pre .1 .1, omega (arith, s .pre .0 .sized .size)), (s .pre .1 .0 .1, s .pre .1 .0 .0))
 
 columns-at-requires : tie.Need-columns-at-requires Inv-loop μ-loop
-columns-at-requires c κs = let s = c .before .before .before .before .before .before .before .before .before .before in (s .pre .0 .sized .range, s .pre .1 .1)
+columns-at-requires c κs = let s = c .before .before .before .before .before .before .before .before .before .before in (s .pre .0 .sized .range, omega (arith, s .pre .1 .1))
 
 cast-columns : tie.Need-cast-columns Inv-loop μ-loop
 cast-columns c = search needs
 
 rows-at-requires : tie.Need-rows-at-requires Inv-loop μ-loop
-rows-at-requires c κs = let s = c .before .before .before .before .before .before .before .before .before .before .before in (s .pre .0 .sized .range, s .pre .1 .1)
+rows-at-requires c κs = let s = c .before .before .before .before .before .before .before .before .before .before .before in (s .pre .0 .sized .range, omega (arith, s .pre .1 .1))
 
 cell-offset-requires : tie.Need-cell-offset-requires Inv-loop μ-loop
 cell-offset-requires c κs = let s = c .before .before .before .before .before .before .before .before .before .before .before .before in (s .pre .0 .sized .range, omega (arith, s .pre .1 .1))
@@ -57,7 +57,7 @@ add-at c =
     let s = c .before .before .before .before .before .before .before .before .before .before .before .before .before .before .before .before .before in
     let p = s .args .plan in
     let l = c .before .before .before .loop in
-    omega (arith, s .pre .0 .sized .size, l .inv .1, l .inv .4, row-within (columnsAt p) (rowsAt p) (s .args .level) (p .levels) (l .row) (s .pre .1 .1) (omega (arith, l .inv .3)), c .before .before .before .before .before .before .before .before .before .before .before .before .before .before .before .before)
+    omega (arith, s .pre .0 .sized .size, l .inv .1, l .inv .4, row-within (columnsAt p) (rowsAt p) (s .args .level) (p .levels) (l .row) (omega (arith, s .pre .1 .1)) (omega (arith, l .inv .3)), c .before .before .before .before .before .before .before .before .before .before .before .before .before .before .before .before)
 
 add-row : tie.Need-add-row Inv-loop μ-loop
 add-row c = search needs

@@ -32,7 +32,7 @@ loop-holds c = (omega arith, c .columns-at .ensures, sym (from-none _ _))
 
 -- the cell that is read
 place : (c : tie.In-loop Inv-loop μ-loop) → let a = c .before .before .before .before .before .args in CellInside (a .plan) (record { level = a .level; row = a .row; column = c .before .loop .column })
-place c = let q = c .before .before .before .before .before .pre .1 .1 .0 in record { level< = q .0; row< = q .1; column< = omega (arith, c .before .loop .inv .1) }
+place c = let q = c .before .before .before .before .before .pre .1 .1 .0 in record { level< = omega (arith, q .0); row< = q .1; column< = omega (arith, c .before .loop .inv .1) }
 
 number-is : (c : tie.In-loop Inv-loop μ-loop) → let a = c .before .before .before .before .before .args in cellNumber (a .plan) (record { level = a .level; row = a .row; column = c .before .loop .column }) ≡ a .at + c .before .loop .column
 unfolding number
@@ -48,7 +48,7 @@ add-n : tie.Need-add-n Inv-loop μ-loop
 add-n c = omega (arith, fits c, c .before .before .before .before)
 
 least-near-requires : tie.Need-least-near-requires Inv-loop μ-loop
-least-near-requires c κs = let s = c .before .before .before .before .before in (s .pre .0 .sized .range, (place c, s .pre .1 .0 .0))
+least-near-requires c κs = let s = c .before .before .before .before .before in (s .pre .0 .sized .range, ((place c, s .pre .1 .1 .0 .0), s .pre .1 .0 .0))
 
 shared-slice-read-ok : tie.Need-shared-slice-read-ok Inv-loop μ-loop
 shared-slice-read-ok c = fits (c .before .before)

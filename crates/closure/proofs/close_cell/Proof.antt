@@ -9,7 +9,7 @@ use Rattle.closure.proofs.close_cell.Statement.{statement}
 use Rattle.closure.proofs.close_cell.Tie as tie
 
 least-near-requires : tie.Need-least-near-requires
-least-near-requires c κs = let s = c .before .before in (s .pre .0 .range, (s .pre .1 .1 .0, s .pre .1 .0))
+least-near-requires c κs = let s = c .before .before in (s .pre .0 .range, ((s .pre .1 .1 .0, s .pre .1 .1 .1), s .pre .1 .0))
 
 returns : tie.Need-returns
 unfolding told

@@ -1,6 +1,6 @@
 -- `run` meets its contract. Assumes nothing.
 use borrow.Author.Needs.{needs}
-use Rattle.windows.proofs.Rooms.{near-room, zeros-room}
+use Rattle.windows.proofs.Rooms.{near-room}
 use Rattle.closure.proofs.run.Statement.{statement}
 use Rattle.closure.proofs.run.Tie as tie
 
@@ -19,7 +19,7 @@ slice-aggregate-run-levels-2 c = search needs
 run-levels-requires : tie.Need-run-levels-requires
 run-levels-requires c κs =
     let s = c .before .before .before .before .before in
-    let r = zeros-room (s .args .plan) (near-room (s .args .plan) (s .pre .0 .range) (s .pre .0 .small)) in
+    let r = near-room (s .args .plan) (s .pre .0 .range) (s .pre .0 .small) in
     (s .pre .0, (s .pre .1, (r, r)))
 
 same-length : tie.Need-same-length

@@ -1,6 +1,7 @@
 -- `cover::coarsenable_functions` meets its contract: the room that it lends is large enough. Assumes nothing.
 use borrow.Author.Needs.{needs}
 use Rattle.grid.proofs.Totals.{functions-bound}
+use Rattle.grid.specs.Bounds.{mostFunctions}
 use Rattle.windows.proofs.Rooms.{zeros-length}
 use Rattle.cover.proofs.coarsenable_functions.Statement.{statement}
 use Rattle.cover.proofs.coarsenable_functions.Tie as tie
@@ -21,7 +22,7 @@ coarsenable-levels-requires : tie.Need-coarsenable-levels-requires
 coarsenable-levels-requires c κs =
     let s = c .before .before .before .before .before .before in
     let b = functions-bound (s .args .plan) (s .pre .0 .0) (s .pre .0 .1) in
-    (s .pre .0 .0, (s .pre .1, (rw zeros-length b, rw zeros-length b)))
+    (s .pre .0 .0, (s .pre .1, (rw (zeros-length mostFunctions) b, rw (zeros-length mostFunctions) b)))
 
 same-length : tie.Need-same-length
 same-length c = search needs

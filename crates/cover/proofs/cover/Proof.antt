@@ -1,6 +1,6 @@
 -- `cover::cover` meets its contract: the room that it lends is large enough. Assumes nothing.
 use borrow.Author.Needs.{needs}
-use Rattle.windows.proofs.Rooms.{near-room, zeros-room}
+use Rattle.windows.proofs.Rooms.{value-room}
 use Rattle.cover.proofs.cover.Statement.{statement}
 use Rattle.cover.proofs.cover.Tie as tie
 
@@ -19,7 +19,7 @@ slice-aggregate-cover-levels-2 c = search needs
 cover-levels-requires : tie.Need-cover-levels-requires
 cover-levels-requires c κs =
     let s = c .before .before .before .before .before in
-    let r = zeros-room (s .args .plan) (near-room (s .args .plan) (s .pre .0 .0) (s .pre .0 .1)) in
+    let r = value-room (s .args .plan) (s .pre .0 .0) (s .pre .0 .1) in
     (s .pre .0 .0, (s .pre .1, (r, r)))
 
 same-length : tie.Need-same-length

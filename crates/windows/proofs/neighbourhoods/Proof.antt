@@ -40,7 +40,7 @@ cast-up c = search needs
 level-requires : tie.Need-level-requires
 level-requires c κs =
     let s = c .before .before .before .before .before .before .before .before .before .before in
-    near-room-level (s .args .plan) (s .pre .0 .0) (s .args .cells .now) (s .args .fine) (s .pre .0 .1) (s .pre .0 .2) (s .pre .1 .1) (s .pre .1 .0)
+    near-room-level (s .args .plan) (s .pre .0 .0) (s .args .cells .now) (s .args .fine) (s .pre .0 .1) (has (c .before .before .before .before .before)) (s .pre .0 .2) (s .pre .1 .1) (s .pre .1 .0)
 
 same-length : tie.Need-same-length
 same-length c = search needs
