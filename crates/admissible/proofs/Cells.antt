@@ -17,7 +17,7 @@ use Rattle.grid.proofs.Numbering.{level-ends, place-rest}
 use Rattle.mesh.specs.Mesh.{refined, isAdmissible}
 use Rattle.mesh.proofs.Bridge.{mesh-fits}
 use Rattle.nesting.specs.Table.{MeshTable}
-use Rattle.nesting.proofs.Levels.{levels-join}
+use Rattle.grid.proofs.Levels.{levels-join}
 use Rattle.windows.specs.Near.{leastNear}
 use Rattle.windows.proofs.Near.{least-near-two}
 use Rattle.admissible.specs.Admissible.{cellAdmissible}

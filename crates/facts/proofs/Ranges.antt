@@ -18,17 +18,6 @@ use Rattle.facts.proofs.Bounded.{every-i, every-e, every-same}
 
 -- ---- a test
 
-pub every-none : (p : ℕ → Bool) → every 0 p ≡ true
-unfolding every
-every-none p = refl
-
-pub every-more : (n : ℕ) (p : ℕ → Bool) → every n p ≡ true → p n ≡ true → every (n + 1) p ≡ true
-unfolding every
-every-more n p e q = rw (add-one n, q) e
-
-pub every-stop : (N n : ℕ) (p : ℕ → Bool) → n < N → p n ≡ false → every N p ≡ false
-every-stop N n p l e = T-false (every N p) (λ t. rw e at (every-e N p t n l))
-
 pub every-from : (n : ℕ) (p : ℕ → Bool) → everyFrom 0 n p ≡ every n p
 unfolding everyFrom
 every-from n p = every-same n _ p (λ k l. ap p (omega arith))

@@ -4,7 +4,7 @@ use Prim.Native.Nat.{ℕ, suc, pred, _+_, _-_, _%_, _<_, _≤_}
 use native.Mathlib.Nat.{mod-lt, div-add-mod'}
 use native.Mathlib.Omega.{arith}
 use mathlib.Core.Bool.{Bool, not, _&&_, _||_}
-use mathlib.Core.Logic.{_≢_, _↔_}
+use mathlib.Core.Logic.{_≢_}
 use mathlib.Core.Path.{_≡_}
 use lib.Dec.{T, leb, ltb, eqb, leb→le, le→leb, eqb→eq, ltb→lt, lt→ltb}
 use lib.Arith.{digits-div}
@@ -13,7 +13,7 @@ use Rattle.hierarchy.proofs.Sets.{Lawful}
 use Rattle.grid.specs.declared.Plan.{Plan}
 use Rattle.grid.specs.declared.Place.{Place}
 use Rattle.grid.specs.Numbering
-use Rattle.grid.specs.Plan.{between, inRange, ratio, columnsAt, functionColumnsAt, cellTotal, functionTotal, cellPlace, cellNumber, functionPlace, functionNumber, cellLevel, CellInside, FunctionInside, above, below, parent, child, apart, ancestor, nearAt, near, hierarchy}
+use Rattle.grid.specs.Plan.{between, inRange, ratio, columnsAt, functionColumnsAt, cellTotal, functionTotal, cellPlace, cellNumber, functionPlace, functionNumber, CellInside, FunctionInside, above, below, parent, child, apart, ancestor, nearAt, near, hierarchy}
 use Rattle.grid.specs.Range.{InRange}
 use Rattle.grid.proofs.Numbering as numbering
 use Rattle.grid.proofs.Direction.{grown-pos, grown-up, grown-down, apart-up, Apart}
@@ -190,34 +190,6 @@ module _ (p : Plan) (range : InRange p) where
     pub parent-of-child : parent p (child p n a c) ≡ n
     unfolding parent
     parent-of-child = rw (child-place, above-below (cellPlace p n) a c l m) (numbering.number-place _ _ wide _ _ b)
-
-  -- the cell d is a child of the cell c
-  pub record ChildOf (c d : ℕ) : Type 0 where
-    pub within : suc (cellLevel p c) < p .levels
-    pub row : ℕ
-    pub column : ℕ
-    pub row< : row < ratio p
-    pub column< : column < ratio p
-    pub is : child p c row column ≡ d
-
-  -- the children of a cell are the cells whose parent it is
-  pub children-are : (c d : ℕ) → c < cellTotal p → d < cellTotal p → ChildOf c d ↔ (0 < cellLevel p d) × (parent p d ≡ c)
-  children-are c d b e = (down, λ u. up (u .0) (u .1))
-    where
-      down : ChildOf c d → (0 < cellLevel p d) × (parent p d ≡ c)
-      down k =
-          let l = child-level c (k .row) (k .column) b (k .within) (k .row<) (k .column<) in
-          (rw (← k .is) (omega (arith, l)), rw (← k .is) (parent-of-child c (k .row) (k .column) b (k .within) (k .row<) (k .column<)))
-
-      up : 0 < cellLevel p d → parent p d ≡ c → ChildOf c d
-      up z q = let k = is-child d e z in record {
-        within = rw (← q) (omega (arith, parent-level d e z, cell-inside d e .level<));
-        row = k .0;
-        column = k .1;
-        row< = k .2;
-        column< = k .3;
-        is = rw (← q) (k .4);
-      }
 
 -- ---- neighbourhoods
 

@@ -14,10 +14,6 @@ use Rattle.grid.proofs.Small.{grown-small}
 pub side-same : {s t : Side} → s .cells ≡ t .cells → s .degree ≡ t .degree → s ≡ t
 side-same a b = λ i. record { cells = a i; degree = b i }
 
-pub functions-pos : (s : Side) → SideIn s → 0 < functions s
-unfolding functions
-functions-pos s r = omega (arith, r .cells≥)
-
 pub functions-small : (s : Side) → SideIn s → functions s ≤ 2052
 unfolding functions
 functions-small s r = omega (arith, r .cells≤, r .degree≤)

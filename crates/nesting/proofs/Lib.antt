@@ -1,4 +1,3 @@
-pub mod Levels
 pub mod Rows
 pub mod Nested
 pub mod Reactivable

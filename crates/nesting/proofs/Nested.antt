@@ -19,7 +19,7 @@ use Rattle.grid.proofs.Laws.{cell-inside, cell-number-place, parent-lt, parent-
 use Rattle.mesh.specs.Mesh.{absent, refined, cellFits, isMesh}
 use Rattle.mesh.proofs.Bridge.{CellFits, fits-e, fits-i, rooted}
 use Rattle.nesting.specs.Nested.{byteFits, cellByteFits, mostAt, nested}
-use Rattle.nesting.proofs.Levels.{offset-mono, level-before}
+use Rattle.grid.proofs.Levels.{offset-mono, level-before}
 
 -- ---- one byte
 

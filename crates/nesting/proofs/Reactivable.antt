@@ -19,12 +19,12 @@ use Rattle.facts.proofs.Mapped.{mapped-length, mapped-at, mapped-is, mapped-mor
 use Rattle.grid.specs.declared.Plan.{Plan}
 use Rattle.grid.specs.Plan.{columnsAt, rowsAt, cellOffset, cellTotal, cellLevel, lastLevel, parent, child}
 use Rattle.grid.specs.Range.{InRange}
-use Rattle.grid.proofs.Levels.{offset-next}
+use Rattle.grid.proofs.Levels.{offset-next, offset-mono, level-before, level-from}
 use Rattle.grid.proofs.Laws.{cell-inside, cell-number-place, parent-level, is-child, child-lt, child-level, parent-of-child}
 use Rattle.mesh.specs.Mesh.{active, refined, children, reactivable}
 use Rattle.mesh.proofs.Bridge.{children-e, children-i}
 use Rattle.nesting.specs.Reactivable.{reactivableByte, refinedByte, innerByte, ruledOut}
-use Rattle.nesting.proofs.Levels.{offset-mono, level-before, level-from, from-join, from-next}
+use Rattle.facts.proofs.Rows.{from-join, from-next}
 
 both : (a b : Bool) (x : ℕ) → cond b (cond a x 2) 2 ≡ cond (a && b) x 2
 both true b x = refl

@@ -24,7 +24,7 @@ use Rattle.grid.proofs.Laws.{ratio-pos, cell-number-lt, cell-place-number, pare
 use Rattle.mesh.specs.Mesh.{refined}
 use Rattle.nesting.specs.Table.{RowUnder}
 use Rattle.nesting.specs.Nested.{cellByteFits, mostAt, nested}
-use Rattle.nesting.proofs.Levels.{rows-join}
+use Rattle.facts.proofs.Rows.{rows-join}
 
 abbrev at : ℕ → ℕ → ℕ → Place
 at k r c = record { level = k; row = r; column = c }

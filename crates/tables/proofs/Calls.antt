@@ -22,7 +22,7 @@ use Rattle.mesh.specs.Mesh.{active, refined, isMesh, isAdmissible, isLabelled, 
 use Rattle.mesh.proofs.Bridge.{Passed, passed, check-good, is-mesh, length-labels}
 use Rattle.mesh.proofs.Area.{area}
 use Rattle.tables.specs.Entries.{byteIs, freshByte}
-use Rattle.nesting.proofs.Levels.{offset-mono, level-before, level-from}
+use Rattle.grid.proofs.Levels.{offset-mono, level-before, level-from}
 
 -- ---- the area
 

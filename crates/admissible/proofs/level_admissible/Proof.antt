@@ -9,7 +9,7 @@ use Rattle.facts.proofs.Ranges.{from-none}
 use Rattle.grid.specs.Plan.{columnsAt, rowsAt, cellOffset}
 use Rattle.grid.proofs.Levels.{row-within}
 use Rattle.admissible.specs.Admissible.{cellAdmissible}
-use Rattle.nesting.proofs.Levels.{rows-join}
+use Rattle.facts.proofs.Rows.{rows-join}
 use Rattle.admissible.proofs.level_admissible.Statement.{statement}
 use Rattle.admissible.proofs.level_admissible.Tie as tie
 

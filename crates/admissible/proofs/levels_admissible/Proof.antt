@@ -6,9 +6,8 @@ use borrow.Author.Needs.{needs}
 use lib.ListN.{length}
 use Rattle.facts.specs.Ranges.{everyFrom}
 use Rattle.grid.specs.Plan.{columnsAt, rowsAt, cellOffset}
-use Rattle.grid.proofs.Levels.{levels-none}
+use Rattle.grid.proofs.Levels.{levels-none, levels-join}
 use Rattle.admissible.specs.Admissible.{cellAdmissible}
-use Rattle.nesting.proofs.Levels.{levels-join}
 use Rattle.admissible.proofs.Cells.{levels-passed}
 use Rattle.admissible.proofs.levels_admissible.Statement.{statement}
 use Rattle.admissible.proofs.levels_admissible.Tie as tie

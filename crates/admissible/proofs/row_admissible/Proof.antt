@@ -10,7 +10,7 @@ use Rattle.facts.proofs.Ranges.{from-none}
 use Rattle.grid.specs.Numbering.{number}
 use Rattle.grid.specs.Plan.{columnsAt, cellNumber, CellInside}
 use Rattle.grid.proofs.Laws.{cell-number-lt}
-use Rattle.nesting.proofs.Levels.{from-next}
+use Rattle.facts.proofs.Rows.{from-next}
 use Rattle.windows.specs.Near.{leastNear}
 use Rattle.admissible.specs.Admissible.{cellAdmissible}
 use Rattle.admissible.proofs.Cells.{cell-read}

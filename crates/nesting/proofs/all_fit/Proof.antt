@@ -6,7 +6,7 @@ use native.Mathlib.Omega.{arith}
 use borrow.Author.Needs.{needs}
 use Rattle.facts.specs.Ranges.{everyFrom}
 use Rattle.nesting.specs.Nested.{cellByteFits}
-use Rattle.nesting.proofs.Levels.{from-zero, from-next}
+use Rattle.facts.proofs.Rows.{from-zero, from-next}
 use Rattle.nesting.proofs.all_fit.Statement.{statement}
 use Rattle.nesting.proofs.all_fit.Tie as tie
 

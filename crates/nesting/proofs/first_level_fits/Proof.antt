@@ -2,7 +2,7 @@
 use native.Mathlib.Omega.{arith}
 use borrow.Author.Needs.{needs}
 use Rattle.grid.specs.Plan.{columnsAt, rowsAt}
-use Rattle.nesting.proofs.Levels.{offset-mono}
+use Rattle.grid.proofs.Levels.{offset-mono}
 use Rattle.nesting.proofs.Nested.{first-fits}
 use Rattle.nesting.proofs.first_level_fits.Statement.{statement}
 use Rattle.nesting.proofs.first_level_fits.Tie as tie

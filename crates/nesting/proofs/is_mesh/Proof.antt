@@ -7,7 +7,7 @@ use Rattle.facts.specs.Ranges.{everyFrom}
 use Rattle.facts.proofs.Ranges.{every-from}
 use Rattle.grid.specs.Plan.{columnsAt, rowsAt, cellOffset}
 use Rattle.nesting.specs.Nested.{nested}
-use Rattle.nesting.proofs.Levels.{levels-join}
+use Rattle.grid.proofs.Levels.{levels-join}
 use Rattle.nesting.proofs.Nested.{mesh-is}
 use Rattle.nesting.proofs.is_mesh.Statement.{statement}
 use Rattle.nesting.proofs.is_mesh.Tie as tie

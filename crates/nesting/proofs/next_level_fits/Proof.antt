@@ -7,7 +7,7 @@ use Rattle.facts.specs.Ranges.{everyFrom}
 use Rattle.grid.specs.Plan.{ratio, columnsAt, rowsAt, cellOffset}
 use Rattle.nesting.specs.Table.{RowUnder}
 use Rattle.nesting.specs.Nested.{nested}
-use Rattle.nesting.proofs.Levels.{from-zero, rows-join}
+use Rattle.facts.proofs.Rows.{from-zero, rows-join}
 use Rattle.nesting.proofs.Rows.{columns-are, row-under, row-in, over-in}
 use Rattle.nesting.proofs.next_level_fits.Statement.{statement}
 use Rattle.nesting.proofs.next_level_fits.Tie as tie

@@ -10,7 +10,7 @@ use Rattle.facts.proofs.Numbers.{length-tabulate}
 use Rattle.facts.proofs.Mapped.{filled-length}
 use Rattle.grid.specs.Plan.{columnsAt, rowsAt, cellOffset, cellTotal}
 use Rattle.nesting.specs.Reactivable.{innerByte, ruledOut}
-use Rattle.nesting.proofs.Levels.{offset-mono}
+use Rattle.grid.proofs.Levels.{offset-mono}
 use Rattle.nesting.proofs.Reactivable.{inner-bytes, ruled-none, ruled-levels, ruled-length, all-ruled}
 use Rattle.nesting.proofs.reactivable_cells.Statement.{statement}
 use Rattle.nesting.proofs.reactivable_cells.Tie as tie

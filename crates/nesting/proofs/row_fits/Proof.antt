@@ -7,7 +7,7 @@ use borrow.Author.Needs.{needs}
 use Rattle.facts.specs.Ranges.{everyFrom}
 use Rattle.grid.specs.Plan.{ratio}
 use Rattle.nesting.specs.Nested.{mostAt, nested}
-use Rattle.nesting.proofs.Levels.{from-zero}
+use Rattle.facts.proofs.Rows.{from-zero}
 use Rattle.nesting.proofs.Rows.{parent-in, children-in, row-more}
 use Rattle.nesting.proofs.row_fits.Statement.{statement}
 use Rattle.nesting.proofs.row_fits.Tie as tie
