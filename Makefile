@@ -14,7 +14,7 @@ all:
 test:
 	.ci/run
 
-# The library beside the model, on the largest meshes.
+# The library beside a tuned C version and the model, on the largest meshes, and which goals are missed.
 bench: all
 	cd rust && WALLMIRROR_LIB_DIR="$(CURDIR)/target/staticlib" CARGO_TARGET_DIR="$(CURDIR)/target/cargo" \
 		cargo run --release --offline --locked --quiet -p bench
