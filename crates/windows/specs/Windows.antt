@@ -26,10 +26,10 @@ pub record SlideIn (size room n step times : ℕ) : Type 0 where
   pub from≤ : n ≤ size
   pub out≤ : n + times * step ≤ room
 
--- the same of each row
-unfoldable pub rowSlid : List ℕ → ℕ → ℕ → ℕ → ℕ
-rowSlid from columns across t =
-    least 2 (across + 1) (λ d. cond (inRun d columns (t % (columns + across))) (getD from (t / (columns + across) * columns + (t % (columns + across) - d)) 0) 2)
+-- the same of each row, where `across` more columns stand after those of a row
+unfoldable pub rowSlid : List ℕ → ℕ → ℕ → ℕ → ℕ → ℕ
+rowSlid from columns across count t =
+    least 2 count (λ d. cond (inRun d columns (t % (columns + across))) (getD from (t / (columns + across) * columns + (t % (columns + across) - d)) 0) 2)
 
 pub record RowsIn (size room columns rows across : ℕ) : Type 0 where
   pub from≤ : rows * columns ≤ size

@@ -58,21 +58,48 @@ fn slide(from: &[u8], out: &mut [u8], n: usize, step: usize, times: usize)
     }
 }
 
-// Each row by itself.
-fn slide_rows(from: &[u8], out: &mut [u8], columns: usize, rows: usize, across: usize)
+// A row, with 2 in the columns after it.
+fn spread_row(from: &[u8], out: &mut [u8], columns: usize, across: usize)
+    requires { ⌜ (columns ≤ length (now from)) × (columns + across ≤ length (now out)) ⌝ }
+    ensures { λ _. ⌜ now (out .exit) ≡ filled 0 (columns + across) (slid (now (from .entry)) columns 1 1) (now (out .entry)) ⌝ }
+{
+    fill(out, columns + across, 2);
+    lower(out, from, columns);
+}
+
+// Each row, with 2 in the columns after it.
+fn spread(from: &[u8], out: &mut [u8], columns: usize, rows: usize, across: usize)
     requires { ⌜ RowsIn (length (now from)) (length (now out)) columns rows across ⌝ }
-    ensures { λ _. ⌜ now (out .exit) ≡ filled 0 (rows * (columns + across)) (rowSlid (now (from .entry)) columns across) (now (out .entry)) ⌝ }
+    ensures { λ _. ⌜ now (out .exit) ≡ filled 0 (rows * (columns + across)) (rowSlid (now (from .entry)) columns across 1) (now (out .entry)) ⌝ }
 {
     let width = columns + across;
     let mut first = 0;
     let mut at = 0;
     let mut row = 0;
     while row < rows {
-        slide(&from[first..], &mut out[at..], columns, 1, across);
+        spread_row(&from[first..], &mut out[at..], columns, across);
         first += columns;
         at += width;
         row += 1;
     }
+}
+
+// The windows along the rows, all rows at once: what stands after a row keeps it apart from the next.
+fn slide_rows(
+    from: &[u8],
+    room: &mut [u8],
+    out: &mut [u8],
+    columns: usize,
+    rows: usize,
+    across: usize,
+)
+    requires { ⌜ RowsIn (length (now from)) (length (now room)) columns rows across ⌝ }
+    requires { ⌜ rows * (columns + across) ≤ length (now out) ⌝ }
+    ensures { λ _. ⌜ now (room .exit) ≡ filled 0 (rows * (columns + across)) (rowSlid (now (from .entry)) columns across 1) (now (room .entry)) ⌝ }
+    ensures { λ _. ⌜ now (out .exit) ≡ filled 0 (rows * (columns + across)) (rowSlid (now (from .entry)) columns across (across + 1)) (now (out .entry)) ⌝ }
+{
+    spread(from, room, columns, rows, across);
+    slide(room, out, rows * (columns + across) - across, 1, across);
 }
 
 // A level of rows * columns bytes, and a table with `across` more columns and `up` more rows: the least byte in rows j - up to j and
@@ -89,7 +116,7 @@ fn windows(
     requires { ⌜ LevelIn (length (now from)) (length (now scratch)) (length (now out)) columns rows across up ⌝ }
     ensures { λ _. ⌜ now (out .exit) ≡ filled 0 ((rows + up) * (columns + across)) (windowLeast (now (from .entry)) columns rows across up) (now (out .entry)) ⌝ }
 {
-    slide_rows(from, scratch, columns, rows, across);
+    slide_rows(from, out, scratch, columns, rows, across);
     let width = columns + across;
     slide(scratch, out, rows * width, width, up);
 }

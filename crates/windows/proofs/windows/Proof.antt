@@ -1,11 +1,12 @@
 -- `windows::windows` meets its contract. Assumes nothing.
-use mathlib.Core.Path.{_≡_, _∙_}
+use mathlib.Core.Path.{_≡_, ap, _∙_}
 use Prim.Native.Nat.{_+_, _*_}
 use native.Mathlib.Nat.{mul-le-mul-right}
 use native.Mathlib.Omega.{arith}
 use borrow.Author.Needs.{needs}
+use Rattle.facts.specs.Mapped.{filled}
 use Rattle.facts.proofs.Mapped.{filled-same}
-use Rattle.windows.proofs.Slides.{windows-slid}
+use Rattle.windows.proofs.Slides.{windows-slid, filled-over}
 use Rattle.windows.proofs.windows.Statement.{statement}
 use Rattle.windows.proofs.windows.Tie as tie
 
@@ -13,7 +14,7 @@ slide-rows-requires : tie.Need-slide-rows-requires
 slide-rows-requires c κs = search needs
 
 add-width : tie.Need-add-width
-add-width c = let s = c .before .before .before .before .before .before .before in omega (arith, mul-le-mul-right (s .args .columns + s .args .across) (s .pre .rows≥))
+add-width c = let s = c .before .before .before .before .before .before .before .before .before .before in omega (arith, mul-le-mul-right (s .args .columns + s .args .across) (s .pre .rows≥))
 
 mul-slide : tie.Need-mul-slide
 mul-slide c = search needs
@@ -29,11 +30,13 @@ same-length-2 c = search needs
 
 returns : tie.Need-returns
 returns c =
-    let s = c .before .before .before .before .before .before .before .before .before .before .before .before in
+    let s = c .before .before .before .before .before .before .before .before .before .before .before .before .before .before .before in
     let a = s .args in
     let q : a .rows * (a .columns + a .across) + a .up * (a .columns + a .across) ≡ (a .rows + a .up) * (a .columns + a .across) = omega arith in
+    let r = c .before .before .before .before .before .before .before .before .before .slide-rows in
     rw q at (c .before .before .slide .ensures)
-    ∙ filled-same 0 _ _ _ _ (λ t u v. windows-slid (a .from .now) (a .scratch .now) _ (a .columns) (a .rows) (a .across) (a .up) (s .pre .columns≥) (c .before .before .before .before .before .before .before .slide-rows .ensures) (s .pre .scratch≤) t)
+    ∙ (filled-same 0 _ _ _ _ (λ t u v. windows-slid (a .from .now) (a .scratch .now) _ (a .columns) (a .rows) (a .across) (a .up) (s .pre .columns≥) (r .ensures .1) (s .pre .scratch≤) t)
+    ∙ (ap (filled 0 _ _) (r .ensures .0) ∙ filled-over _ _ _ _ _ (omega arith)))
 
 pub windows-spec : {M : Type 1} → statement M
 windows-spec =
