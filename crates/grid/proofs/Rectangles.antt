@@ -123,6 +123,10 @@ around-span-in n d x l = record {
   within = min-le-right (x + d + 1) n;
 }
 
+pub ancestor-level : (p : Plan) (x : Place) → ancestorOf p x .level ≡ nearLevel p (x .level)
+unfolding ancestorOf
+ancestor-level p x = refl
+
 pub neighbourhood-level : (p : Plan) → InRange p → (x : Place) → HasNeighbourhood p (x .level) → neighbourhood p x .level ≡ nearLevel p (x .level)
 unfolding neighbourhood around ancestorOf
 neighbourhood-level p range x has = refl

@@ -16,8 +16,9 @@ use Rattle.grid.specs.declared.Plan.{Plan}
 use types.Run.{OneOf}
 use denote.Enum.Declared.{tagOf}
 use Rattle.grid.specs.Range.{InRange}
-use Rattle.grid.specs.Plan.{inRange, ratio, grown, columnsAt, rowsAt, tooLarge, cellTotal, functionTotal}
+use Rattle.grid.specs.Plan.{inRange, columnsAt, rowsAt, tooLarge, cellTotal, functionTotal}
 use Rattle.grid.proofs.Numbering.{level-ends}
+use Rattle.grid.proofs.Sides.{across-in, up-in}
 use Rattle.mesh.specs.Mesh.{refusal3, Opened, freshCells, freshFunctions, openMesh}
 use Rattle.outcomes.specs.Calls.{Direction, coarsen, By, cells, functions, changed, Outcome, refused, settle, refusal, outcome}
 use Rattle.lines.specs.declared.Kind.{Kind}
@@ -86,14 +87,9 @@ module _ (p : Plan) (e : inRange p ≡ true) (g : tooLarge p ≡ false) where
   opening-fresh s h = rw (blank-opened, le-ltb wallCells (cellTotal p) h) refl
 
 -- a wall that is in range has cells
-grown-some : (b : ℕ) → 1 ≤ b → 1 ≤ grown 2 b 0
-unfolding grown
-grown-some b h = omega arith
-
 cells-some : (p : Plan) → InRange p → 1 ≤ cellTotal p
-unfolding ratio
 cells-some p r =
-    omega (arith, level-ends (columnsAt p) (rowsAt p) 0 (p .levels) (r .levels≥), mul-le-mul (grown-some (p .rows) (r .rows≥)) (grown-some (p .columns) (r .columns≥)))
+    omega (arith, level-ends (columnsAt p) (rowsAt p) 0 (p .levels) (r .levels≥), mul-le-mul (up-in p r 0 (r .levels≥) .cells≥) (across-in p r 0 (r .levels≥) .cells≥))
 
 -- ---- a call: what it makes of the tables and prints does not hang on what the lent lists held
 

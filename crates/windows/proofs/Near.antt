@@ -20,6 +20,7 @@ use Rattle.grid.specs.Range.{InRange, HasNeighbourhood}
 use Rattle.grid.specs.Side.{firstOver}
 use Rattle.grid.specs.Spans.{nearLevel, ancestorOf}
 use Rattle.grid.proofs.Laws.{cell-number-lt, cell-place-number, near-in}
+use Rattle.grid.proofs.Rectangles.{ancestor-level}
 use Rattle.grid.proofs.Sides.{first-lt}
 use Rattle.grid.proofs.Spans.{ancestor-in, near-neighbourhood}
 use Rattle.windows.specs.Level.{leastUnder, levelLeast, wide, high, LevelRoom, NearRoom}
@@ -85,10 +86,6 @@ module _ (p : Plan) (range : InRange p) (cells : List ℕ) (q : ℕ) where
 
 -- ---- the place where it is read
 
-above-level : (p : Plan) (x : Place) → ancestorOf p x .level ≡ nearLevel p (x .level)
-unfolding ancestorOf
-above-level p x = refl
-
 module _ (p : Plan) (x : Place) (i : CellInside p x) (has : HasNeighbourhood p (x .level)) where
   abbrev a : Place
   a = ancestorOf p x
@@ -104,7 +101,7 @@ module _ (p : Plan) (x : Place) (i : CellInside p x) (has : HasNeighbourhood p (
 
   -- on a level with two finer ones
   above-deep : InRange p → x .level + 1 < p .levels → a .level < p .levels - 2
-  above-deep range deep = rw (above-level p x) (omega (arith, has .class≢, has .level≥, range .class≢))
+  above-deep range deep = rw (ancestor-level p x) (omega (arith, has .class≢, has .level≥, range .class≢))
 
   pub index-fits : InRange p → x .level + 1 < p .levels → {n : ℕ} → NearRoom p n → nearIndex p a < n
   unfolding nearIndex
@@ -145,7 +142,7 @@ module _ (p : Plan) (range : InRange p) (cells : List ℕ) (j : ℕ) (l : j + 1 
   near-table has found start room e = record {
     made = λ x i q.
         let h : T (hasNear p (x .level)) = subst (λ (n : ℕ). T (hasNear p n)) (sym q) has in
-        let k : nearLevel p j ≡ ancestorOf p x .level = ap (nearLevel p) (sym q) ∙ sym (above-level p x) in
+        let k : nearLevel p j ≡ ancestorOf p x .level = ap (nearLevel p) (sym q) ∙ sym (ancestor-level p x) in
         rw (T-true (hasNear p (x .level)) h) (read-is p x i (has-fact p (x .level) h) range (omega (arith, q)) cells found start room (rw k at e));
   }
 
