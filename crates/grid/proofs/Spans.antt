@@ -12,7 +12,7 @@ use Rattle.grid.specs.declared.Span.{Span}
 use Rattle.grid.specs.declared.Rectangle.{Rectangle}
 use Rattle.grid.specs.Plan.{ratio, columnsAt, rowsAt, cellTotal, functionTotal, cellPlace, cellNumber, functionPlace, cellLevel, functionLevel, CellInside, FunctionInside, covers, supportedAt, supported, apart, ancestor, nearAt, near}
 use Rattle.grid.specs.Range.{InRange, HasNeighbourhood}
-use Rattle.grid.specs.Spans.{inSpan, inRectangle, aroundSpan, around, ancestorOf, neighbourhood}
+use Rattle.grid.specs.Spans.{inSpan, inRectangle, supportSpan, aroundSpan, supportOf, around, ancestorOf, neighbourhood}
 use Rattle.grid.proofs.Direction.{grown-pos, grown-ancestor}
 use Rattle.grid.proofs.Laws.{ratio-pos, apart-fact, apart-test, Near, near-fact, near-test, near-places, near-of, cell-inside, cell-number-lt, cell-place-number, function-inside}
 
@@ -76,6 +76,17 @@ pub record Covers (d i c : ℕ) : Type 0 where
   pub from : i ≤ c + d
   pub to : c ≤ i
 
+-- the code's span is document 01's
+pub span-covers : (n d i c : ℕ) → inSpan (supportSpan n d i) c ≡ covers n d i c
+unfolding supportSpan covers
+span-covers n d i c =
+    same (inSpan (supportSpan n d i) c) (covers n d i c)
+    (λ t. let k = span-fact (supportSpan n d i) c t in let a = k .from in let b = k .to in
+    and-i (leb (i - d) c) (leb c (min (n - 1) i)) (le→leb (i - d) c (omega arith)) (le→leb c (min (n - 1) i) (omega arith)))
+    (λ t. let a = leb→le (i - d) c (and-l (leb (i - d) c) (leb c (min (n - 1) i)) t) in
+    let b = leb→le c (min (n - 1) i) (and-r (leb (i - d) c) (leb c (min (n - 1) i)) t) in
+    span-test (supportSpan n d i) c (omega arith))
+
 module _ (n d i c : ℕ) (inside : c < n) where
   pub covers-fact : T (covers n d i c) → Covers d i c
   unfolding covers
@@ -97,6 +108,11 @@ module _ (n d i c : ℕ) (inside : c < n) where
         from = leb→le i (c + d) (and-r (leb c i) (leb i (c + d)) t);
         to = leb→le c i (and-l (leb c i) (leb i (c + d)) t);
       }))
+
+-- a cell lies in a function's support just where it lies in the rectangle
+pub supported-rectangle : (p : Plan) (f c : Place) → supportedAt p f c ≡ inRectangle (supportOf p f) c
+unfolding supportedAt inRectangle supportOf
+supported-rectangle p f c = simp span-covers
 
 -- what `supportedAt` tests, as facts
 pub record Supported (p : Plan) (f c : Place) : Type 0 where
@@ -146,6 +162,11 @@ module _ (p : Plan) (range : InRange p) where
   pub supported-of : (f c : ℕ) → c < cellTotal p → Supported p (functionPlace p f) (cellPlace p c) → T (supported p f c)
   unfolding supported
   supported-of f c b s = supported-test p (functionPlace p f) (cellPlace p c) (cell-inside p range c b) s
+
+  -- the cells of a function's support are those of its rectangle
+  pub supported-is : (f c : ℕ) → supported p f c ≡ inRectangle (supportOf p (functionPlace p f)) (cellPlace p c)
+  unfolding supported
+  supported-is f c = supported-rectangle p (functionPlace p f) (cellPlace p c)
 
   -- no function's support is empty
   pub support-some : (f : ℕ) → f < functionTotal p → (c : ℕ) × (c < cellTotal p) × T (supported p f c)

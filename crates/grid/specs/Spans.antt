@@ -1,5 +1,5 @@
--- The children and the neighbourhood of a cell as rectangles of cells, as code walks them. Proofs say that these are the cells that
--- have it for a parent, and those that `near` tests. Definitions only.
+-- The support of a function, the children and the neighbourhood of a cell as rectangles of cells. Proofs say that these are the cells
+-- that `supported` tests, that have the cell for a parent, and that `near` tests. Definitions only.
 use mathlib.Core.Bool.{Bool, _&&_}
 use Prim.Native.Nat.{ℕ, min, _+_, _-_, _*_}
 use lib.Dec.{leb, ltb, eqb}
@@ -16,9 +16,21 @@ inSpan s x = leb (s .first) x && ltb x (s .end)
 unfoldable pub inRectangle : Rectangle → Place → Bool
 inRectangle r c = eqb (r .level) (c .level) && (inSpan (r .columns) (c .column) && inSpan (r .rows) (c .row))
 
+-- "function i covers columns max(0, i-p) to min(n-1, i)"
+unfoldable pub supportSpan : ℕ → ℕ → ℕ → Span
+supportSpan n d i = record { first = i - d; end = min (n - 1) i + 1 }
+
 -- of n columns, those that differ by at most d from x
 unfoldable pub aroundSpan : ℕ → ℕ → ℕ → Span
 aroundSpan n d x = record { first = x - d; end = min (x + d + 1) n }
+
+-- "A function's support is the rectangle of both"
+unfoldable pub supportOf : Plan → Place → Rectangle
+supportOf p f = record {
+  level = f .level;
+  rows = supportSpan (rowsAt p (f .level)) (p .«degree_up») (f .row);
+  columns = supportSpan (columnsAt p (f .level)) (p .«degree_across») (f .column);
+}
 
 -- one direction, s columns of the next level on one: those on x
 unfoldable pub finerSpan : ℕ → ℕ → Span

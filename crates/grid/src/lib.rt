@@ -3,7 +3,7 @@ ghost use mathlib.Core.Path.{_≡_};
 ghost use Prim.Native.Nat.{_+_, _-_, _*_, _≤_, _<_};
 ghost use Rattle.grid.specs.Numbering.{Inside, offset, number, place};
 ghost use Rattle.grid.specs.Range.{InRange, Beyond, HasNeighbourhood};
-ghost use Rattle.grid.specs.Spans.{aroundSpan, childrenOf, around, ancestorOf, neighbourhood};
+ghost use Rattle.grid.specs.Spans.{supportSpan, aroundSpan, supportOf, childrenOf, around, ancestorOf, neighbourhood};
 ghost use Rattle.grid.specs.Side.{SideIn, functions, firstOver, firsts};
 ghost use Rattle.grid.specs.Plan.{between, inRange, ratio, grown, widened, columnsAt, rowsAt, acrossAt, upAt, functionColumnsAt, functionRowsAt, cellOffset, functionOffset, cellTotal, functionTotal, tooLarge, cellPlace, cellNumber, functionPlace, functionNumber, CellInside, FunctionInside, cellLevel, above, parent, ancestor};
 
@@ -63,6 +63,18 @@ fn less(x: u32, d: u32) -> u32
     ensures { λ r. ⌜ r ≡ x - d ⌝ }
 {
     if x < d { 0 } else { x - d }
+}
+
+// One direction: of `count` columns, those that function i of a degree covers.
+fn support(count: u32, degree: u32, i: u32) -> Span
+    requires { ⌜ 0 < count ⌝ }
+    ensures { λ r. ⌜ r ≡ supportSpan count degree i ⌝ }
+{
+    let first = less(i, degree);
+    if i < count {
+        return Span { first, end: i + 1 };
+    }
+    Span { first, end: count }
 }
 
 // One direction: of `count` columns, those at most d from x.
@@ -370,6 +382,24 @@ impl Plan {
         ensures { λ r. ⌜ r .0 ≡ parent self (cell .0) ⌝ }
     {
         self.cell_number(self.above(self.cell_place(cell)))
+    }
+
+    // The support of the function at a place.
+    pub fn support_of(self, place: Place) -> Rectangle
+        requires { ⌜ InRange self ⌝ }
+        requires { ⌜ place .level < self .levels ⌝ }
+        ensures { λ r. ⌜ r ≡ supportOf self place ⌝ }
+    {
+        let level = place.level;
+        let row = place.row;
+        let column = place.column;
+        let rows = support(self.rows_at(level), self.degree_up, row);
+        let columns = support(self.columns_at(level), self.degree_across, column);
+        Rectangle {
+            level,
+            rows,
+            columns,
+        }
     }
 
     // The children of the cell at a place.
