@@ -8,3 +8,4 @@ pub mod Turns
 pub mod Mapped
 pub mod Zeros
 pub mod Rows
+pub mod Writing

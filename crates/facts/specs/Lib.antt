@@ -3,3 +3,4 @@ pub mod Numbers
 pub mod Least
 pub mod Ranges
 pub mod Mapped
+pub mod Writing

@@ -1,71 +1,22 @@
--- Laws of writing into a buffer, and of the texts that are written. Assumes nothing.
+-- Laws of the texts that are written. Assumes nothing.
 use mathlib.Core.Path.{_≡_, refl, sym, ap, _∙_}
 use mathlib.Core.Bool.{Bool, true, false, cond}
 use mathlib.Core.List.{List, [], _∷_, _++_, append-assoc}
 use Prim.Native.Nat.{ℕ, zero, suc, _+_, _*_, _/_, _%_, _^_, _≤_, _<_}
-use native.Mathlib.Nat.{add-zero, zero-add, pow-suc}
+use native.Mathlib.Nat.{zero-add, pow-suc}
 use native.Mathlib.Numerals.{add-one}
 use native.Mathlib.Omega.{arith}
-use lib.ListN.{length, getD, set, take, drop, length-append, length-drop, take-append-drop, drop-of-length-le}
-use lib.Seq.{length-take-le, drop-cons, drop-drop, set-split, take-at, drop-at}
+use lib.ListN.{length, getD, drop, length-append, drop-of-length-le}
+use lib.Seq.{length-take-le, drop-cons}
 use lib.Dec.{leb, ltb}
 use borrow.Author.Tests.{lt-ltb, le-ltb, leb-true, leb-false}
 use Rattle.lines.specs.Text.{Counts}
 use Rattle.lines.specs.Writing.{lastDigits, digits, spaced, items, answer, answerRoom, Prints}
-use Rattle.lines.specs.Steps.{written, Writes}
+use Rattle.facts.specs.Writing.{writtenAt, Writes}
+use Rattle.facts.proofs.Writing.{writes-length}
 
 pub counts : (n : ℕ) (xs : List ℕ) → n ≤ length xs → Counts n xs
 counts n xs h = (h, sym (length-take-le n xs h))
-
--- ---- a text in a buffer
-
-module _ (out : List ℕ) (at : ℕ) where
-  pub written-none : written out at [] ≡ out
-  unfolding written
-  written-none = rw add-zero (take-append-drop at out)
-
-  pub written-byte : (b : ℕ) → at < length out → set out at b ≡ written out at (b ∷ [])
-  unfolding written
-  written-byte b h = rw add-one (set-split out at b h)
-
-  module _ (xs : List ℕ) (h : at + length xs ≤ length out) where
-    front : length (take at out ++ xs) ≡ at + length xs
-    front = length-append (take at out) xs ∙ ap (λ (n : ℕ). n + length xs) (length-take-le at out (omega arith))
-
-    pub length-written : length (written out at xs) ≡ length out
-    unfolding written
-    length-written =
-        ap length (sym (append-assoc (take at out) xs (drop (at + length xs) out)))
-        ∙ omega (arith, length-append (take at out ++ xs) (drop (at + length xs) out), front, length-drop (at + length xs) out)
-
-    pub written-more : (ys : List ℕ) → written (written out at xs) (at + length xs) ys ≡ written out at (xs ++ ys)
-    unfolding written
-    written-more ys =
-        let whole = append-assoc (take at out) xs (drop (at + length xs) out) in
-        let t : take (at + length xs) (written out at xs) ≡ take at out ++ xs = ap (take (at + length xs)) (sym whole) ∙ take-at (take at out ++ xs) (drop (at + length xs) out) (at + length xs) front in
-        let d : drop (at + length xs) (written out at xs) ≡ drop (at + length xs) out = ap (drop (at + length xs)) (sym whole) ∙ drop-at (take at out ++ xs) (drop (at + length xs) out) (at + length xs) front in
-        let n : at + length xs + length ys ≡ at + length (xs ++ ys) = omega (arith, length-append xs ys) in
-        let e : drop (at + length xs + length ys) (written out at xs) ≡ drop (at + length (xs ++ ys)) out =
-        sym (drop-drop (length ys) (at + length xs) (written out at xs)) ∙ ap (drop (length ys)) d ∙ drop-drop (length ys) (at + length xs) out ∙ ap (λ (m : ℕ). drop m out) n in
-        ap (λ (x : List ℕ). x ++ (ys ++ drop (at + length xs + length ys) (written out at xs))) t
-        ∙ ap (λ (x : List ℕ). take at out ++ xs ++ (ys ++ x)) e
-        ∙ append-assoc (take at out) xs (ys ++ drop (at + length (xs ++ ys)) out)
-        ∙ ap (λ (x : List ℕ). take at out ++ x) (sym (append-assoc xs ys (drop (at + length (xs ++ ys)) out)))
-
-pub writes-none : (out : List ℕ) (at : ℕ) → Writes out at [] at out
-writes-none out at = record { end = omega arith; bytes = sym (written-none out at) }
-
--- a text behind another
-pub writes-more : {out : List ℕ} {at : ℕ} {xs ys : List ℕ} {e f : ℕ} {mid new : List ℕ} → at + length xs ≤ length out
-    → Writes out at xs e mid → Writes mid e ys f new → Writes out at (xs ++ ys) f new
-writes-more {out} {at} {xs} {ys} {e} {f} {mid} {new} h a b =
-    record {
-      end = omega (arith, a .end, b .end, length-append xs ys);
-      bytes = b .bytes ∙ ap (λ (x : List ℕ). written x e ys) (a .bytes) ∙ ap (λ (n : ℕ). written (written out at xs) n ys) (a .end) ∙ written-more out at xs h ys;
-    }
-
-pub writes-length : {out : List ℕ} {at : ℕ} {xs : List ℕ} {e : ℕ} {new : List ℕ} → at + length xs ≤ length out → Writes out at xs e new → length new ≡ length out
-writes-length {out} {at} {xs} h a = ap length (a .bytes) ∙ length-written out at xs h
 
 -- ---- a given text
 
@@ -170,7 +121,7 @@ module _ (n : ℕ) (cells functions : List ℕ) where
 
 -- a text at the start of a buffer, where there is room
 pub prints : {room : Bool} {out text : List ℕ} {r : ℕ} {new : List ℕ} → room ≡ true → length text ≤ length out → Writes out 0 text r new → Prints room out text r new
-unfolding written
+unfolding writtenAt
 prints {room} {out} {text} {r} {new} e h w =
     let l : r ≤ length new = omega (arith, w .end, writes-length (omega arith) w) in
     rw e (record { count = w .end ∙ zero-add (length text); bytes = w .bytes ∙ rw zero-add refl; inside = counts r new l })

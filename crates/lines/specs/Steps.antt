@@ -1,9 +1,9 @@
 -- What the contracts of the parts cite; the contracts that others see do not. Assumes nothing: these are definitions.
 use mathlib.Core.Path.{_≡_}
 use mathlib.Core.Bool.{cond}
-use mathlib.Core.List.{List, [], _∷_, _++_}
+use mathlib.Core.List.{List, [], _∷_}
 use Prim.Native.Nat.{ℕ, _+_, _≤_}
-use lib.ListN.{length, take, drop}
+use lib.ListN.{length, drop}
 use Rattle.lines.specs.declared.Field.{Field}
 use Rattle.lines.specs.Reading.{upTo, parts, numberOf, allNumbers}
 
@@ -24,11 +24,3 @@ pub record ReadsField (s : List ℕ) (at : ℕ) (field : Field) : Type 0 where
   pub number : field .number ≡ numberOf (upTo 32 (drop (at + 1) s))
   pub end : field .end ≡ at + 1 + length (upTo 32 (drop (at + 1) s))
   pub inside : field .end ≤ length s
-
--- a buffer after a text is written at a place of it
-unfoldable pub written : List ℕ → ℕ → List ℕ → List ℕ
-written out at text = take at out ++ (text ++ drop (at + length text) out)
-
-pub record Writes (old : List ℕ) (at : ℕ) (text : List ℕ) (r : ℕ) (new : List ℕ) : Type 0 where
-  pub end : r ≡ at + length text
-  pub bytes : new ≡ written old at text

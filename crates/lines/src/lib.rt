@@ -7,7 +7,8 @@ ghost use lib.Dec.{leb};
 ghost use lib.ListN.{length, drop};
 ghost use Rattle.lines.specs.Reading.{upTo, valueOf, numberOf, allNumbers, same as same·bytes, kindOf, fits as fits·count, EndsLine, Reads};
 ghost use Rattle.lines.specs.Writing.{digits, spaced, items, answer as answer·line, question as question·line, large as large·line, answerRoom, Prints};
-ghost use Rattle.lines.specs.Steps.{fieldsBehind, counted, ReadsField, Writes};
+ghost use Rattle.lines.specs.Steps.{fieldsBehind, counted, ReadsField};
+ghost use Rattle.facts.specs.Writing.{Writes};
 
 // A field of a line, read as a number of 32 bits.
 enum Number {

@@ -3,7 +3,8 @@ use mathlib.Core.Path.{ap, _∙_}
 use native.Mathlib.Omega.{arith}
 use borrow.Author.Needs.{needs}
 use lib.ListN.{length}
-use Rattle.lines.proofs.Output.{digits-one, digits-more, digits-longer, writes-more}
+use Rattle.lines.proofs.Output.{digits-one, digits-more, digits-longer}
+use Rattle.facts.proofs.Writing.{writes-more}
 use Prim.Native.Nat.{ℕ, _<_}
 use borrow.Fn.Kinds.{In}
 use borrow.Fn.PlainCycle.{Measures, is, falls, and}

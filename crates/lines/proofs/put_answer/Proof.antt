@@ -1,7 +1,8 @@
 -- `put_answer` meets its contract, part by part. Assumes nothing.
 use native.Mathlib.Omega.{arith}
 use borrow.Author.Needs.{needs}
-use Rattle.lines.proofs.Output.{length-digits, list-short, answer-parts, writes-more}
+use Rattle.lines.proofs.Output.{length-digits, list-short, answer-parts}
+use Rattle.facts.proofs.Writing.{writes-more}
 use Rattle.lines.proofs.put_answer.Statement.{statement}
 use Rattle.lines.proofs.put_answer.Tie as tie
 

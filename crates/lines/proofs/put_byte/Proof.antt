@@ -1,6 +1,6 @@
 -- `put_byte` meets its contract. Assumes nothing.
 use mathlib.Core.Path.{refl}
-use Rattle.lines.proofs.Output.{written-byte}
+use Rattle.facts.proofs.Writing.{written-byte}
 use borrow.Author.Needs.{needs}
 use Rattle.lines.proofs.put_byte.Statement.{statement}
 use Rattle.lines.proofs.put_byte.Tie as tie

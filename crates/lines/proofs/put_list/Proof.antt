@@ -3,7 +3,8 @@ use mathlib.Core.Path.{ap}
 use native.Mathlib.Omega.{arith}
 use borrow.Author.Needs.{needs}
 use lib.ListN.{length}
-use Rattle.lines.proofs.Output.{list-none, list-some, list-longer, writes-more}
+use Rattle.lines.proofs.Output.{list-none, list-some, list-longer}
+use Rattle.facts.proofs.Writing.{writes-more}
 use Rattle.lines.proofs.put_list.Statement.{statement}
 use Rattle.lines.proofs.put_list.Tie as tie
 

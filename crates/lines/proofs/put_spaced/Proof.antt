@@ -6,8 +6,9 @@ use borrow.Author.Needs.{needs}
 use mathlib.Core.List.{List}
 use lib.ListN.{length, getD, drop}
 use Rattle.lines.specs.Writing.{digits, spaced}
-use Rattle.lines.specs.Steps.{Writes}
-use Rattle.lines.proofs.Output.{spaced-end, spaced-next, spaced-longer, writes-none, writes-more}
+use Rattle.facts.specs.Writing.{Writes}
+use Rattle.lines.proofs.Output.{spaced-end, spaced-next, spaced-longer}
+use Rattle.facts.proofs.Writing.{writes-none, writes-more}
 use Rattle.lines.proofs.put_spaced.Statement.{statement}
 use Rattle.lines.proofs.put_spaced.Tie as tie
 

@@ -1,12 +1,13 @@
 -- `put_text` meets its contract: whoever writes what is left has written the whole text. Assumes nothing.
 use mathlib.Core.Path.{_≡_, refl, _∙_}
-use Rattle.lines.specs.Steps.{Writes}
+use Rattle.facts.specs.Writing.{Writes}
 use Prim.Native.Nat.{ℕ, _+_, _-_, _≤_, _<_}
 use native.Mathlib.Omega.{arith}
 use borrow.Author.Needs.{needs}
 use mathlib.Core.List.{List}
 use lib.ListN.{length, drop, length-drop, drop-of-length-le}
-use Rattle.lines.proofs.Output.{text-next, writes-none, writes-more}
+use Rattle.lines.proofs.Output.{text-next}
+use Rattle.facts.proofs.Writing.{writes-none, writes-more}
 use Rattle.lines.proofs.put_text.Statement.{statement}
 use Rattle.lines.proofs.put_text.Tie as tie
 
