@@ -1,0 +1,134 @@
+-- A number read group by group at a place of the bytes, and the bytes of one writtenAt. Assumes nothing.
+use mathlib.Core.Path.{_≡_, refl, ap, _∙_}
+use mathlib.Core.List.{List, [], _∷_, append-assoc}
+use Prim.Native.Nat.{ℕ, zero, suc, _+_, _-_, _*_, _/_, _%_, _<_, _≤_}
+use native.Mathlib.Numerals.{add-one}
+use native.Mathlib.Omega.{arith}
+use lib.ListN.{length, getD, take, drop, set, drop-of-length-le}
+use lib.Seq.{drop-cons, sets, sets-eq}
+use borrow.Author.Tests.{lt-ltb, le-ltb, ne-eqb, eq-eqb}
+use Rattle.codec.specs.Numbers.{Decoded, bad, got, above, decodeGroups, decodeNumber, encodeGroups, encodeNumber}
+use Rattle.codec.specs.Steps.{Found}
+use Rattle.facts.specs.Writing.{writtenAt, Writes}
+
+-- ---- one group
+
+cut : (k : ℕ) (s : List ℕ) (at : ℕ) → length s ≤ at → decodeGroups k (drop at s) ≡ bad
+unfolding decodeGroups
+cut zero s at h = refl
+cut (suc k) s at h = rw (drop-of-length-le s h) refl
+
+cut-none : (s : List ℕ) (at : ℕ) → decodeGroups 0 (drop at s) ≡ bad
+unfolding decodeGroups
+cut-none s at = refl
+
+module _ (k : ℕ) (s : List ℕ) (at x : ℕ) (h : at < length s) (e : x ≡ getD s at 0) where
+  here : drop at s ≡ x ∷ drop (at + 1) s
+  here = rw (e, add-one) (drop-cons s at 0 h)
+
+  group-last : x < 128 → decodeGroups (suc k) (drop at s) ≡ got x (drop (at + 1) s)
+  unfolding decodeGroups
+  group-last l = ap (decodeGroups (suc k)) here ∙ rw (lt-ltb x 128 l) refl
+
+  group-more : 128 ≤ x → x < 256 → decodeGroups (suc k) (drop at s) ≡ above (x - 128) (decodeGroups k (drop (at + 1) s))
+  unfolding decodeGroups
+  group-more l m = ap (decodeGroups (suc k)) here ∙ rw (le-ltb x 128 l, lt-ltb x 256 m) refl
+
+above-bad : (low : ℕ) (r : Decoded) → r ≡ bad → above low r ≡ bad
+unfolding above
+above-bad low r e = rw e refl
+
+above-zero : (low n : ℕ) (r : Decoded) (s : List ℕ) → r ≡ got n s → n ≡ 0 → above low r ≡ bad
+unfolding above
+above-zero low n r s e z = rw (e, eq-eqb n 0 z) refl
+
+above-got : (low n : ℕ) (r : Decoded) (s : List ℕ) → r ≡ got n s → (n ≡ 0 → ⊥) → above low r ≡ got (low + 128 * n) s
+unfolding above
+above-got low n r s e z = rw (e, ne-eqb n 0 z) refl
+
+-- ---- a number at a place
+
+pub read-none : (s : List ℕ) (at : ℕ) → length s ≤ at → decodeNumber (drop at s) ≡ bad
+unfolding decodeNumber
+read-none s at h = cut 3 s at h
+
+module _ (s : List ℕ) (at x : ℕ) (h : at < length s) (e : x ≡ getD s at 0) where
+  pub read-one : x < 128 → Found s at x (at + 1)
+  unfolding decodeNumber
+  read-one l = record { reads = group-last 2 s at x h e l; forward = omega arith; inside = omega arith; small = omega arith }
+
+  module _ (l : 128 ≤ x) (m : x < 256) where
+    pub read-cut : length s ≤ at + 1 → decodeNumber (drop at s) ≡ bad
+    unfolding decodeNumber
+    read-cut g = group-more 2 s at x h e l m ∙ above-bad (x - 128) _ (cut 2 s (at + 1) g)
+
+    module _ (y : ℕ) (h₂ : at + 1 < length s) (e₂ : y ≡ getD s (at + 1) 0) where
+      pub read-long : y ≡ 0 → decodeNumber (drop at s) ≡ bad
+      unfolding decodeNumber
+      read-long z = group-more 2 s at x h e l m ∙ above-zero (x - 128) y _ _ (group-last 1 s (at + 1) y h₂ e₂ (omega arith)) z
+
+      pub read-two : (y ≡ 0 → ⊥) → y < 128 → Found s at ((x - 128) + 128 * y) (at + 1 + 1)
+      unfolding decodeNumber
+      read-two z g = record {
+        reads = group-more 2 s at x h e l m ∙ above-got (x - 128) y _ _ (group-last 1 s (at + 1) y h₂ e₂ g) z;
+        forward = omega arith;
+        inside = omega arith;
+        small = omega arith;
+      }
+
+      module _ (l₂ : 128 ≤ y) (m₂ : y < 256) where
+        pub read-cut-2 : length s ≤ at + 1 + 1 → decodeNumber (drop at s) ≡ bad
+        unfolding decodeNumber
+        read-cut-2 g = group-more 2 s at x h e l m ∙ above-bad (x - 128) _ (group-more 1 s (at + 1) y h₂ e₂ l₂ m₂ ∙ above-bad (y - 128) _ (cut 1 s (at + 1 + 1) g))
+
+        module _ (w : ℕ) (h₃ : at + 1 + 1 < length s) (e₃ : w ≡ getD s (at + 1 + 1) 0) where
+          pub read-long-2 : w ≡ 0 → decodeNumber (drop at s) ≡ bad
+          unfolding decodeNumber
+          read-long-2 z = group-more 2 s at x h e l m ∙ above-bad (x - 128) _ (group-more 1 s (at + 1) y h₂ e₂ l₂ m₂
+              ∙ above-zero (y - 128) w _ _ (group-last 0 s (at + 1 + 1) w h₃ e₃ (omega arith)) z)
+
+          pub read-three : (w ≡ 0 → ⊥) → w < 128 → Found s at ((x - 128) + 128 * ((y - 128) + 128 * w)) (at + 1 + 1 + 1)
+          unfolding decodeNumber
+          read-three z g =
+              let p : ((y - 128) + 128 * w ≡ 0 → ⊥) = λ q. omega arith in
+              record {
+                reads = group-more 2 s at x h e l m ∙ above-got (x - 128) ((y - 128) + 128 * w) _ _ (group-more 1 s (at + 1) y h₂ e₂ l₂ m₂
+                    ∙ above-got (y - 128) w _ _ (group-last 0 s (at + 1 + 1) w h₃ e₃ g) z) p;
+                forward = omega arith;
+                inside = omega arith;
+                small = omega arith;
+              }
+
+          pub read-four : 128 ≤ w → w < 256 → decodeNumber (drop at s) ≡ bad
+          unfolding decodeNumber
+          read-four g f = group-more 2 s at x h e l m ∙ above-bad (x - 128) _ (group-more 1 s (at + 1) y h₂ e₂ l₂ m₂
+              ∙ above-bad (y - 128) _ (group-more 0 s (at + 1 + 1) w h₃ e₃ g f ∙ above-bad (w - 128) _ (cut-none s (at + 1 + 1 + 1))))
+
+-- ---- the bytes of a number
+
+pub bytes-one : (n : ℕ) → n < 128 → encodeNumber n ≡ n ∷ []
+unfolding encodeNumber encodeGroups
+bytes-one n h = rw (lt-ltb n 128 h) refl
+
+pub bytes-two : (n : ℕ) → 128 ≤ n → n < 16384 → encodeNumber n ≡ (128 + n % 128) ∷ (n / 128) ∷ []
+unfolding encodeNumber encodeGroups
+bytes-two n l h = rw (le-ltb n 128 l, lt-ltb (n / 128) 128 (omega arith)) refl
+
+pub bytes-three : (n : ℕ) → 16384 ≤ n → n < 2097152 → encodeNumber n ≡ (128 + n % 128) ∷ (128 + n / 128 % 128) ∷ (n / 16384) ∷ []
+unfolding encodeNumber encodeGroups
+bytes-three n l h =
+    let e : n / 128 / 128 ≡ n / 16384 = omega arith in
+    rw (le-ltb n 128 (omega arith), le-ltb (n / 128) 128 (omega arith), e, lt-ltb (n / 16384) 128 (omega arith)) refl
+
+-- a run of stores writes
+pub writes : (old : List ℕ) (at : ℕ) (text text′ : List ℕ) (r : ℕ) → text ≡ text′ → at + length text ≤ length old → r ≡ at + length text′ → Writes old at text r (sets old at text′)
+unfolding writtenAt
+writes old at text text′ r e h q = rw e (record { end = q; bytes = sets-eq text′ old at (rw e at h) ∙ append-assoc (take at old) text′ (drop (at + length text′) old) })
+
+pub two-stores : (old : List ℕ) (at a b : ℕ) → sets old at (a ∷ b ∷ []) ≡ set (set old at a) (at + 1) b
+two-stores old at a b = rw add-one refl
+
+pub three-stores : (old : List ℕ) (at a b d : ℕ) → sets old at (a ∷ b ∷ d ∷ []) ≡ set (set (set old at a) (at + 1) b) (at + 2) d
+three-stores old at a b d =
+    let e : at + 2 ≡ suc (suc at) = omega arith in
+    rw (e, add-one) refl

@@ -1,0 +1,98 @@
+// The numbers of a mesh's file: groups of seven bits, lowest first, the high bit on all but the last.
+ghost use mathlib.Core.Path.{_≡_};
+ghost use Prim.Native.Nat.{_+_, _≤_, _<_};
+ghost use lib.ListN.{length};
+ghost use Rattle.facts.specs.Writing.{Writes};
+ghost use Rattle.codec.specs.Numbers.{encodeNumber};
+ghost use Rattle.codec.specs.Steps.{ReadsAt};
+
+// A place in the bytes.
+pub struct Cursor {
+    pub at: usize,
+}
+
+// A number that was read, and the place behind it; or bytes that are no number.
+pub enum Step {
+    Number(u32, Cursor),
+    Bad,
+}
+
+fn wide(x: u8) -> u32
+    ensures { λ r. ⌜ r ≡ x ⌝ }
+{
+    x as u32
+}
+
+// The number at a place.
+pub fn read(s: &[u8], c: Cursor) -> Step
+    ensures { λ r. ⌜ ReadsAt (now (s .entry)) (c .at) r ⌝ }
+{
+    let at = c.at;
+    if s.len() <= at {
+        return Step::Bad;
+    }
+    let low = wide(s[at]);
+    let at2 = at + 1;
+    if low < 128 {
+        return Step::Number(low, Cursor { at: at2 });
+    }
+    if s.len() <= at2 {
+        return Step::Bad;
+    }
+    let mid = wide(s[at2]);
+    let at3 = at2 + 1;
+    if mid == 0 {
+        return Step::Bad;
+    }
+    if mid < 128 {
+        return Step::Number((low - 128) + 128 * mid, Cursor { at: at3 });
+    }
+    if s.len() <= at3 {
+        return Step::Bad;
+    }
+    let high = wide(s[at3]);
+    let at4 = at3 + 1;
+    if high == 0 {
+        return Step::Bad;
+    }
+    if high < 128 {
+        return Step::Number(
+            (low - 128) + 128 * ((mid - 128) + 128 * high),
+            Cursor { at: at4 },
+        );
+    }
+    Step::Bad
+}
+
+// How many bytes a number takes.
+pub fn size(n: u32) -> usize
+    requires { ⌜ n < 2097152 ⌝ }
+    ensures { λ r. ⌜ r ≡ length (encodeNumber n) ⌝ }
+{
+    if n < 128 {
+        1
+    } else {
+        if n < 16384 { 2 } else { 3 }
+    }
+}
+
+// A number put at a place; the place behind it.
+pub fn write(out: &mut [u8], at: usize, n: u32) -> usize
+    requires { ⌜ n < 2097152 ⌝ }
+    requires { ⌜ at + length (encodeNumber n) ≤ length (now out) ⌝ }
+    ensures { λ r. ⌜ Writes (now (out .entry)) at (encodeNumber n) r (now (out .exit)) ⌝ }
+{
+    if n < 128 {
+        out[at] = n as u8;
+        return at + 1;
+    }
+    if n < 16384 {
+        out[at] = 128 + (n % 128) as u8;
+        out[at + 1] = (n / 128) as u8;
+        return at + 2;
+    }
+    out[at] = 128 + (n % 128) as u8;
+    out[at + 1] = 128 + (n / 128 % 128) as u8;
+    out[at + 2] = (n / 16384) as u8;
+    at + 3
+}

@@ -1,0 +1,4 @@
+pub mod Judging
+pub mod Cells
+pub mod Marking
+pub mod Tables
