@@ -1,22 +1,15 @@
--- The table marked at the refined cells of another has the same refined cells; what a caller hands to `mark_cells`. Assumes nothing.
+-- A table after listed cells are refined in it. Assumes nothing.
 use mathlib.Core.Path.{_≡_, refl, _∙_}
 use mathlib.Core.Bool.{Bool, true, false}
 use mathlib.Core.List.{List, [], _∷_}
-use Prim.Native.Nat.{ℕ, _-_, _<_, _≤_}
+use Prim.Native.Nat.{ℕ, _-_, _<_}
 use lib.Dec.{T, eqb, eqb→eq, eqb-refl}
-use lib.ListN.{length, getD, set, drop, length-set}
+use lib.ListN.{length, getD, set, length-set}
 use lib.Seq.{getD-set-same, getD-set-other}
 use borrow.Author.Tests.{eqb-true, eqb-false}
 use Rattle.facts.specs.Numbers.{elem}
 use Rattle.facts.proofs.Tests.{or-e, or-l, or-r}
-use Rattle.codec.specs.File.{gotFile, encodeFile, decodeFile}
-use Rattle.codec.specs.Numbers.{Small}
-use Rattle.codec.proofs.File.{file-whole}
-use Rattle.reading.specs.declared.Heading.{Heading}
-use Rattle.listing.specs.Cells.{refinedBelow, marked, Markable}
-use Rattle.listing.proofs.Cells.{refined-rising}
-
--- ---- a table after marking
+use Rattle.listing.specs.Cells.{marked}
 
 pub marked-length : (cs t : List ℕ) → length (marked cs t) ≡ length t
 unfolding marked
@@ -47,13 +40,3 @@ marked-no [] t x m = refl
 marked-no (c ∷ cs) t x m =
     marked-no cs (set t c 2) x (λ n. m (or-r (eqb x c) (elem x cs) n))
     ∙ getD-set-other t c x 2 0 (λ e. m (or-l (eqb x c) (elem x cs) (rw e (eqb-refl c))))
-
--- ---- the file of a table's refined cells
-
-pub table-file : (plan table : List ℕ) → length plan ≡ 6 → Small plan → length (refinedBelow table (length table)) < 2097152 → length table ≤ 2097152
-    → decodeFile (encodeFile plan (refinedBelow table (length table))) ≡ gotFile plan (refinedBelow table (length table)) []
-table-file plan table six small few h = file-whole (record { six = six; plain = small; few = few; rising = refined-rising table (length table) h .0 })
-
--- what `judge` gives is what `mark_cells` asks
-pub markable : (s : List ℕ) (h : Heading) (size : ℕ) → GoodFile s h → h .last < size → Markable s (h .first) (h .count) size
-markable s h size g l = record { last = h .last; rest = drop (h .end) s; reads = g .cells; below = l }
