@@ -2,10 +2,12 @@
 use mathlib.Core.Path.{_≡_, refl, sym, ap, _∙_}
 use mathlib.Core.Bool.{Bool, true, false, cond}
 use mathlib.Core.List.{List, [], _∷_, _++_, append-assoc}
-use Prim.Native.Nat.{ℕ, zero, suc, _+_, _-_, _<_}
+use Prim.Native.Nat.{ℕ, zero, suc, _+_, _-_, _<_, _≤_}
 use native.Mathlib.Omega.{arith}
 use lib.Dec.{eqb}
-use lib.ListN.{length}
+use native.Mathlib.Numerals.{add-one}
+use lib.ListN.{length, getD, drop, length-append, drop-of-length-le}
+use lib.Seq.{drop-cons}
 use borrow.Author.Tests.{eqb-false, ne-eqb}
 use Rattle.codec.specs.Numbers.{Decoded, bad, got, Many, badMany, gotMany, encodeNumber, encodeNumbers, decodeNumber, front, onward, decodeNumbers, Small, none, more, encodeBehind, encodeRising, decodeBehind, decodeRising, Behind, last, next, Rising, empty, first}
 use Rattle.codec.proofs.Numbers.{none-many, number-round, number-canonical}
@@ -126,3 +128,22 @@ rising-canonical (suc k) s cs rest e =
       rises = first h (i .rises);
       count = ap suc (i .count);
     })))
+
+-- ---- numbers one by one, of a list from a place on
+
+module _ (l : List ℕ) (i : ℕ) where
+  pub numbers-next : i < length l → encodeNumbers (drop i l) ≡ encodeNumber (getD l i 0) ++ encodeNumbers (drop (i + 1) l)
+  unfolding encodeNumbers
+  numbers-next h = rw (drop-cons l i 0 h, add-one) refl
+
+  pub numbers-longer : i < length l → length (encodeNumbers (drop i l)) ≡ length (encodeNumber (getD l i 0)) + length (encodeNumbers (drop (i + 1) l))
+  numbers-longer h = ap length (numbers-next h) ∙ length-append (encodeNumber (getD l i 0)) (encodeNumbers (drop (i + 1) l))
+
+  pub numbers-end : length l ≤ i → encodeNumbers (drop i l) ≡ []
+  unfolding encodeNumbers
+  numbers-end h = rw (drop-of-length-le l h) refl
+
+pub small-at : {l : List ℕ} → Small l → (i : ℕ) → i < length l → getD l i 0 < 2097152
+small-at none i h = absurd (let w : ⊥ = omega arith in w)
+small-at (more n ns) zero h = n
+small-at (more n ns) (suc i) h = small-at ns i (omega arith)

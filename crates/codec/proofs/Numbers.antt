@@ -1,10 +1,11 @@
 -- Reading a number gives back what was writtenAt, and only what is writtenAt so is read. Assumes nothing.
 use mathlib.Core.Path.{_≡_, refl, ap}
-use mathlib.Core.Bool.{Bool, true, false}
+use mathlib.Core.Bool.{Bool, true, false, cond}
 use mathlib.Core.List.{List, [], _∷_, _++_}
 use Prim.Native.Nat.{ℕ, zero, suc, _+_, _-_, _*_, _/_, _%_, _<_, _≤_}
 use native.Mathlib.Omega.{arith}
 use lib.Dec.{ltb, eqb}
+use lib.ListN.{length}
 use borrow.Author.Tests.{ltb-true, ltb-false, eqb-false, lt-ltb, le-ltb, ne-eqb}
 use Rattle.codec.specs.Numbers.{limit, Decoded, bad, got, badMany, gotMany, encodeGroups, encodeNumber, above, decodeGroups, decodeNumber}
 
@@ -88,3 +89,18 @@ groups-canonical (suc k) (b ∷ s) n rest e = go (ltb b 128) refl (ltb b 256) re
 pub number-canonical : {n : ℕ} {rest : List ℕ} (s : List ℕ) → decodeNumber s ≡ got n rest → (s ≡ encodeNumber n ++ rest) × (n < 2097152)
 unfolding limit encodeNumber decodeNumber
 number-canonical {n} {rest} s e = let c = groups-canonical 3 s n rest e in (c .bytes, c .small)
+
+-- ---- no number takes more than three bytes
+
+groups-short : (k n : ℕ) → length (encodeGroups k n) ≤ k
+unfolding encodeGroups
+groups-short zero n = omega arith
+groups-short (suc k) n = go (ltb n 128) (groups-short k (n / 128))
+  where
+    go : (b : Bool) → length (encodeGroups k (n / 128)) ≤ k → length (cond b (n ∷ []) ((128 + n % 128) ∷ encodeGroups k (n / 128))) ≤ suc k
+    go true h = omega arith
+    go false h = omega arith
+
+pub short : (n : ℕ) → length (encodeNumber n) ≤ 3
+unfolding encodeNumber
+short n = groups-short 3 n

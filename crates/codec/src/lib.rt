@@ -3,7 +3,7 @@ ghost use mathlib.Core.Path.{_≡_};
 ghost use Prim.Native.Nat.{_+_, _≤_, _<_};
 ghost use lib.ListN.{length};
 ghost use Rattle.facts.specs.Writing.{Writes};
-ghost use Rattle.codec.specs.Numbers.{encodeNumber};
+ghost use Rattle.codec.specs.Numbers.{encodeNumber, encodeNumbers, Small};
 ghost use Rattle.codec.specs.Steps.{ReadsAt};
 
 // A place in the bytes.
@@ -95,4 +95,34 @@ pub fn write(out: &mut [u8], at: usize, n: u32) -> usize
     out[at + 1] = 128 + (n / 128 % 128) as u8;
     out[at + 2] = (n / 16384) as u8;
     at + 3
+}
+
+// How many bytes some numbers take.
+pub fn size_all(numbers: &[u32]) -> usize
+    requires { ⌜ Small (now numbers) ⌝ }
+    requires { ⌜ length (now numbers) ≤ 2097152 ⌝ }
+    ensures { λ r. ⌜ r ≡ length (encodeNumbers (now (numbers .entry))) ⌝ }
+{
+    let mut bytes: usize = 0;
+    let mut i = 0;
+    while i < numbers.len() {
+        bytes += size(numbers[i]);
+        i += 1;
+    }
+    bytes
+}
+
+// Numbers put at a place, one behind another; the place behind them.
+pub fn write_all(numbers: &[u32], out: &mut [u8], at: usize) -> usize
+    requires { ⌜ Small (now numbers) ⌝ }
+    requires { ⌜ at + length (encodeNumbers (now numbers)) ≤ length (now out) ⌝ }
+    ensures { λ r. ⌜ Writes (now (out .entry)) at (encodeNumbers (now (numbers .entry))) r (now (out .exit)) ⌝ }
+{
+    let mut end = at;
+    let mut i = 0;
+    while i < numbers.len() {
+        end = write(out, end, numbers[i]);
+        i += 1;
+    }
+    end
 }

@@ -116,19 +116,6 @@ module _ (table : List ℕ) where
 
 -- ---- a turn of the loops
 
-groups-short : (k n : ℕ) → length (encodeGroups k n) ≤ k
-unfolding encodeGroups
-groups-short zero n = omega arith
-groups-short (suc k) n = go (ltb n 128) (groups-short k (n / 128))
-  where
-    go : (b : Bool) → length (encodeGroups k (n / 128)) ≤ k → length (cond b (n ∷ []) ((128 + n % 128) ∷ encodeGroups k (n / 128))) ≤ suc k
-    go true h = omega arith
-    go false h = omega arith
-
-pub short : (n : ℕ) → length (encodeNumber n) ≤ 3
-unfolding encodeNumber
-short n = groups-short 3 n
-
 module _ (table : List ℕ) (i last : ℕ) (e : getD table i 0 ≡ 2) (l : last ≡ lastOf 0 (refinedBelow table i)) where
   bytes-more : refinedBytes table (i + 1) ≡ refinedBytes table i ++ encodeNumber (i - last)
   bytes-more = rw l (bytes-yes table i e)

@@ -7,7 +7,8 @@ use borrow.Author.Needs.{needs}
 use lib.ListN.{length}
 use Rattle.listing.specs.Judged.{lastOf}
 use Rattle.listing.specs.Cells.{refinedBelow, refinedBytes}
-use Rattle.listing.proofs.Cells.{refined-none, refined-no, count-yes, bytes-none, bytes-no, last-none, last-yes, last-no, short, length-more}
+use Rattle.codec.proofs.Numbers.{short}
+use Rattle.listing.proofs.Cells.{refined-none, refined-no, count-yes, bytes-none, bytes-no, last-none, last-yes, last-no, length-more}
 use Rattle.listing.proofs.measure.Statement.{statement}
 use Rattle.listing.proofs.measure.Tie as tie
 use Rattle.listing.proofs.measure.Reads as reads

@@ -1,0 +1,72 @@
+-- What the contracts of the parts cite. Definitions only.
+use mathlib.Core.Path.{_≡_}
+use mathlib.Core.Bool.{Bool, not, cond}
+use mathlib.Core.List.{List, []}
+use Prim.Native.Nat.{ℕ, _≤_, _<_}
+use lib.ListN.{length, drop}
+use Rattle.grid.specs.declared.Plan.{Plan}
+use Rattle.grid.specs.Plan.{cellTotal}
+use Rattle.grid.specs.Bounds.{mostCells}
+use Rattle.grid.specs.Range.{InRange}
+use Rattle.mesh.specs.Mesh.{isMesh, isAdmissible}
+use Rattle.outcomes.specs.Contracts.{Lent}
+use Rattle.codec.specs.Numbers.{Many, badMany, gotMany, decodeNumbers, decodeRising}
+use Rattle.listing.specs.Judged.{ends, endsOf}
+use Rattle.files.specs.declared.Planned.{Planned}
+use Rattle.files.specs.declared.Planned.the-variants.{Found, NoPlan}
+use Rattle.files.specs.declared.Heading.{Heading}
+use Rattle.files.specs.declared.Judged.{Judged}
+use Rattle.files.specs.declared.Judged.the-variants.{Good, Refused}
+use Rattle.files.specs.declared.ReadAnswer.{ReadAnswer}
+use Rattle.files.specs.declared.WriteAnswer.{WriteAnswer}
+use Rattle.files.specs.File.{planNumbers, badFile, gotFile, decodeFile, ReadOutcome, WriteOutcome}
+
+-- ---- how the contracts of the calls are said: an answer, and what the lent slices hold at exit
+
+abbrev pub leftByRead : ReadAnswer → Lent → Lent → ReadOutcome
+leftByRead r cells functions = record { answer = r; cells = cells .exit .now; functions = functions .exit .now }
+
+abbrev pub leftByWrite : WriteAnswer → Lent → WriteOutcome
+leftByWrite r file = record { answer = r; file = file .exit .now }
+
+-- ---- judging
+
+-- a plan that stands at the start of the bytes s
+pub record PlanFound (s : List ℕ) (p : Plan) (to : ℕ) : Type 0 where
+  pub reads : decodeNumbers 6 s ≡ gotMany (planNumbers p) (drop to s)
+  pub inside : to ≤ length s
+
+abbrev pub ReadsPlan : List ℕ → Planned → Type 0
+ReadsPlan s NoPlan = decodeNumbers 6 s ≡ badMany
+ReadsPlan s (Found p c) = PlanFound s p (c .at)
+
+unfoldable pub numbersOf : Many → List ℕ
+numbersOf badMany = []
+numbersOf (gotMany ns s) = ns
+
+-- the cells that a file lists
+unfoldable pub cellsOf : List ℕ → Heading → List ℕ
+cellsOf s h = numbersOf (decodeRising (h .count) (drop (h .first) s))
+
+pub record GoodFile (s : List ℕ) (h : Heading) : Type 0 where
+  pub file : decodeFile s ≡ gotFile (h .plan) (cellsOf s h) (drop (h .end) s)
+  -- the last cell is `last`, 0 where there is none, and the bytes from `end` on are left
+  pub cells : endsOf 0 (decodeRising (h .count) (drop (h .first) s)) ≡ ends (h .last) (drop (h .end) s)
+  pub inside : h .end ≤ length s
+
+abbrev pub JudgesFile : List ℕ → Judged → Type 0
+JudgesFile s Refused = decodeFile s ≡ badFile
+JudgesFile s (Good h) = GoodFile s h
+
+-- ---- refusals 4, 5 and 13 by the rebuilt table, and by whether the bytes end with the last number
+
+unfoldable pub tableRefusal : Plan → List ℕ → Bool → ℕ
+tableRefusal p table whole = cond (not (isMesh p table)) 4 (cond (not (isAdmissible p table)) 5 (cond (not whole) 13 0))
+
+-- ---- writing
+
+-- a table of a plan that passed refusals 1 and 2
+pub record CellRoom (p : Plan) (cells : List ℕ) : Type 0 where
+  pub range : InRange p
+  pub small : cellTotal p ≤ mostCells
+  pub size : length cells ≡ cellTotal p

@@ -1,0 +1,243 @@
+// A mesh and its file: document 02, Req 01. Any bytes, plans and tables are taken; what is refused gets its number and nothing is written.
+use codec::Cursor;
+use codec::Step;
+use grid::MOST_CELLS;
+use grid::Plan;
+use listing::Listed;
+ghost use mathlib.Core.Path.{_≡_};
+ghost use Prim.Native.Nat.{_<_};
+ghost use lib.ListN.{length, replicate};
+ghost use Rattle.mesh.specs.Mesh.{refusal3};
+ghost use Rattle.files.specs.File.{fileOf, rebuilt, noPlan, answeredPlan, readMesh, writeText, writeMesh};
+ghost use Rattle.files.specs.Steps.{leftByRead, leftByWrite, ReadsPlan, cellsOf, GoodFile, JudgesFile, tableRefusal, CellRoom};
+
+// What reading answers: a refusal or 0, and the plan, all zeros with refusals 1, 2 and 12.
+#[repr(C)]
+pub struct ReadAnswer {
+    pub number: u32,
+    pub plan: Plan,
+}
+
+// What writing answers: a refusal or 0, and how many bytes were written.
+#[repr(C)]
+pub struct WriteAnswer {
+    pub number: u32,
+    pub length: u32,
+}
+
+enum Planned {
+    Found(Plan, Cursor),
+    NoPlan,
+}
+
+// A file that can be read: its plan, how many cells it lists, where their numbers begin and end, and the last of them.
+struct Heading {
+    plan: Plan,
+    count: u32,
+    first: usize,
+    end: usize,
+    last: u64,
+}
+
+// Bytes that can be read, or refusal 12.
+enum Judged {
+    Good(Heading),
+    Refused,
+}
+
+// The six numbers at the start.
+fn read_plan(s: &[u8]) -> Planned
+    ensures { λ r. ⌜ ReadsPlan (now (s .entry)) r ⌝ }
+{
+    let Step::Number(columns, c1) = codec::read(s, Cursor { at: 0 }) else {
+        return Planned::NoPlan;
+    };
+    let Step::Number(rows, c2) = codec::read(s, c1) else {
+        return Planned::NoPlan;
+    };
+    let Step::Number(levels, c3) = codec::read(s, c2) else {
+        return Planned::NoPlan;
+    };
+    let Step::Number(degree_across, c4) = codec::read(s, c3) else {
+        return Planned::NoPlan;
+    };
+    let Step::Number(degree_up, c5) = codec::read(s, c4) else {
+        return Planned::NoPlan;
+    };
+    let Step::Number(class, c6) = codec::read(s, c5) else {
+        return Planned::NoPlan;
+    };
+    let plan = Plan {
+        columns,
+        rows,
+        levels,
+        degree_across,
+        degree_up,
+        class,
+    };
+    Planned::Found(plan, c6)
+}
+
+// Refusal 12, in one pass over the bytes; what stands behind the last number is left for later.
+fn judge(s: &[u8]) -> Judged
+    ensures { λ r. ⌜ JudgesFile (now (s .entry)) r ⌝ }
+{
+    let Planned::Found(plan, c) = read_plan(s) else {
+        return Judged::Refused;
+    };
+    let Step::Number(count, d) = codec::read(s, c) else {
+        return Judged::Refused;
+    };
+    let first = d.at;
+    let Listed::Cells(e) = listing::read_cells(s, first, count) else {
+        return Judged::Refused;
+    };
+    Judged::Good(Heading {
+        plan,
+        count,
+        first,
+        end: e.at,
+        last: e.last,
+    })
+}
+
+// A plan of zeros, which no mesh has.
+fn no_plan() -> Plan
+    ensures { λ r. ⌜ r ≡ noPlan ⌝ }
+{
+    Plan {
+        columns: 0,
+        rows: 0,
+        levels: 0,
+        degree_across: 0,
+        degree_up: 0,
+        class: 0,
+    }
+}
+
+// Refusals 1 to 3: the plan is answered with 3 alone.
+fn refuse(number: u32, plan: Plan) -> ReadAnswer
+    ensures { λ r. ⌜ r ≡ record { number = number; plan = answeredPlan number plan } ⌝ }
+{
+    if (number == 1) | (number == 2) {
+        return ReadAnswer {
+            number,
+            plan: no_plan(),
+        };
+    }
+    ReadAnswer { number, plan }
+}
+
+// The listed cells refined in a table of zeros, and the other cells as they follow from these.
+fn rebuild(file: &[u8], heading: Heading, table: &mut [u8])
+    requires { ⌜ GoodFile (now file) heading ⌝ }
+    requires { ⌜ heading .last < length (now table) ⌝ }
+    requires { ⌜ CellRoom (heading .plan) (now table) ⌝ }
+    requires { ⌜ now table ≡ replicate (length (now table)) 0 ⌝ }
+    ensures { λ _. ⌜ now (table .exit) ≡ rebuilt (heading .plan) (cellsOf (now (file .entry)) heading) ⌝ }
+{
+    listing::mark_cells(file, heading.first, heading.count, table);
+    nesting::complete(heading.plan, table);
+}
+
+// Refusals 4 and 5 of a rebuilt table, and 13.
+fn table_refusal(plan: Plan, table: &[u8], whole: bool) -> u32
+    requires { ⌜ CellRoom plan (now table) ⌝ }
+    ensures { λ r. ⌜ r ≡ tableRefusal plan (now (table .entry)) whole ⌝ }
+{
+    if nesting::is_mesh(plan, table) {
+        if admissible::is_admissible(plan, table) {
+            if whole {
+                return 0;
+            }
+            return 13;
+        }
+        return 5;
+    }
+    4
+}
+
+// Reading, when the file is judged and the lent tables fit: the mesh is rebuilt beside them and taken over once nothing refuses it.
+fn restore(file: &[u8], heading: Heading, cells: &mut [u8], functions: &mut [u8]) -> ReadAnswer
+    requires { ⌜ GoodFile (now file) heading ⌝ }
+    requires { ⌜ refusal3 (heading .plan) (now cells) (now functions) ≡ 0 ⌝ }
+    ensures { λ r. ⌜ leftByRead r cells functions ≡ readMesh (now (file .entry)) (now (cells .entry)) (now (functions .entry)) ⌝ }
+{
+    let plan = heading.plan;
+    let total = plan.cell_total() as usize;
+    if heading.last >= total as u64 {
+        return ReadAnswer { number: 4, plan };
+    }
+    let mut room = [0u8; MOST_CELLS];
+    let table = &mut room[..total];
+    rebuild(file, heading, table);
+    let number = table_refusal(plan, table, heading.end == file.len());
+    if number == 0 {
+        changes::copy_bytes(cells, table);
+        labels::write_labels(plan, cells, functions);
+    }
+    ReadAnswer { number, plan }
+}
+
+// Rebuilds both tables from a file; nothing with a refusal.
+pub fn read(file: &[u8], cells: &mut [u8], functions: &mut [u8]) -> ReadAnswer
+    ensures { λ r. ⌜ leftByRead r cells functions ≡ readMesh (now (file .entry)) (now (cells .entry)) (now (functions .entry)) ⌝ }
+{
+    let Judged::Good(heading) = judge(file) else {
+        return ReadAnswer {
+            number: 12,
+            plan: no_plan(),
+        };
+    };
+    let plan = heading.plan;
+    let early = tables::refusal(plan, cells, functions);
+    if early != 0 {
+        return refuse(early, plan);
+    }
+    restore(file, heading, cells, functions)
+}
+
+// A refusal answers its number, with length 0.
+fn unwritten(number: u32) -> WriteAnswer
+    ensures { λ r. ⌜ r ≡ record { number = number; length = 0 } ⌝ }
+{
+    WriteAnswer { number, length: 0 }
+}
+
+// Writing, when the tables are checked: the whole length is known before the first byte is written.
+fn write_mesh(plan: Plan, cells: &[u8], file: &mut [u8]) -> WriteAnswer
+    requires { ⌜ CellRoom plan (now cells) ⌝ }
+    ensures { λ r. ⌜ leftByWrite r file ≡ writeText (fileOf plan (now (cells .entry))) (now (file .entry)) ⌝ }
+{
+    let listed = listing::measure(cells);
+    let head = [
+        plan.columns,
+        plan.rows,
+        plan.levels,
+        plan.degree_across,
+        plan.degree_up,
+        plan.class,
+        listed.count,
+    ];
+    let length = codec::size_all(&head) + listed.bytes;
+    if file.len() < length {
+        return unwritten(10);
+    }
+    let at = codec::write_all(&head, file, 0);
+    listing::write_cells(cells, file, at);
+    WriteAnswer {
+        number: 0,
+        length: length as u32,
+    }
+}
+
+// Writes the file of a mesh; nothing with a refusal.
+pub fn write(plan: Plan, cells: &[u8], functions: &[u8], file: &mut [u8]) -> WriteAnswer
+    ensures { λ r. ⌜ leftByWrite r file ≡ writeMesh plan (now (cells .entry)) (now (functions .entry)) (now (file .entry)) ⌝ }
+{
+    let checked = tables::check(plan, cells, functions);
+    if checked != 0 {
+        return unwritten(checked);
+    }
+    write_mesh(plan, cells, file)
+}
