@@ -18,13 +18,7 @@ use Rattle.listing.specs.declared.End.{End}
 use Rattle.codec.specs.Steps.{Found, ReadsAt}
 use Rattle.listing.specs.Judged.{badEnds, ends, lastOf, endsOf, onwardEnds, judgeBehind, CellsFound, ReadsCells}
 
--- ---- what an answer of `read` says
-
-pub found : (s : List ℕ) (at : ℕ) (r : Step) (n : ℕ) (c : Cursor) → ReadsAt s at r → r ≡ Number n c → Found s at n (c .at)
-found s at r n c e q = rw q at e
-
-pub missing : (s : List ℕ) (at : ℕ) (r : Step) → ReadsAt s at r → r ≡ Bad → decodeNumber (drop at s) ≡ bad
-missing s at r e q = rw q at e
+-- ---- what an answer of `read_cells` says
 
 pub cells-found : (s : List ℕ) (at n : ℕ) (r : Listed) (e : End) → ReadsCells s at n r → r ≡ Cells e → CellsFound s at n e
 cells-found s at n r e h q = rw q at h

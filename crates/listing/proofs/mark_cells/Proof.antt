@@ -7,7 +7,8 @@ use lib.ListN.{length, drop, length-set}
 use Rattle.codec.specs.Numbers.{decodeBehind}
 use Rattle.codec.specs.Steps.{Found}
 use Rattle.listing.specs.Judged.{ends, judgeBehind}
-use Rattle.listing.proofs.Judging.{found, missing, cells-begin, judge-bad, judge-more}
+use Rattle.codec.proofs.Steps.{found, missing}
+use Rattle.listing.proofs.Judging.{cells-begin, judge-bad, judge-more}
 use Rattle.listing.specs.Cells.{markedBy}
 use Rattle.listing.proofs.Marking.{bad-ends, mark-none, mark-end, first-not-bad, mark-first, mark-more, not-zero, next-judged, judge-le}
 use Rattle.listing.proofs.mark_cells.Statement.{statement}

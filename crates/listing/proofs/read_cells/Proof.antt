@@ -6,7 +6,8 @@ use borrow.Author.Needs.{needs}
 use lib.ListN.{length, drop}
 use Rattle.codec.specs.Steps.{Found}
 use Rattle.listing.specs.Judged.{judgeBehind}
-use Rattle.listing.proofs.Judging.{found, missing, no-cells, cells-none, cells-bad, cells-begin, judge-bad, judge-zero, judge-more, judge-end}
+use Rattle.codec.proofs.Steps.{found, missing}
+use Rattle.listing.proofs.Judging.{no-cells, cells-none, cells-bad, cells-begin, judge-bad, judge-zero, judge-more, judge-end}
 use Rattle.listing.proofs.read_cells.Statement.{statement}
 use Rattle.listing.proofs.read_cells.Tie as tie
 use Rattle.listing.proofs.read_cells.Reads as reads
