@@ -1,3 +1,4 @@
 pub mod Rows
 pub mod Nested
 pub mod Reactivable
+pub mod Completed

@@ -52,6 +52,12 @@ most-inner : (p : Plan) (k : ℕ) → (k + 1 ≡ p .levels → ⊥) → mostAt p
 unfolding mostAt lastLevel
 most-inner p k f = rw (ne-eqb (k + 1) (p .levels) f)
 
+-- the cells before the offset of level 1 are those of level 0
+pub level-zero : (p : Plan) → InRange p → (c : ℕ) → c < cellOffset p 1 → cellLevel p c ≡ 0
+level-zero p range c m =
+    let i : c < cellTotal p = omega (arith, offset-mono (columnsAt p) (rowsAt p) 1 (p .levels) (range .levels≥)) in
+    omega (arith, level-before _ _ (p .levels) c (cell-inside p range c i) (cell-number-place p range c i) 1 m)
+
 module _ (p : Plan) (range : InRange p) (cells : List ℕ) where
   -- ---- from a mesh
 
@@ -112,10 +118,7 @@ module _ (p : Plan) (range : InRange p) (cells : List ℕ) where
   -- what is asked of the cells of level 0
   nested-first : everyFrom 0 (cellOffset p 1) (cellByteFits cells (mostAt p 0) true) ≡ everyFrom 0 (cellOffset p 1) (nested p cells)
   unfolding nested cellByteFits
-  nested-first = from-same 0 (cellOffset p 1) _ _ (λ c l m.
-      let i : c < cellTotal p = omega (arith, offset-mono (columnsAt p) (rowsAt p) 1 (p .levels) (range .levels≥)) in
-      let e : cellLevel p c ≡ 0 = omega (arith, level-before _ _ (p .levels) c (cell-inside p range c i) (cell-number-place p range c i) 1 (omega arith)) in
-      rw e)
+  nested-first = from-same 0 (cellOffset p 1) _ _ (λ c l m. rw (level-zero p range c (omega arith)))
 
   pub first-fits : {b : Bool} {end most : ℕ} → end ≡ cellOffset p 1 → most ≡ mostAt p 0 → b ≡ everyFrom 0 end (cellByteFits cells most true) → b ≡ everyFrom 0 (cellOffset p 1) (nested p cells)
   first-fits ee em e = (rw (ee, em) at e) ∙ nested-first

@@ -19,12 +19,13 @@ use Rattle.facts.proofs.Mapped.{mapped-length, mapped-at, mapped-is, mapped-mor
 use Rattle.grid.specs.declared.Plan.{Plan}
 use Rattle.grid.specs.Plan.{columnsAt, rowsAt, cellOffset, cellTotal, cellLevel, lastLevel, parent, child}
 use Rattle.grid.specs.Range.{InRange}
-use Rattle.grid.proofs.Levels.{offset-next, offset-mono, level-before, level-from}
+use Rattle.grid.proofs.Levels.{level-before, level-from}
 use Rattle.grid.proofs.Laws.{cell-inside, cell-number-place, parent-level, is-child, child-lt, child-level, parent-of-child}
 use Rattle.mesh.specs.Mesh.{active, refined, children, reactivable}
 use Rattle.mesh.proofs.Bridge.{children-e, children-i}
 use Rattle.nesting.specs.Reactivable.{reactivableByte, refinedByte, innerByte, ruledOut}
 use Rattle.facts.proofs.Rows.{from-join, from-next}
+use Rattle.nesting.proofs.Rows.{first-before, level-more}
 
 both : (a b : Bool) (x : ℕ) → cond b (cond a x 2) 2 ≡ cond (a && b) x 2
 both true b x = refl
@@ -115,10 +116,7 @@ module _ (p : Plan) (cells : List ℕ) where
   pub ruled-levels : (k : ℕ) (ys : List ℕ) {xs zs : List ℕ} → xs ≡ mapped (ruledOut p cells (cellOffset p 1) (cellOffset p (k + 1) - cellOffset p 1)) ys
       → zs ≡ mapped (ruledOut p cells (cellOffset p (k + 1)) (rowsAt p (k + 1) * columnsAt p (k + 1))) xs
       → zs ≡ mapped (ruledOut p cells (cellOffset p 1) (cellOffset p (k + 1 + 1) - cellOffset p 1)) ys
-  ruled-levels k ys e f =
-      let low : cellOffset p 1 ≤ cellOffset p (k + 1) = offset-mono (columnsAt p) (rowsAt p) 1 (k + 1) (omega arith) in
-      let q : cellOffset p (k + 1 + 1) - cellOffset p 1 ≡ cellOffset p (k + 1) - cellOffset p 1 + rowsAt p (k + 1) * columnsAt p (k + 1) = omega (arith, offset-next (columnsAt p) (rowsAt p) (k + 1)) in
-      rw q (ruled-join (cellOffset p 1) _ (cellOffset p (k + 1)) _ ys (omega arith) e f)
+  ruled-levels k ys e f = rw (level-more p k) (ruled-join (cellOffset p 1) _ (cellOffset p (k + 1)) _ ys (omega (arith, first-before p k)) e f)
 
   pub ruled-length : (a n : ℕ) (xs : List ℕ) {zs : List ℕ} → zs ≡ mapped (ruledOut p cells a n) xs → length zs ≡ length xs
   ruled-length a n xs e = ap length e ∙ mapped-length _ xs

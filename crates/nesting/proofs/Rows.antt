@@ -1,6 +1,6 @@
 -- A row of cells and the row of their parents: their numbers. Assumes nothing.
 use mathlib.Core.Path.{_≡_, refl, sym, ap, subst, _∙_}
-use mathlib.Core.Bool.{Bool, _&&_}
+use mathlib.Core.Bool.{Bool, _&&_, _||_}
 use mathlib.Core.List.{List}
 use Prim.Native.Nat.{ℕ, _+_, _-_, _*_, _^_, _≤_, _<_}
 use native.Mathlib.Nat.{le-refl, mul-assoc, pow-suc, pow-zero}
@@ -12,13 +12,14 @@ use lib.Dec.{eqb}
 use borrow.Author.Tests.{ne-eqb}
 use Rattle.facts.specs.Ranges.{everyFrom}
 use Rattle.facts.proofs.Ranges.{from-same}
+use Rattle.hierarchy.specs.Hierarchy.{Cells}
 use Rattle.grid.specs.declared.Plan.{Plan}
 use Rattle.grid.specs.declared.Place.{Place}
 use Rattle.grid.specs.Numbering.{offset, number}
 use Rattle.grid.specs.Plan.{ratio, grown, widened, columnsAt, rowsAt, cellOffset, cellTotal, cellPlace, cellNumber, cellLevel, CellInside, above, parent, ancestor}
 use Rattle.grid.specs.Range.{InRange}
 use Rattle.grid.proofs.Direction.{grown-pos, grown-down}
-use Rattle.grid.proofs.Levels.{row-within}
+use Rattle.grid.proofs.Levels.{offset-next, offset-mono, row-within}
 use Rattle.grid.proofs.Small.{as-cells, offset-small}
 use Rattle.grid.proofs.Laws.{ratio-pos, cell-number-lt, cell-place-number, parent-lt}
 use Rattle.mesh.specs.Mesh.{refined}
@@ -35,6 +36,14 @@ total-small p range =
     let b : offset (widened (columnsAt p) 0) (widened (rowsAt p) 0) (p .levels) ≤ 4210704 * p .levels = offset-small p range 0 0 (record { across≤ = omega arith; up≤ = omega arith }) (p .levels) (le-refl (p .levels)) in
     let c : cellTotal p ≤ 4210704 * p .levels = subst (λ n. n ≤ 4210704 * p .levels) (as-cells p (λ w h. offset w h (p .levels))) b in
     omega (arith, range .levels≤)
+
+-- the cells of the levels below the first, and those of one level more
+module _ (p : Plan) (k : ℕ) where
+  pub first-before : cellOffset p 1 ≤ cellOffset p (k + 1)
+  first-before = offset-mono (columnsAt p) (rowsAt p) 1 (k + 1) (omega arith)
+
+  pub level-more : cellOffset p (k + 1 + 1) - cellOffset p 1 ≡ cellOffset p (k + 1) - cellOffset p 1 + rowsAt p (k + 1) * columnsAt p (k + 1)
+  level-more = omega (arith, first-before, offset-next (columnsAt p) (rowsAt p) (k + 1))
 
 power-one : (s : ℕ) → s ^ 1 ≡ s
 power-one s = rw (pow-suc s 0, pow-zero s) (omega arith)
@@ -99,10 +108,6 @@ module _ (p : Plan) (k start over width : ℕ) (u : RowUnder p k start over widt
     unfolding parent number
     parent-is = ap (λ y. cellNumber p (above p y)) place-is ∙ (ap (cellNumber p) (above-is p k (u .row) c) ∙ rw (u .over≡, column-up p k x e m) refl)
 
-    nested-at : (cells : List ℕ) → nested p cells (start + c) ≡ cellByteFits cells (mostAt p (k + 1)) (eqb (getD cells (over + x) 0) 2) (start + c)
-    unfolding nested refined cellByteFits
-    nested-at cells = rw (level-is, parent-is, ne-eqb (k + 1) 0 (λ q. absurd (omega arith)))
-
   module _ (x : ℕ) (l : x < width) where
     abbrev here : ℕ
     here = start + x * ratio p
@@ -121,8 +126,16 @@ module _ (p : Plan) (k start over width : ℕ) (u : RowUnder p k start over widt
       pub parent-of : parent p d ≡ over + x
       parent-of = ap (parent p) (sym child-is) ∙ parent-is x (d - here) l (omega arith)
 
+      level-of : cellLevel p d ≡ k + 1
+      level-of = ap (cellLevel p) (sym child-is) ∙ level-is x (d - here) l (omega arith)
+
+      -- it is present just where its parent is refined
+      pub present-of : (S : Cells) → eqb (cellLevel p d) 0 || S (parent p d) ≡ S (over + x)
+      present-of S = rw (level-of, parent-of, ne-eqb (k + 1) 0 (λ q. absurd (omega arith)))
+
       nested-of : (cells : List ℕ) → nested p cells d ≡ cellByteFits cells (mostAt p (k + 1)) (eqb (getD cells (over + x) 0) 2) d
-      nested-of cells = ap (nested p cells) (sym child-is) ∙ (nested-at x (d - here) l (omega arith) cells ∙ ap (cellByteFits cells (mostAt p (k + 1)) (eqb (getD cells (over + x) 0) 2)) child-is)
+      unfolding nested refined cellByteFits
+      nested-of cells = λ i. cellByteFits cells (mostAt p (level-of i)) (present-of (refined cells) i) d
 
     -- the children of one cell more
     pub row-more : (cells : List ℕ) {ok b : Bool} {at n most : ℕ} → at ≡ here → n ≡ ratio p → most ≡ mostAt p (k + 1) → ok ≡ everyFrom start (x * ratio p) (nested p cells)

@@ -1,3 +1,4 @@
 pub mod Table
 pub mod Nested
 pub mod Reactivable
+pub mod Completed

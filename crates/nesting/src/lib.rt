@@ -1,5 +1,5 @@
-// The nesting of cells: refusal 4, and which refined cells are reactivable. Each cell is read with its parent, row by row: a row of cells
-// begins at `at`, and the row of their parents, `width` of them, at `over`.
+// The nesting of cells: refusal 4, which refined cells are reactivable, and the bytes of those that are not refined. Each cell is read with
+// its parent, row by row: a row of cells begins at `at`, and the row of their parents, `width` of them, at `over`.
 use grid::Plan;
 ghost use mathlib.Core.Path.{_≡_};
 ghost use mathlib.Core.Bool.{cond};
@@ -11,10 +11,11 @@ ghost use Rattle.facts.specs.Ranges.{everyFrom};
 ghost use Rattle.facts.specs.Mapped.{mapped, filled};
 ghost use Rattle.grid.specs.Plan.{ratio, columnsAt, rowsAt, cellOffset, cellTotal};
 ghost use Rattle.grid.specs.Range.{InRange};
-ghost use Rattle.mesh.specs.Mesh.{active, isMesh};
+ghost use Rattle.mesh.specs.Mesh.{active, refined, isMesh, tableOf};
 ghost use Rattle.nesting.specs.Table.{CellTable, RowUnder};
 ghost use Rattle.nesting.specs.Nested.{byteFits, cellByteFits, mostAt, nested};
 ghost use Rattle.nesting.specs.Reactivable.{reactivableByte, refinedByte, ruledOut};
+ghost use Rattle.nesting.specs.Completed.{byteIn, completed};
 
 // The cell is present just where it must be, and its byte is at most `most`.
 fn byte_fits(byte: u8, most: u8, present: bool) -> bool
@@ -215,6 +216,80 @@ pub fn reactivable_cells(plan: Plan, cells: &[u8], out: &mut [u8])
     let mut level = 0;
     while level < last {
         rule_out_level(plan, cells, out, level);
+        level += 1;
+    }
+}
+
+// 2 for a refined cell; for any other 1 where it is present, 0 elsewhere.
+fn completed_byte(byte: u8, present: bool) -> u8
+    ensures { λ r. ⌜ r ≡ cond (eqb byte 2) 2 (cond present 1 0) ⌝ }
+{
+    if byte == 2 { 2 } else { present as u8 }
+}
+
+// The same of the n cells from `at` on.
+fn complete_cells(cells: &mut [u8], at: usize, n: usize, present: bool)
+    requires { ⌜ at + n ≤ length (now cells) ⌝ }
+    ensures { λ _. ⌜ now (cells .exit) ≡ filled at n (byteIn (refined (now (cells .entry))) present) (now (cells .entry)) ⌝ }
+{
+    let mut i = 0;
+    while i < n {
+        let cell = at + i;
+        cells[cell] = completed_byte(cells[cell], present);
+        i += 1;
+    }
+}
+
+// A row of the next level: the children of a cell are present just where it is refined.
+fn complete_row(plan: Plan, cells: &mut [u8], at: usize, over: usize, width: usize)
+    requires { ⌜ ((k : ℕ) × RowUnder plan k at over width) ⌝ }
+    requires { ⌜ length (now cells) ≡ cellTotal plan ⌝ }
+    ensures { λ _. ⌜ now (cells .exit) ≡ filled at (width * ratio plan) (completed plan (refined (now (cells .entry)))) (now (cells .entry)) ⌝ }
+{
+    let mut here = at;
+    let mut column = 0;
+    while column < width {
+        let ratio = plan.ratio() as usize;
+        let present = cells[over + column] == 2;
+        complete_cells(cells, here, ratio, present);
+        here += ratio;
+        column += 1;
+    }
+}
+
+// The cells of the next level.
+fn complete_level(plan: Plan, cells: &mut [u8], level: u32)
+    requires { ⌜ CellTable plan (now cells) ⌝ }
+    requires { ⌜ level + 1 < plan .levels ⌝ }
+    ensures { λ _. ⌜ now (cells .exit) ≡ filled (cellOffset plan (level + 1)) (rowsAt plan (level + 1) * columnsAt plan (level + 1)) (completed plan (refined (now (cells .entry)))) (now (cells .entry)) ⌝ }
+{
+    let next = level + 1;
+    let rows = plan.rows_at(next);
+    let columns = plan.columns_at(next);
+    let width = plan.columns_at(level);
+    let first = plan.cell_offset(level);
+    let mut at = plan.cell_offset(next);
+    let mut row = 0;
+    while row < rows {
+        let over = first + plan.coarser(row, 1) * width;
+        complete_row(plan, cells, at as usize, over as usize, width as usize);
+        at += columns;
+        row += 1;
+    }
+}
+
+// Gives each cell that is not refined the byte that it has in a table with these refined cells: 1 where it is of level 0 or its parent is
+// refined, 0 elsewhere.
+pub fn complete(plan: Plan, cells: &mut [u8])
+    requires { ⌜ CellTable plan (now cells) ⌝ }
+    ensures { λ _. ⌜ now (cells .exit) ≡ tableOf plan (refined (now (cells .entry))) ⌝ }
+{
+    let last = plan.levels - 1;
+    let end = plan.cell_offset(1) as usize;
+    complete_cells(cells, 0, end, true);
+    let mut level = 0;
+    while level < last {
+        complete_level(plan, cells, level);
         level += 1;
     }
 }
