@@ -66,4 +66,4 @@ module _ {s : List ℕ} {p : Plan} {at : ℕ} (f : PlanFound s p at) where
     pub file-good : {e : End} → CellsFound s to n e → (h : Heading) → h ≡ record { plan = p; count = n; first = to; end = e .at; last = e .last } → GoodFile s h
     unfolding withCells cellsOf numbersOf
     file-good {e} k h q = rw q (ends-good 0 (e .last) (decodeRising n (drop to s)) (drop (e .at) s) (k .reads) (λ cs m l.
-        record { file = file-cells ∙ rw (m, m) refl; cells = k .reads; inside = k .inside }))
+        record { file = file-cells ∙ rw m refl; cells = k .reads; inside = k .inside }))

@@ -1,2 +1,4 @@
 pub mod File
+pub mod Bounds
+pub mod Demands
 pub mod Steps

@@ -3,7 +3,7 @@ use mathlib.Core.Path.{_≡_}
 use mathlib.Core.Bool.{Bool, not, cond}
 use mathlib.Core.List.{List, []}
 use Prim.Native.Nat.{ℕ, _≤_, _<_}
-use lib.ListN.{length, drop}
+use lib.ListN.{length, getD, drop}
 use Rattle.grid.specs.declared.Plan.{Plan}
 use Rattle.grid.specs.Plan.{cellTotal}
 use Rattle.grid.specs.Bounds.{mostCells}
@@ -58,8 +58,13 @@ abbrev pub JudgesFile : List ℕ → Judged → Type 0
 JudgesFile s Refused = decodeFile s ≡ badFile
 JudgesFile s (Good h) = GoodFile s h
 
--- ---- refusals 4, 5 and 13 by the rebuilt table, and by whether the bytes end with the last number
+-- ---- rebuilding
 
+-- a table of zeros
+abbrev pub Clear : List ℕ → Type 0
+Clear table = (i : ℕ) → getD table i 0 ≡ 0
+
+-- refusals 4, 5 and 13 by the rebuilt table, and by whether the bytes end with the last number
 unfoldable pub tableRefusal : Plan → List ℕ → Bool → ℕ
 tableRefusal p table whole = cond (not (isMesh p table)) 4 (cond (not (isAdmissible p table)) 5 (cond (not whole) 13 0))
 

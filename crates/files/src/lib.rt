@@ -6,10 +6,10 @@ use grid::Plan;
 use listing::Listed;
 ghost use mathlib.Core.Path.{_≡_};
 ghost use Prim.Native.Nat.{_<_};
-ghost use lib.ListN.{length, replicate};
+ghost use lib.ListN.{length};
 ghost use Rattle.mesh.specs.Mesh.{refusal3};
 ghost use Rattle.files.specs.File.{fileOf, rebuilt, noPlan, answeredPlan, readMesh, writeText, writeMesh};
-ghost use Rattle.files.specs.Steps.{leftByRead, leftByWrite, ReadsPlan, cellsOf, GoodFile, JudgesFile, tableRefusal, CellRoom};
+ghost use Rattle.files.specs.Steps.{leftByRead, leftByWrite, ReadsPlan, cellsOf, GoodFile, JudgesFile, Clear, tableRefusal, CellRoom};
 
 // What reading answers: a refusal or 0, and the plan, all zeros with refusals 1, 2 and 12.
 #[repr(C)]
@@ -133,7 +133,7 @@ fn rebuild(file: &[u8], heading: Heading, table: &mut [u8])
     requires { ⌜ GoodFile (now file) heading ⌝ }
     requires { ⌜ heading .last < length (now table) ⌝ }
     requires { ⌜ CellRoom (heading .plan) (now table) ⌝ }
-    requires { ⌜ now table ≡ replicate (length (now table)) 0 ⌝ }
+    requires { ⌜ Clear (now table) ⌝ }
     ensures { λ _. ⌜ now (table .exit) ≡ rebuilt (heading .plan) (cellsOf (now (file .entry)) heading) ⌝ }
 {
     listing::mark_cells(file, heading.first, heading.count, table);
