@@ -1,19 +1,19 @@
 -- A file read number by number at places of its bytes. Assumes nothing.
-use mathlib.Core.Path.{_≡_, refl, sym, ap, _∙_}
+use mathlib.Core.Path.{_≡_, refl, _∙_}
 use mathlib.Core.List.{List, [], _∷_}
-use Prim.Native.Nat.{ℕ, suc, _≤_}
-use lib.ListN.{length, drop}
+use Prim.Native.Nat.{ℕ, suc}
+use lib.ListN.{drop}
 use Rattle.grid.specs.declared.Plan.{Plan}
 use Rattle.codec.specs.declared.Cursor.{Cursor}
-use Rattle.codec.specs.Numbers.{Many, bad, got, badMany, gotMany, front, onward, decodeNumber, decodeNumbers, decodeRising}
+use Rattle.codec.specs.Numbers.{bad, badMany, gotMany, front, onward, decodeNumber, decodeNumbers, decodeRising}
 use Rattle.codec.specs.Steps.{Found}
 use Rattle.listing.specs.declared.End.{End}
-use Rattle.listing.specs.Judged.{ends, endsOf, CellsFound}
+use Rattle.listing.specs.Judged.{CellsFound}
 use Rattle.listing.proofs.Judging.{ends-good}
 use Rattle.files.specs.declared.Planned.{Planned}
 use Rattle.files.specs.declared.Planned.the-variants.{Found as Plan·Found, NoPlan}
 use Rattle.files.specs.declared.Heading.{Heading}
-use Rattle.files.specs.File.{planNumbers, planOf, badFile, gotFile, withCells, withCount, withPlan, decodeFile}
+use Rattle.files.specs.File.{badFile, withCells, withCount, withPlan, decodeFile}
 use Rattle.files.specs.Steps.{PlanFound, ReadsPlan, numbersOf, cellsOf, GoodFile}
 
 -- ---- numbers one by one
