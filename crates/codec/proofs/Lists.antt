@@ -129,8 +129,14 @@ rising-canonical (suc k) s cs rest e =
       count = ap suc (i .count);
     })))
 
--- ---- numbers one by one, of a list from a place on
+-- ---- numbers one by one
 
+pub numbers-append : (xs ys : List ℕ) → encodeNumbers (xs ++ ys) ≡ encodeNumbers xs ++ encodeNumbers ys
+unfolding encodeNumbers
+numbers-append [] ys = refl
+numbers-append (x ∷ xs) ys = ap (λ (t : List ℕ). encodeNumber x ++ t) (numbers-append xs ys) ∙ sym (append-assoc (encodeNumber x) (encodeNumbers xs) (encodeNumbers ys))
+
+-- of a list from a place on
 module _ (l : List ℕ) (i : ℕ) where
   pub numbers-next : i < length l → encodeNumbers (drop i l) ≡ encodeNumber (getD l i 0) ++ encodeNumbers (drop (i + 1) l)
   unfolding encodeNumbers

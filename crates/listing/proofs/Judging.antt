@@ -1,21 +1,19 @@
 -- Listed cells judged without memory, and where they end. Assumes nothing.
 use mathlib.Core.Path.{_≡_, refl, _∙_}
 use mathlib.Core.Bool.{Bool, true, false, cond}
-use mathlib.Core.List.{List, [], _∷_, List·Memᴰ, List·Memᴰ·cases-cons, List·Memᴰ·not-nil, List·Memᴰ·head, List·Memᴰ·tail}
-use mathlib.Core.Logic.{⊎-elim}
+use mathlib.Core.List.{List, [], _∷_}
 use Prim.Native.Nat.{ℕ, zero, suc, _+_, _-_, _<_, _≤_}
 use native.Mathlib.Omega.{arith}
-use lib.Dec.{eqb}
+use lib.Dec.{T, eqb, ltb, ltb→lt, lt→ltb}
+use Rattle.facts.specs.Numbers.{all}
+use Rattle.facts.proofs.Tests.{and-i, and-l, and-r}
 use lib.ListN.{length, drop}
 use borrow.Author.Tests.{ne-eqb, eq-eqb}
 use Rattle.codec.specs.Numbers.{Decoded, bad, got, Many, badMany, gotMany, decodeNumber, decodeBehind, decodeRising, front, onward, Behind, last, next, Rising, empty, first}
-use Rattle.codec.specs.declared.Cursor.{Cursor}
-use Rattle.codec.specs.declared.Step.{Step}
-use Rattle.codec.specs.declared.Step.the-variants.{Number, Bad}
 use Rattle.listing.specs.declared.Listed.{Listed}
 use Rattle.listing.specs.declared.Listed.the-variants.{Cells, NoCells}
 use Rattle.listing.specs.declared.End.{End}
-use Rattle.codec.specs.Steps.{Found, ReadsAt}
+use Rattle.codec.specs.Steps.{Found}
 use Rattle.listing.specs.Judged.{badEnds, ends, lastOf, endsOf, onwardEnds, judgeBehind, CellsFound, ReadsCells}
 
 -- ---- what an answer of `read_cells` says
@@ -100,29 +98,24 @@ unfolding endsOf
 ends-good p l badMany s e f = absurd (let z : _≡_ {A = ℕ} 0 1 = cc in let w : ⊥ = omega arith in w)
 ends-good p l (gotMany cs t) s e f = let q : t ≡ s = cc in f cs (rw q refl) (cc)
 
--- no listed cell is above the last: one test says that all are below T
+-- ---- all cells are below t just where the last is
+
 below-last : {p : ℕ} {cs : List ℕ} → Behind p cs → p ≤ lastOf p cs
 unfolding lastOf
 below-last last = omega arith
 below-last (next h d hs) = omega (arith, below-last hs)
 
-all-behind : {p : ℕ} {cs : List ℕ} → Behind p cs → (t : ℕ) → lastOf p cs < t → (x : ℕ) → List·Memᴰ x cs → x < t
-unfolding lastOf
-all-behind last t h x m = absurd (List·Memᴰ·not-nil m)
-all-behind (next {p} {c} {cs} l k hs) t h x m =
-    ⊎-elim (λ e. omega (arith, below-last hs)) (λ n. all-behind hs t h x n) (List·Memᴰ·cases-cons m)
+behind-all : {p : ℕ} {cs : List ℕ} → Behind p cs → (t : ℕ) → lastOf p cs < t → T (all (λ c. ltb c t) cs)
+unfolding lastOf all
+behind-all last t h = tt
+behind-all (next {p} {c} {cs} l k hs) t h = and-i (ltb c t) (all (λ c. ltb c t) cs) (lt→ltb c t (omega (arith, below-last hs))) (behind-all hs t h)
 
-pub all-below : {cs : List ℕ} → Rising cs → (t : ℕ) → lastOf 0 cs < t → (x : ℕ) → List·Memᴰ x cs → x < t
-unfolding lastOf
-all-below empty t h x m = absurd (List·Memᴰ·not-nil m)
-all-below (first {c} {cs} k hs) t h x m =
-    ⊎-elim (λ e. omega (arith, below-last hs)) (λ n. all-behind hs t h x n) (List·Memᴰ·cases-cons m)
+pub last-all : {cs : List ℕ} → Rising cs → (t : ℕ) → lastOf 0 cs < t → T (all (λ c. ltb c t) cs)
+unfolding lastOf all
+last-all empty t h = tt
+last-all (first {c} {cs} k hs) t h = and-i (ltb c t) (all (λ c. ltb c t) cs) (lt→ltb c t (omega (arith, below-last hs))) (behind-all hs t h)
 
--- and the last of some cells is one of them
-last-behind : (p : ℕ) (cs : List ℕ) (c : ℕ) → List·Memᴰ (lastOf p (c ∷ cs)) (c ∷ cs)
-unfolding lastOf
-last-behind p [] c = List·Memᴰ·head refl
-last-behind p (d ∷ cs) c = List·Memᴰ·tail (last-behind c cs d)
-
-pub last-listed : (c : ℕ) (cs : List ℕ) → List·Memᴰ (lastOf 0 (c ∷ cs)) (c ∷ cs)
-last-listed c cs = last-behind 0 cs c
+pub all-last : (p : ℕ) (cs : List ℕ) (t : ℕ) → p < t → T (all (λ c. ltb c t) cs) → lastOf p cs < t
+unfolding lastOf all
+all-last p [] t h a = h
+all-last p (c ∷ cs) t h a = all-last c cs t (ltb→lt c t (and-l (ltb c t) (all (λ c. ltb c t) cs) a)) (and-r (ltb c t) (all (λ c. ltb c t) cs) a)

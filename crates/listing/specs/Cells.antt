@@ -1,7 +1,7 @@
 -- The refined cells of a table, as a file lists them, and a table with listed cells refined. Definitions only.
 use mathlib.Core.Path.{_≡_}
 use mathlib.Core.List.{List, [], _∷_}
-use Prim.Native.Nat.{ℕ}
+use Prim.Native.Nat.{ℕ, _*_, _≤_}
 use lib.ListN.{length, set}
 use Rattle.facts.specs.Numbers.{listed}
 use Rattle.codec.specs.Numbers.{Many, badMany, gotMany, encodeRising}
@@ -20,6 +20,8 @@ refinedBytes table n = encodeRising (refinedBelow table n)
 pub record Measures (table : List ℕ) (m : Measured) : Type 0 where
   pub count : m .count ≡ length (refinedBelow table (length table))
   pub bytes : m .bytes ≡ length (refinedBytes table (length table))
+  -- follows, and is what a caller that adds to them is asked
+  pub few : m .bytes ≤ 3 * length table
 
 -- 2 at each listed cell
 unfoldable pub marked : List ℕ → List ℕ → List ℕ

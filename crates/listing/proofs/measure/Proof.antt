@@ -89,7 +89,7 @@ returns c =
     let t = c .before .before .before .args .table .now in
     let at = c .before .loop in
     let e : at .i ≡ length t = omega arith in
-    record { count = at .inv .5 ∙ ap (λ (x : ℕ). length (refinedBelow t x)) e; bytes = at .inv .3 ∙ ap (λ (x : ℕ). length (refinedBytes t x)) e }
+    record { count = at .inv .5 ∙ ap (λ (x : ℕ). length (refinedBelow t x)) e; bytes = at .inv .3 ∙ ap (λ (x : ℕ). length (refinedBytes t x)) e; few = omega (arith, at .inv .2) }
 
 pub measure-spec : {M : Type 1} → statement M
 measure-spec =
