@@ -2,7 +2,7 @@
 use mathlib.Core.Path.{_≡_, refl, sym, ap, _∙_}
 use mathlib.Core.Bool.{Bool, true, false, cond}
 use mathlib.Core.List.{List, [], _∷_, _++_, append-assoc}
-use Prim.Native.Nat.{ℕ, zero, suc, _+_, _-_, _<_, _≤_}
+use Prim.Native.Nat.{ℕ, zero, suc, _+_, _-_, _*_, _<_, _≤_}
 use native.Mathlib.Omega.{arith}
 use lib.Dec.{eqb}
 use native.Mathlib.Numerals.{add-one}
@@ -10,7 +10,7 @@ use lib.ListN.{length, getD, drop, length-append, drop-of-length-le}
 use lib.Seq.{drop-cons}
 use borrow.Author.Tests.{eqb-false, ne-eqb}
 use Rattle.codec.specs.Numbers.{Decoded, bad, got, Many, badMany, gotMany, encodeNumber, encodeNumbers, decodeNumber, front, onward, decodeNumbers, Small, none, more, encodeBehind, encodeRising, decodeBehind, decodeRising, Behind, last, next, Rising, empty, first}
-use Rattle.codec.proofs.Numbers.{none-many, number-round, number-canonical}
+use Rattle.codec.proofs.Numbers.{none-many, number-round, number-canonical, short}
 
 -- ---- writtenAt, then read
 
@@ -135,6 +135,11 @@ pub numbers-append : (xs ys : List ℕ) → encodeNumbers (xs ++ ys) ≡ encodeN
 unfolding encodeNumbers
 numbers-append [] ys = refl
 numbers-append (x ∷ xs) ys = ap (λ (t : List ℕ). encodeNumber x ++ t) (numbers-append xs ys) ∙ sym (append-assoc (encodeNumber x) (encodeNumbers xs) (encodeNumbers ys))
+
+pub numbers-short : (ns : List ℕ) → length (encodeNumbers ns) ≤ 3 * length ns
+unfolding encodeNumbers
+numbers-short [] = omega arith
+numbers-short (n ∷ ns) = omega (arith, length-append (encodeNumber n) (encodeNumbers ns), short n, numbers-short ns)
 
 -- of a list from a place on
 module _ (l : List ℕ) (i : ℕ) where

@@ -13,8 +13,10 @@ use Rattle.listing.proofs.Judging.{ends-good}
 use Rattle.files.specs.declared.Planned.{Planned}
 use Rattle.files.specs.declared.Planned.the-variants.{Found as Plan·Found, NoPlan}
 use Rattle.files.specs.declared.Heading.{Heading}
+use Rattle.files.specs.declared.Judged.{Judged}
+use Rattle.files.specs.declared.Judged.the-variants.{Good, Refused}
 use Rattle.files.specs.File.{badFile, withCells, withCount, withPlan, decodeFile}
-use Rattle.files.specs.Steps.{PlanFound, ReadsPlan, numbersOf, cellsOf, GoodFile}
+use Rattle.files.specs.Steps.{PlanFound, ReadsPlan, numbersOf, cellsOf, GoodFile, JudgesFile}
 
 -- ---- numbers one by one
 
@@ -67,3 +69,11 @@ module _ {s : List ℕ} {p : Plan} {at : ℕ} (f : PlanFound s p at) where
     unfolding withCells cellsOf numbersOf
     file-good {e} k h q = rw q (ends-good 0 (e .last) (decodeRising n (drop to s)) (drop (e .at) s) (k .reads) (λ cs m l.
         record { file = file-cells ∙ rw m refl; cells = k .reads; inside = k .inside }))
+
+-- ---- what an answer of `judge` says
+
+pub judged-good : (s : List ℕ) (r : Judged) (h : Heading) → JudgesFile s r → r ≡ Good h → GoodFile s h
+judged-good s r h e q = rw q at e
+
+pub judged-bad : (s : List ℕ) (r : Judged) → JudgesFile s r → r ≡ Refused → decodeFile s ≡ badFile
+judged-bad s r e q = rw q at e

@@ -61,4 +61,4 @@ pub record Files : Type 0 where
   -- what reading accepted, written again: the same bytes, where there is room for them
   pub again : (s cs fs file : List ℕ) → readMesh s cs fs .answer .number ≡ 0 → length s ≤ length file
       → writeMesh (readMesh s cs fs .answer .plan) (readMesh s cs fs .cells) (readMesh s cs fs .functions) file
-          ≡ record { answer = record { number = 0; length = length s }; file = s ++ drop (length s) file }
+      ≡ record { answer = record { number = 0; length = length s }; file = s ++ drop (length s) file }

@@ -1,3 +1,8 @@
+-- `read` meets its contract. Assumes nothing.
+use mathlib.Core.Path.{sym, _∙_}
+use Rattle.files.specs.Steps.{GoodFile}
+use Rattle.files.proofs.Decoding.{judged-good, judged-bad}
+use Rattle.files.proofs.Reading.{read-bad, read-early}
 use borrow.Author.Needs.{needs}
 use Rattle.files.proofs.read.Statement.{statement}
 use Rattle.files.proofs.read.Tie as tie
@@ -9,59 +14,58 @@ use Rattle.files.proofs.refuse.Reads as refuse-reads
 use Rattle.files.proofs.restore.Reads as restore-reads
 use Rattle.tables.proofs.refusal.Reads as refusal-reads
 
--- src/lib.rt:186:33
 judge-requires : tie.Need-judge-requires
 judge-requires c κs = search needs
 
--- src/lib.rt:186:22
 enum-known-heading : tie.Need-enum-known-heading
 enum-known-heading c = search needs
 
--- src/lib.rt:189:19
 enum-told : tie.Need-enum-told
 enum-told c = search needs
 
--- src/lib.rt:189:19
 no-plan-requires : tie.Need-no-plan-requires
 no-plan-requires c κs = search needs
 
--- src/lib.rt:187:9
 returns : tie.Need-returns
-returns c = ?
+returns c =
+    let a = c .before .before .before .before .before .before .before .args in
+    let j = c .before .before .before .judge in
+    read-bad (a .file .now) (a .cells .now) (a .functions .now) (c .no-plan .result) (judged-bad (a .file .now) (j .result) (j .ensures) (c .before .enum-told .given .1)) (c .no-plan .ensures)
 
--- src/lib.rt:193:9
+-- a file that can be read
+good : (c : tie.After-heading) → GoodFile (c .before .before .before .before .before .before .args .file .now) (c .heading .given .0 .0)
+good c =
+    let j = c .before .before .judge in
+    judged-good _ (j .result) (c .heading .given .0 .0) (j .ensures) (c .heading .given .1)
+
 refusal-requires : tie.Need-refusal-requires
 refusal-requires c κs = search needs
 
--- src/lib.rt:195:9
 refuse-requires : tie.Need-refuse-requires
 refuse-requires c κs = search needs
 
--- src/lib.rt:195:9
 same-length : tie.Need-same-length
 same-length c = search needs
 
--- src/lib.rt:195:9
 same-length-2 : tie.Need-same-length-2
 same-length-2 c = search needs
 
--- src/lib.rt:195:9
 returns-2 : tie.Need-returns-2
-returns-2 c = ?
+returns-2 c =
+    let a = c .before .before .before .before .before .before .before .before .before .before .before .before .before .args in
+    let h = c .before .before .before .before .before .before .before in
+    read-early (a .file .now) (h .heading .given .0 .0) (good h) (a .cells .now) (a .functions .now) _ (c .refuse .result) (c .before .before .refusal .ensures) (c .before .if1 .taken) (c .refuse .ensures)
 
--- src/lib.rt:197:5
 restore-requires : tie.Need-restore-requires
-restore-requires c κs = ?
+restore-requires c κs =
+    (good (c .before .before .before .before .before .before .before .before), sym (c .before .before .before .refusal .ensures) ∙ c .before .before .if1 .left)
 
--- src/lib.rt:183:1
 same-length-3 : tie.Need-same-length-3
 same-length-3 c = search needs
 
--- src/lib.rt:183:1
 same-length-4 : tie.Need-same-length-4
 same-length-4 c = search needs
 
--- src/lib.rt:183:1
 returns-3 : tie.Need-returns-3
 returns-3 c = search needs
 

@@ -1,3 +1,6 @@
+-- `rebuild` meets its contract. Assumes nothing.
+use mathlib.Core.Path.{_∙_}
+use Rattle.files.proofs.Reading.{rebuilt-is}
 use borrow.Author.Needs.{needs}
 use Rattle.files.proofs.rebuild.Statement.{statement}
 use Rattle.files.proofs.rebuild.Tie as tie
@@ -6,21 +9,21 @@ use Rattle.files.proofs.rebuild.Lts as lts
 use Rattle.listing.proofs.mark_cells.Reads as mark-cells-reads
 use Rattle.nesting.proofs.complete.Reads as complete-reads
 
--- src/lib.rt:139:5
 mark-cells-requires : tie.Need-mark-cells-requires
 mark-cells-requires c κs = search needs
 
--- src/lib.rt:140:5
 complete-requires : tie.Need-complete-requires
 complete-requires c κs = search needs
 
--- src/lib.rt:132:1
 same-length : tie.Need-same-length
 same-length c = search needs
 
--- src/lib.rt:132:1
 returns : tie.Need-returns
-returns c = ?
+returns c =
+    let s = c .before .before .before .before .before .before .before .before .before .before in
+    let a = s .args in
+    let m = c .before .before .before .before .before .before .mark-cells in
+    c .before .before .complete .ensures ∙ rebuilt-is (a .file .now) (a .heading) (s .pre .0) (a .heading .plan) (a .table .now) _ (s .pre .1 .0) (s .pre .1 .1 .1) (m .ensures)
 
 pub rebuild-spec : {M : Type 1} → statement M
 rebuild-spec = tie.close (tie.spec mark-cells-requires complete-requires same-length returns)

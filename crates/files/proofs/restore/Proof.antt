@@ -1,3 +1,17 @@
+-- `restore` meets its contract. Assumes nothing.
+use mathlib.Core.Path.{_≡_, refl, sym, ap, _∙_}
+use Prim.Native.Nat.{ℕ, _<_}
+use native.Mathlib.Omega.{arith}
+use lib.Dec.{eqb}
+use lib.ListN.{length}
+use mathlib.Core.List.{List}
+use Rattle.facts.proofs.Zeros.{zeros, part-length}
+use Rattle.grid.specs.Plan.{cellTotal}
+use Rattle.grid.specs.Bounds.{mostCells}
+use Rattle.mesh.proofs.Bridge.{Passed, passed}
+use Rattle.files.specs.File.{rebuilt}
+use Rattle.files.specs.Steps.{cellsOf, tableRefusal}
+use Rattle.files.proofs.Reading.{clear, rebuilt-size, read-beyond, mesh-table, read-refused, read-done}
 use borrow.Author.Needs.{needs}
 use Rattle.files.proofs.restore.Statement.{statement}
 use Rattle.files.proofs.restore.Tie as tie
@@ -9,57 +23,85 @@ use Rattle.files.proofs.table_refusal.Reads as table-refusal-reads
 use Rattle.grid.proofs.Plan.cell_total.Reads as cell-total-reads
 use Rattle.labels.proofs.write_labels.Reads as write-labels-reads
 
--- src/lib.rt:167:17
-cell-total-requires : tie.Need-cell-total-requires
-cell-total-requires c κs = ?
+-- what refusals 1 to 3 leave
+fits : (c : tie.Start) → Passed (c .args .heading .plan) (c .args .cells .now) (c .args .functions .now)
+fits c = passed (c .args .heading .plan) (c .args .cells .now) (c .args .functions .now) (c .pre .1)
 
--- src/lib.rt:167:17
+cell-total-requires : tie.Need-cell-total-requires
+cell-total-requires c κs = fits (c .before .before .before .before) .range
+
 cast-total : tie.Need-cast-total
 cast-total c = search needs
 
--- src/lib.rt:169:9
 returns : tie.Need-returns
-returns c = ?
+returns c =
+    let s = c .before .before .before .before .before .before .before in
+    let a = s .args in
+    read-beyond (a .file .now) (a .heading) (s .pre .0) (a .cells .now) (a .functions .now) (s .pre .1) (omega (arith, c .before .before .cell-total .ensures, c .if1 .taken))
 
--- src/lib.rt:172:17
 array-borrow-prefix-room : tie.Need-array-borrow-prefix-room
-array-borrow-prefix-room c = ?
+array-borrow-prefix-room c = omega (arith, c .before .before .cell-total .ensures, fits (c .before .before .before .before .before .before .before) .small)
 
--- src/lib.rt:172:9
 slice-aggregate-table : tie.Need-slice-aggregate-table
-slice-aggregate-table c = ?
+slice-aggregate-table c = zeros mostCells (c .before .before .before .cell-total .result) (omega (arith, c .before .before .before .cell-total .ensures, fits (c .before .before .before .before .before .before .before .before) .small))
 
--- src/lib.rt:173:5
 rebuild-requires : tie.Need-rebuild-requires
-rebuild-requires c κs = ?
+rebuild-requires c κs =
+    let s = c .before .before .before .before .before .before .before .before .before in
+    let t = c .before .before .before .before .cell-total in
+    let l = part-length mostCells (t .result) (t .ensures) (fits s .small) in
+    (s .pre .0, (omega (arith, c .before .before .if1 .left, t .ensures, l), (record { range = fits s .range; small = fits s .small; size = l }, clear mostCells (t .result))))
 
--- src/lib.rt:174:9
 table-refusal-requires : tie.Need-table-refusal-requires
-table-refusal-requires c κs = ?
+table-refusal-requires c κs =
+    let s = c .before .before .before .before .before .before .before .before .before .before .before .before .before .before in
+    record { range = fits s .range; small = fits s .small; size = ap length (c .before .before .before .before .rebuild .ensures) ∙ rebuilt-size (s .args .heading .plan) _ }
 
--- src/lib.rt:176:9
+-- the rebuilt table decides
+decided : (c : tie.After-table-refusal) → let a = c .before .before .before .before .before .before .before .before .before .before .before .before .before .before .before .args in
+    c .table-refusal .result ≡ tableRefusal (a .heading .plan) (rebuilt (a .heading .plan) (cellsOf (a .file .now) (a .heading))) (eqb (a .heading .end) (length (a .file .now)))
+decided c =
+    let a = c .before .before .before .before .before .before .before .before .before .before .before .before .before .before .before .args in
+    c .table-refusal .ensures ∙ ap (λ (t : List ℕ). tableRefusal (a .heading .plan) t (eqb (a .heading .end) (length (a .file .now)))) (c .before .before .before .before .before .rebuild .ensures)
+
+inside : (c : tie.After-table-refusal) → c .before .before .before .before .before .before .before .before .before .before .before .before .before .before .before .args .heading .last < cellTotal (c .before .before .before .before .before .before .before .before .before .before .before .before .before .before .before .args .heading .plan)
+inside c = omega (arith, c .before .before .before .before .before .before .before .before .if1 .left, c .before .before .before .before .before .before .before .before .before .before .cell-total .ensures)
+
 copy-bytes-requires : tie.Need-copy-bytes-requires
-copy-bytes-requires c κs = ?
+copy-bytes-requires c κs =
+    let s = c .before .before .before .before .before .before .before .before .before .before .before .before .before .before .before .before .before .before in
+    fits s .cells ∙ sym (ap length (c .before .before .before .before .before .before .before .before .rebuild .ensures) ∙ rebuilt-size (s .args .heading .plan) _)
 
--- src/lib.rt:177:9
 write-labels-requires : tie.Need-write-labels-requires
-write-labels-requires c κs = ?
+write-labels-requires c κs =
+    let s = c .before .before .before .before .before .before .before .before .before .before .before .before .before .before .before .before .before .before .before .before .before .before .before .before in
+    let a = s .args in
+    let t = c .before .before .before .before .before .before .before .before .before in (
+      mesh-table (a .file .now) (a .heading) (s .pre .0) (a .cells .now) (a .functions .now) (s .pre .1) (inside t) _ _ refl (decided t) (c .before .before .before .before .before .before .before .before .if2 .taken) _
+          (c .before .before .before .before .before .copy-bytes .ensures ∙ c .before .before .before .before .before .before .before .before .before .before .before .before .before .before .rebuild .ensures),
+      (fits s .functions, fits s .small),
+    )
 
--- src/lib.rt:161:1
 same-length : tie.Need-same-length
 same-length c = search needs
 
--- src/lib.rt:161:1
 same-length-2 : tie.Need-same-length-2
 same-length-2 c = search needs
 
--- src/lib.rt:161:1
 returns-2 : tie.Need-returns-2
-returns-2 c = ?
+returns-2 c =
+    let s = c .before .before .before .before .before .before .before .before .before .before .before .before .before .before .before .before .before .before .before .before .before .before .before .before .before .before .before in
+    let a = s .args in
+    let t = c .before .before .before .before .before .before .before .before .before .before .before .before in
+    read-done (a .file .now) (a .heading) (s .pre .0) (a .cells .now) (a .functions .now) (s .pre .1) (inside t) _ _ refl (decided t) (c .before .before .before .before .before .before .before .before .before .before .before .if2 .taken) _ _
+    (c .before .before .before .before .before .before .before .before .copy-bytes .ensures ∙ c .before .before .before .before .before .before .before .before .before .before .before .before .before .before .before .before .before .rebuild .ensures) (c .before .before .write-labels .ensures)
 
--- src/lib.rt:161:1
 returns-3 : tie.Need-returns-3
-returns-3 c = ?
+returns-3 c =
+    let s = c .before .before .before .before .before .before .before .before .before .before .before .before .before .before .before .before .before in
+    let a = s .args in
+    let t = c .before .before in
+    read-refused (a .file .now) (a .heading) (s .pre .0) (a .cells .now) (a .functions .now) (s .pre .1) (inside t) _ _ refl (decided t) (c .before .if2 .left)
 
 pub restore-spec : {M : Type 1} → statement M
 restore-spec =

@@ -1,3 +1,6 @@
+-- `table_refusal` meets its contract. Assumes nothing.
+use mathlib.Core.Path.{sym, _∙_}
+use Rattle.files.proofs.Reading.{with-4, with-5, with-13, with-none}
 use borrow.Author.Needs.{needs}
 use Rattle.files.proofs.table_refusal.Statement.{statement}
 use Rattle.files.proofs.table_refusal.Tie as tie
@@ -6,29 +9,25 @@ use Rattle.files.proofs.table_refusal.Lts as lts
 use Rattle.admissible.proofs.is_admissible.Reads as is-admissible-reads
 use Rattle.nesting.proofs.is_mesh.Reads as is-mesh-reads
 
--- src/lib.rt:148:8
 is-mesh-requires : tie.Need-is-mesh-requires
 is-mesh-requires c κs = search needs
 
--- src/lib.rt:149:12
 is-admissible-requires : tie.Need-is-admissible-requires
-is-admissible-requires c κs = ?
+is-admissible-requires c κs =
+    let s = c .before .before .before in
+    (record { sized = record { range = s .pre .range; size = s .pre .size }; mesh = sym (c .before .is-mesh .ensures) ∙ c .if1 .taken }, s .pre .small)
 
--- src/lib.rt:151:17
 returns : tie.Need-returns
-returns c = ?
+returns c = with-none _ _ _ (sym (c .before .before .before .before .is-mesh .ensures) ∙ c .before .before .before .if1 .taken) (sym (c .before .before .is-admissible .ensures) ∙ c .before .if2 .taken) (c .if3 .taken)
 
--- src/lib.rt:153:13
 returns-2 : tie.Need-returns-2
-returns-2 c = ?
+returns-2 c = with-13 _ _ _ (sym (c .before .before .before .before .is-mesh .ensures) ∙ c .before .before .before .if1 .taken) (sym (c .before .before .is-admissible .ensures) ∙ c .before .if2 .taken) (c .if3 .left)
 
--- src/lib.rt:155:9
 returns-3 : tie.Need-returns-3
-returns-3 c = ?
+returns-3 c = with-5 _ _ _ (sym (c .before .before .before .is-mesh .ensures) ∙ c .before .before .if1 .taken) (sym (c .before .is-admissible .ensures) ∙ c .if2 .left)
 
--- src/lib.rt:144:1
 returns-4 : tie.Need-returns-4
-returns-4 c = ?
+returns-4 c = with-4 _ _ _ (sym (c .before .is-mesh .ensures) ∙ c .if1 .left)
 
 pub table-refusal-spec : {M : Type 1} → statement M
 table-refusal-spec =

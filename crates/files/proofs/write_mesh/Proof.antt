@@ -1,3 +1,11 @@
+-- `write_mesh` meets its contract. Assumes nothing.
+use mathlib.Core.Path.{_≡_, sym, _∙_}
+use Prim.Native.Nat.{_+_, _≤_}
+use native.Mathlib.Omega.{arith}
+use lib.ListN.{length}
+use Rattle.codec.proofs.Lists.{numbers-short}
+use Rattle.files.specs.File.{fileOf}
+use Rattle.files.proofs.Writing.{head, head-small, file-length, too-few, wrote-parts}
 use borrow.Author.Needs.{needs}
 use Rattle.files.proofs.write_mesh.Statement.{statement}
 use Rattle.files.proofs.write_mesh.Tie as tie
@@ -9,53 +17,78 @@ use Rattle.files.proofs.unwritten.Reads as unwritten-reads
 use Rattle.listing.proofs.measure.Reads as measure-reads
 use Rattle.listing.proofs.write_cells.Reads as write-cells-reads
 
--- src/lib.rt:212:9
 measure-requires : tie.Need-measure-requires
 measure-requires c κs = search needs
 
--- src/lib.rt:222:34
 slice-aggregate-size-all : tie.Need-slice-aggregate-size-all
 slice-aggregate-size-all c = search needs
 
--- src/lib.rt:222:18
 size-all-requires : tie.Need-size-all-requires
-size-all-requires c κs = ?
+size-all-requires c κs =
+    let s = c .before .before .before .before in
+    (head-small (s .args .plan) (s .args .cells .now) (s .pre) (c .before .measure .result) (c .before .measure .ensures), omega arith)
 
--- src/lib.rt:222:18
+-- the file's length, which is small
+length-is : (c : tie.After-size-all) → let a = c .before .before .before .before .before .args in length (fileOf (a .plan) (a .cells .now)) ≡ c .size-all .result + c .before .before .measure .result .bytes
+length-is c =
+    let s = c .before .before .before .before .before in
+    let m = c .before .before .measure in
+    file-length (s .args .plan) (s .args .cells .now) (s .pre) (m .result) (m .ensures) ∙ omega (arith, c .size-all .ensures)
+
+few : (c : tie.After-struct-known) → c .before .size-all .result + c .before .before .before .measure .result .bytes ≤ 65556
+few c =
+    let s = c .before .before .before .before .before .before in
+    omega (
+      arith,
+      numbers-short (head (s .args .plan) (s .args .cells .now) (s .pre) (c .before .before .before .measure .result) (c .before .before .before .measure .ensures)),
+      c .before .size-all .ensures,
+      c .before .before .before .measure .ensures .few,
+      s .pre .size,
+      s .pre .small,
+    )
+
 add-length : tie.Need-add-length
-add-length c = ?
+add-length c = omega (arith, few c)
 
--- src/lib.rt:224:9
 unwritten-requires : tie.Need-unwritten-requires
 unwritten-requires c κs = search needs
 
--- src/lib.rt:224:9
 returns : tie.Need-returns
-returns c = ?
+returns c =
+    let a = c .before .before .before .before .before .before .before .before .args in
+    too-few _ (a .file .now) (c .unwritten .result) (omega (arith, c .before .if1 .taken, length-is (c .before .before .before))) (c .unwritten .ensures)
 
--- src/lib.rt:226:31
 slice-aggregate-write-all : tie.Need-slice-aggregate-write-all
 slice-aggregate-write-all c = search needs
 
--- src/lib.rt:226:9
 write-all-requires : tie.Need-write-all-requires
-write-all-requires c κs = ?
+write-all-requires c κs =
+    let s = c .before .before .before .before .before .before .before .before .before in
+    let m = c .before .before .before .before .before .before .measure in
+    (head-small (s .args .plan) (s .args .cells .now) (s .pre) (m .result) (m .ensures), omega (arith, c .before .before .if1 .left, c .before .before .before .before .size-all .ensures))
 
--- src/lib.rt:227:5
 write-cells-requires : tie.Need-write-cells-requires
-write-cells-requires c κs = search needs
+write-cells-requires c κs =
+    let s = c .before .before .before .before .before .before .before .before .before .before .before .before .before in
+    let w = c .before .before .before .write-all in (
+      omega (arith, s .pre .size, s .pre .small),
+      omega (arith, w .ensures .end, w .kept .1 .0, c .before .before .before .before .before .before .before .before .before .before .measure .ensures .bytes, c .before .before .before .before .before .before .before .before .size-all .ensures, c .before .before .before .before .before .before .if1 .left),
+    )
 
--- src/lib.rt:230:17
 cast-t18 : tie.Need-cast-t18
-cast-t18 c = ?
+cast-t18 c = omega (arith, few (c .before .before .before .before .before .before .before .before .before .before))
 
--- src/lib.rt:208:1
 same-length : tie.Need-same-length
 same-length c = search needs
 
--- src/lib.rt:208:1
 returns-2 : tie.Need-returns-2
-returns-2 c = ?
+returns-2 c =
+    let s = c .before .before .before .before .before .before .before .before .before .before .before .before .before .before .before .before in
+    let a = s .args in
+    let m = c .before .before .before .before .before .before .before .before .before .before .before .before .before .measure in
+    let l = length-is (c .before .before .before .before .before .before .before .before .before .before .before) in
+    wrote-parts (a .plan) (a .cells .now) (s .pre) (m .result) (m .ensures) (a .file .now) _ _ _ _ _ (omega (arith, l, c .before .before .before .before .before .before .before .before .before .if1 .left)) (sym l)
+    (c .before .before .before .before .before .before .write-all .ensures) (c .before .before .write-cells .ensures)
 
 pub write-mesh-spec : {M : Type 1} → statement M
 write-mesh-spec =
