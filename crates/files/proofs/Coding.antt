@@ -2,7 +2,7 @@
 -- gave. Assumes nothing.
 use mathlib.Core.Path.{_≡_, refl, sym, ap, _∙_}
 use mathlib.Core.List.{List, [], _∷_, _++_, append-assoc, append-nil}
-use Prim.Native.Nat.{ℕ, suc, _<_}
+use Prim.Native.Nat.{ℕ, _<_}
 use native.Mathlib.Omega.{arith}
 use lib.ListN.{length}
 use Rattle.grid.specs.declared.Plan.{Plan}
@@ -61,7 +61,8 @@ module _ (s : List ℕ) (p : Plan) (cells rest : List ℕ) (e : decodeFile s ≡
   unfolding decodeFile encodeFile withPlan withCount withCells
   file-canonical = onPlan (decodeNumbers 6 s) refl
     where
-      onCells : (ns r t : List ℕ) (n : ℕ) → decodeNumbers 6 s ≡ gotMany ns r → decodeNumber r ≡ got n t → (m : Many) → decodeRising n t ≡ m → FileOf s p cells rest
+      onCells : (ns r t : List ℕ) (n : ℕ) → decodeNumbers 6 s ≡ gotMany ns r → decodeNumber r ≡ got n t
+          → (m : Many) → decodeRising n t ≡ m → FileOf s p cells rest
       onCells ns r t n a b badMany q = no-file (rw (a, b, q) at e)
       onCells ns r t n a b (gotMany cs u) q =
           let w : gotFile (planOf ns) cs u ≡ gotFile p cells rest = rw (a, b, q) at e in
@@ -73,8 +74,10 @@ module _ (s : List ℕ) (p : Plan) (cells rest : List ℕ) (e : decodeFile s ≡
           let k = rising-canonical n t cs u q in
           let l : length cs ≡ n = k .count in
           let v : planNumbers (planOf ns) ≡ ns = six ns (i .count) in
+          let counted : r ≡ (encodeNumber (length cs) ++ encodeRising cs) ++ u =
+          j .0 ∙ ap (λ (v : List ℕ). encodeNumber n ++ v) (k .bytes) ∙ rw (l, append-assoc (encodeNumber n) (encodeRising cs) u) refl in
           rw (← x, ← y, ← z) (record {
-            bytes = rw v (i .bytes ∙ ap (λ (v : List ℕ). encodeNumbers ns ++ v) (j .0 ∙ ap (λ (v : List ℕ). encodeNumber n ++ v) (k .bytes) ∙ rw (l, append-assoc (encodeNumber n) (encodeRising cs) u) refl)
+            bytes = rw v (i .bytes ∙ ap (λ (v : List ℕ). encodeNumbers ns ++ v) counted
                 ∙ sym (append-assoc (encodeNumbers ns) (encodeNumber (length cs) ++ encodeRising cs) u));
             writable = record { plan = rw v (i .small); few = rw l (j .1); rising = k .rises };
           })

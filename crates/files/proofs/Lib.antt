@@ -1,3 +1,5 @@
 pub mod Decoding
 pub mod Rising
 pub mod Coding
+pub mod Meshes
+pub mod Results
