@@ -15,6 +15,7 @@ use Rattle.files.specs.File.{badFile, gotFile, decodeFile, fileOf, noPla
 -- an accepted call wrote the file of a mesh; "everything lent for output keeps its values .. past what is written"
 pub record Written (p : Plan) (cs fs file : List ℕ) (o : WriteOutcome) : Type 0 where
   pub checked : check p cs fs ≡ 0
+  pub answered : o .answer .length ≡ length (fileOf p cs)
   pub bytes : take (o .answer .length) (o .file) ≡ fileOf p cs
   pub tail : drop (o .answer .length) (o .file) ≡ drop (o .answer .length) file
   pub room : length (o .file) ≡ length file

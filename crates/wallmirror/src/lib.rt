@@ -2,6 +2,8 @@
 use calls::By;
 use calls::Call;
 use calls::Direction;
+use files::ReadAnswer;
+use files::WriteAnswer;
 use grid::Plan;
 use mesh::Count;
 use outcomes::Answer;
@@ -9,6 +11,8 @@ ghost use mathlib.Core.Path.{_≡_};
 ghost use Rattle.mesh.specs.Mesh.{openMesh, check, count};
 ghost use Rattle.outcomes.specs.Calls.{refineCells, refineFunctions, coarsenCells, coarsenFunctions};
 ghost use Rattle.outcomes.specs.Contracts.{Meets};
+ghost use Rattle.files.specs.File.{readMesh, writeMesh};
+ghost use Rattle.files.specs.Steps.{leftByRead, leftByWrite};
 
 #[no_mangle]
 pub extern "C" fn wallmirror_open(plan: Plan, cells: &mut [u8], functions: &mut [u8]) -> u32
@@ -127,4 +131,27 @@ pub extern "C" fn wallmirror_coarsen_functions(
         cell_list,
         function_list,
     )
+}
+
+#[no_mangle]
+pub extern "C" fn wallmirror_read(
+    file: &[u8],
+    cells: &mut [u8],
+    functions: &mut [u8],
+) -> ReadAnswer
+    ensures { λ r. ⌜ leftByRead r cells functions ≡ readMesh (now (file .entry)) (now (cells .entry)) (now (functions .entry)) ⌝ }
+{
+    files::read(file, cells, functions)
+}
+
+#[no_mangle]
+pub extern "C" fn wallmirror_write(
+    plan: Plan,
+    cells: &[u8],
+    functions: &[u8],
+    file: &mut [u8],
+) -> WriteAnswer
+    ensures { λ r. ⌜ leftByWrite r file ≡ writeMesh plan (now (cells .entry)) (now (functions .entry)) (now (file .entry)) ⌝ }
+{
+    files::write(plan, cells, functions, file)
 }

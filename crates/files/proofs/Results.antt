@@ -1,0 +1,183 @@
+-- What Req 01 asks of reading and writing, proved of `readMesh` and `writeMesh`. Assumes nothing.
+use mathlib.Core.Path.{_≡_, refl, sym, ap, _∙_}
+use mathlib.Core.Bool.{Bool, true, false, cond}
+use mathlib.Core.List.{List, [], _++_}
+use mathlib.Core.Logic.{_≢_}
+use Prim.Native.Nat.{ℕ, zero, suc, _≤_}
+use native.Mathlib.Omega.{arith}
+use lib.Dec.{ltb, eqb, eqb·suc-zero}
+use lib.ListN.{length, drop, length-append, length-drop}
+use lib.Seq.{take-append-seam, drop-append-seam}
+use borrow.Author.Tests.{ltb-false, le-ltb, ne-eqb}
+use Rattle.grid.specs.declared.Plan.{Plan}
+use Rattle.grid.specs.Plan.{cellTotal, functionTotal}
+use Rattle.mesh.specs.Mesh.{labels, refusal3, check}
+use Rattle.mesh.proofs.Bridge.{check-good, check-passed, chain}
+use Rattle.files.specs.Bounds.{mostFileBytes}
+use Rattle.files.specs.File.{File, badFile, gotFile, decodeFile, fileOf, rebuilt, readRefusal, noPlan, answeredPlan, ReadOutcome, readFile, readMesh, WriteOutcome, unwritten, writeText, writeMesh}
+use Rattle.files.specs.Demands.{Written, Unwritten, Rebuilt, Refused, Files}
+use Rattle.files.proofs.Coding.{no-file}
+use Rattle.files.proofs.Meshes.{same-lengths, file-read, same-table, passes13, unsized, rebuilt-checked, rebuilt-only}
+
+-- ---- writing
+
+-- the text in the lent bytes
+abbrev textIn : List ℕ → List ℕ → WriteOutcome
+textIn text file = record { answer = record { number = 0; length = length text }; file = text ++ drop (length text) file }
+
+module _ (p : Plan) (cs fs file : List ℕ) where
+  -- a call wrote the file, or nothing
+  data Wrote (o : WriteOutcome) : Type 0 where
+    whole : check p cs fs ≡ 0 → length (fileOf p cs) ≤ length file → o ≡ textIn (fileOf p cs) file → Wrote o
+    nothing : (n : ℕ) → o ≡ unwritten (suc n) file → Wrote o
+
+  wrote : Wrote (writeMesh p cs fs file)
+  unfolding writeMesh writeText
+  wrote = go (check p cs fs) refl
+    where
+      room : (b : Bool) → check p cs fs ≡ 0 → ltb (length file) (length (fileOf p cs)) ≡ b
+          → Wrote (cond b (unwritten 10 file) (textIn (fileOf p cs) file))
+      room true e q = nothing 9 refl
+      room false e q = whole e (ltb-false (length file) (length (fileOf p cs)) q) refl
+
+      go : (n : ℕ) → check p cs fs ≡ n → Wrote (cond (eqb n 0) (writeText (fileOf p cs) file) (unwritten n file))
+      go zero e = room (ltb (length file) (length (fileOf p cs))) e refl
+      go (suc n) e = rw (eqb·suc-zero n) (nothing n refl)
+
+  module _ (o : WriteOutcome) where
+    written-of : Wrote o → o .answer .number ≡ 0 → Written p cs fs file o
+    written-of (whole c l e) z = rw e (record {
+      checked = c;
+      answered = refl;
+      bytes = take-append-seam (fileOf p cs) (drop (length (fileOf p cs)) file);
+      tail = drop-append-seam (fileOf p cs) (drop (length (fileOf p cs)) file);
+      room = omega (arith, length-append (fileOf p cs) (drop (length (fileOf p cs)) file), length-drop (length (fileOf p cs)) file);
+    })
+    written-of (nothing n e) z = absurd (unfold unwritten in let w : ⊥ = omega (arith, ap (λ o. o .answer .number) e) in w)
+
+    unwritten-of : Wrote o → o .answer .number ≢ 0 → Unwritten file o
+    unfolding unwritten
+    unwritten-of (whole c l e) z = absurd (z (ap (λ o. o .answer .number) e))
+    unwritten-of (nothing n e) z = rw e (record { bytes = refl; none = refl })
+
+  -- a mesh is written where there is room
+  write-is : check p cs fs ≡ 0 → length (fileOf p cs) ≤ length file → writeMesh p cs fs file ≡ textIn (fileOf p cs) file
+  unfolding writeMesh writeText
+  write-is e h = rw (e, le-ltb (length file) (length (fileOf p cs)) h) refl
+
+-- ---- reading
+
+-- a number and a plan, with these tables
+abbrev answering : ℕ → Plan → List ℕ → List ℕ → ReadOutcome
+answering n p cs fs = record { answer = record { number = n; plan = p }; cells = cs; functions = fs }
+
+-- the mesh with this cell table
+abbrev giving : Plan → List ℕ → ReadOutcome
+giving p table = answering 0 p table (labels p table)
+
+module _ (n : ℕ) (p : Plan) where
+  answered : n ≢ 1 → n ≢ 2 → answeredPlan n p ≡ p
+  unfolding answeredPlan
+  answered a b = rw (ne-eqb n 1 a, ne-eqb n 2 b) refl
+
+  answered-one : n ≡ 1 → answeredPlan n p ≡ noPlan
+  unfolding answeredPlan
+  answered-one e = rw e refl
+
+  answered-two : n ≡ 2 → answeredPlan n p ≡ noPlan
+  unfolding answeredPlan
+  answered-two e = rw e refl
+
+module _ (s cs fs : List ℕ) where
+  -- bytes that cannot be read, a refusal of what they give, or a mesh
+  data Read (o : ReadOutcome) : Type 0 where
+    unread : decodeFile s ≡ badFile → o ≡ answering 12 noPlan cs fs → Read o
+    refused-as : (p : Plan) (cells rest : List ℕ) (n : ℕ) → decodeFile s ≡ gotFile p cells rest
+        → o ≡ answering (suc n) (answeredPlan (suc n) p) cs fs → Read o
+    accepted : (p : Plan) (cells rest : List ℕ) → decodeFile s ≡ gotFile p cells rest → readRefusal p cells rest cs fs ≡ 0
+        → o ≡ giving p (rebuilt p cells) → Read o
+
+  read : Read (readMesh s cs fs)
+  unfolding readMesh readFile
+  read = go (decodeFile s) refl
+    where
+      judge : (p : Plan) (cells rest : List ℕ) → decodeFile s ≡ gotFile p cells rest → (n : ℕ) → readRefusal p cells rest cs fs ≡ n
+          → Read (cond (eqb n 0) (giving p (rebuilt p cells)) (answering n (answeredPlan n p) cs fs))
+      judge p cells rest d zero e = accepted p cells rest d e refl
+      judge p cells rest d (suc n) e = rw (eqb·suc-zero n) (refused-as p cells rest n d refl)
+
+      go : (f : File) → decodeFile s ≡ f → Read (readFile f cs fs)
+      go badFile d = unread d refl
+      go (gotFile p cells rest) d = judge p cells rest d (readRefusal p cells rest cs fs) refl
+
+  module _ (o : ReadOutcome) where
+    rebuilt-of : Read o → o .answer .number ≡ 0 → Rebuilt s o
+    rebuilt-of (unread d e) z = absurd (let w : ⊥ = omega (arith, ap (λ o. o .answer .number) e) in w)
+    rebuilt-of (refused-as p cells rest n d e) z = absurd (let w : ⊥ = omega (arith, ap (λ o. o .answer .number) e) in w)
+    rebuilt-of (accepted p cells rest d r e) z = rw e (record {
+      checked = rebuilt-checked p cells rest cs fs r;
+      only = rebuilt-only p cells rest cs fs r s d;
+    })
+
+    refused-of : Read o → o .answer .number ≢ 0 → Refused s cs fs o
+    refused-of (unread d e) z = rw e (record {
+      cells = refl;
+      functions = refl;
+      plan = λ p cells rest g a b. no-file (sym d ∙ g);
+      zeros1 = λ a. refl;
+      zeros2 = λ a. refl;
+      zeros12 = λ a. (refl, refl);
+    })
+    refused-of (refused-as p cells rest n d e) z = rw e (record {
+      cells = refl;
+      functions = refl;
+      plan = λ q cells′ rest′ g a b. let w : p ≡ q = cc in answered (suc n) p a b ∙ w;
+      zeros1 = answered-one (suc n) p;
+      zeros2 = answered-two (suc n) p;
+      zeros12 = λ a. no-file (sym a ∙ d);
+    })
+    refused-of (accepted p cells rest d r e) z = absurd (z (ap (λ o. o .answer .number) e))
+
+-- ---- a mesh and its file
+
+-- what was read is written again as it stood
+again : (s file : List ℕ) (o : ReadOutcome) → Rebuilt s o → length s ≤ length file
+    → writeMesh (o .answer .plan) (o .cells) (o .functions) file ≡ textIn s file
+again s file o r h =
+    write-is (o .answer .plan) (o .cells) (o .functions) file (r .checked) (rw (r .only) at h)
+    ∙ ap (λ (t : List ℕ). textIn t file) (sym (r .only))
+
+module _ (p : Plan) (cs fs : List ℕ) (e : check p cs fs ≡ 0) where
+  tables : refusal3 p cs fs ≡ 0
+  unfolding check
+  tables = chain (refusal3 p cs fs) _ e .0
+
+  back : (c f : List ℕ) → length c ≡ cellTotal p → length f ≡ functionTotal p → readMesh (fileOf p cs) c f ≡ answering 0 p cs fs
+  unfolding readMesh readFile readRefusal
+  back c f a b =
+      let k = check-passed p cs fs e in
+      rw (
+        file-read p cs fs e,
+        same-lengths p c f cs fs (a ∙ sym (k .cells)) (b ∙ sym (k .functions)),
+        tables,
+        passes13 p cs fs e,
+        same-table p cs fs e,
+        ← check-good p cs fs e .1,
+      ) refl
+
+  sized : readMesh (fileOf p cs) [] [] ≡ answering 3 p [] []
+  unfolding readMesh readFile readRefusal answeredPlan
+  sized = rw (file-read p cs fs e, unsized p cs fs e) refl
+
+-- ---- all of it, from a bound on the length of a file
+
+module _ (short : (p : Plan) (cs fs : List ℕ) → check p cs fs ≡ 0 → length (fileOf p cs) ≤ mostFileBytes) where
+  pub files : Files
+  files = record {
+    written = λ p cs fs file. written-of p cs fs file (writeMesh p cs fs file) (wrote p cs fs file);
+    unwritten = λ p cs fs file. unwritten-of p cs fs file (writeMesh p cs fs file) (wrote p cs fs file);
+    rebuilt = λ s cs fs. rebuilt-of s cs fs (readMesh s cs fs) (read s cs fs);
+    refused = λ s cs fs. refused-of s cs fs (readMesh s cs fs) (read s cs fs);
+    kept = λ p cs fs e. record { back = back p cs fs e; sized = sized p cs fs e; short = short p cs fs e };
+    again = λ s cs fs file z h. again s file (readMesh s cs fs) (rebuilt-of s cs fs (readMesh s cs fs) (read s cs fs) z) h;
+  }
