@@ -3,7 +3,6 @@
 use mathlib.Core.Path.{_≡_, refl, sym, ap, _∙_, fun-ext}
 use mathlib.Core.List.{List, [], _∷_}
 use Prim.Native.Nat.{ℕ, _≤_, _<_}
-use native.Mathlib.Nat.{mul-le-mul}
 use native.Mathlib.Omega.{arith}
 use lib.Dec.{T, eqb, eqb→eq, ltb, ltb→lt, lt→ltb}
 use lib.ListN.{length}
@@ -15,11 +14,9 @@ use Rattle.facts.proofs.Numbers.{all-e, all-i, listed→, →listed}
 use Rattle.facts.proofs.Turns.{listed-short}
 use Rattle.grid.specs.declared.Plan.{Plan}
 use Rattle.grid.specs.Bounds.{mostCells}
-use Rattle.grid.specs.Plan.{inRange, tooLarge, columnsAt, rowsAt, cellTotal, functionTotal}
+use Rattle.grid.specs.Plan.{inRange, tooLarge, cellTotal, functionTotal}
 use Rattle.grid.specs.Range.{InRange}
-use Rattle.grid.proofs.Laws.{range-test}
-use Rattle.grid.proofs.Numbering.{level-ends}
-use Rattle.grid.proofs.Sides.{across-in, up-in}
+use Rattle.grid.proofs.Laws.{range-test, cells-some}
 use Rattle.mesh.specs.Mesh.{refined, isMesh, isAdmissible, isLabelled, tableOf, labels, refusal3, refusal6, check}
 use Rattle.mesh.proofs.Bridge.{Good, check-good, good-inside, is-mesh, is-admissible, chain, pass, passed, length-tableOf, length-labels, getD-labels, refined-tableOf}
 use Rattle.codec.specs.Numbers.{Small, none, more}
@@ -36,16 +33,7 @@ pub same-lengths : (p : Plan) (cs fs cs′ fs′ : List ℕ) → length cs ≡ l
 unfolding refusal3
 same-lengths p cs fs cs′ fs′ a b = rw (a, b) refl
 
--- a plan that is in range has cells
-cells-some : (p : Plan) → InRange p → 1 ≤ cellTotal p
-cells-some p r =
-    omega (
-      arith,
-      level-ends (columnsAt p) (rowsAt p) 0 (p .levels) (r .levels≥),
-      mul-le-mul (up-in p r 0 (r .levels≥) .cells≥) (across-in p r 0 (r .levels≥) .cells≥),
-    )
-
--- so no tables at all are too few
+-- a plan has cells, so no tables at all are too few
 pub no-tables : (p : Plan) → InRange p → cellTotal p ≤ mostCells → refusal3 p [] [] ≡ 3
 unfolding refusal3 tooLarge
 no-tables p r s =

@@ -12,11 +12,8 @@ use Rattle.facts.specs.Numbers.{elem, all}
 use Rattle.facts.proofs.Tests.{cases, same, not-e, T-true, T-false, eqb-of}
 use Rattle.facts.proofs.Numbers.{all-e}
 use Rattle.grid.specs.declared.Plan.{Plan}
-use Rattle.grid.specs.Plan.{ratio, columnsAt, rowsAt, cellTotal}
-use Rattle.grid.specs.Range.{InRange}
-use Rattle.grid.proofs.Direction.{grown-pos}
-use Rattle.grid.proofs.Laws.{ratio-pos}
-use Rattle.grid.proofs.Levels.{row-within}
+use Rattle.grid.specs.Plan.{cellTotal}
+use Rattle.grid.proofs.Laws.{cells-some}
 use Rattle.mesh.specs.Mesh.{refined, isMesh, isAdmissible, tableOf, labels, refusal3}
 use Rattle.mesh.proofs.Bridge.{length-tableOf, pass, passed}
 use Rattle.nesting.specs.Table.{MeshTable}
@@ -30,13 +27,6 @@ use Rattle.files.specs.declared.Heading.{Heading}
 use Rattle.files.specs.declared.ReadAnswer.{ReadAnswer}
 use Rattle.files.specs.File.{badFile, decodeFile, rebuilt, refusal13, readRefusal, noPlan, answeredPlan, ReadOutcome, readFile, readMesh}
 use Rattle.files.specs.Steps.{numbersOf, cellsOf, GoodFile, Clear, tableRefusal}
-
--- a plan has a cell
-some-cell : (p : Plan) → InRange p → 0 < cellTotal p
-some-cell p r =
-    let w : 0 < columnsAt p 0 = grown-pos (ratio p) (ratio-pos p) (p .columns) 0 (r .columns≥) in
-    let h : 0 < rowsAt p 0 = grown-pos (ratio p) (ratio-pos p) (p .rows) 0 (r .rows≥) in
-    omega (arith, row-within (columnsAt p) (rowsAt p) 0 (p .levels) 0 (r .levels≥) h)
 
 -- a part of an array of zeros
 pub clear : (m n : ℕ) → Clear (take n (replicate m 0))
@@ -165,7 +155,7 @@ module _ (s : List ℕ) (h : Heading) (g : GoodFile s h) where
     unfolding refusal13
     read-beyond b =
         let f : all (λ c. ltb c (cellTotal p)) (cellsOf s h) ≡ false = T-false (all (λ c. ltb c (cellTotal p)) (cellsOf s h)) (λ a.
-        absurd (omega (arith, all-last 0 (cellsOf s h) (cellTotal p) (some-cell p (passed p cs fs e .range)) a, last-is))) in
+        absurd (omega (arith, all-last 0 (cellsOf s h) (cellTotal p) (cells-some p (passed p cs fs e .range)) a, last-is))) in
         refused-with 4 (rw f refl) refl refl
 
     module _ (l : h .last < cellTotal p) (n : ℕ) (whole : Bool) (w : whole ≡ eqb (h .end) (length s)) (r : n ≡ tableRefusal p (rebuilt p (cellsOf s h)) whole) where

@@ -151,6 +151,13 @@ module _ (p : Plan) (range : InRange p) where
   pub cell-number-lt : (x : Place) → CellInside p x → cellNumber p x < cellTotal p
   cell-number-lt x i = numbering.number-lt _ _ (p .levels) x i
 
+  -- there is a cell
+  pub cells-some : 1 ≤ cellTotal p
+  cells-some =
+      let i : CellInside p (record { level = 0; row = 0; column = 0 }) =
+      record { level< = range .levels≥; row< = grown-pos (ratio p) (ratio-pos p) (p .rows) 0 (range .rows≥); column< = wide 0 } in
+      omega (arith, cell-number-lt (record { level = 0; row = 0; column = 0 }) i)
+
   module _ (n : ℕ) (b : n < cellTotal p) (z : 0 < cellPlace p n .level) where
     pub parent-lt : parent p n < cellTotal p
     unfolding parent

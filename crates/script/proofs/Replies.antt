@@ -5,7 +5,6 @@ use mathlib.Core.Logic.{inl, inr}
 use mathlib.Core.List.{List, [], _∷_, _++_}
 use Prim.Native.Nat.{ℕ, _≤_, _<_}
 use native.Mathlib.Omega.{arith}
-use native.Mathlib.Nat.{mul-le-mul}
 use lib.Dec.{eqb, leb, ltb, eqb-refl}
 use lib.ListN.{length, take, drop, length-append, length-replicate, length-map}
 use lib.Seq.{length-take-le, take-at}
@@ -15,10 +14,9 @@ use Rattle.facts.proofs.Tests.{T-true}
 use Rattle.grid.specs.declared.Plan.{Plan}
 use types.Run.{OneOf}
 use denote.Enum.Declared.{tagOf}
+use Rattle.grid.proofs.Laws.{cells-some}
 use Rattle.grid.specs.Range.{InRange}
-use Rattle.grid.specs.Plan.{inRange, columnsAt, rowsAt, tooLarge, cellTotal, functionTotal}
-use Rattle.grid.proofs.Numbering.{level-ends}
-use Rattle.grid.proofs.Sides.{across-in, up-in}
+use Rattle.grid.specs.Plan.{inRange, tooLarge, cellTotal, functionTotal}
 use Rattle.mesh.specs.Mesh.{refusal3, Opened, freshCells, freshFunctions, openMesh}
 use Rattle.outcomes.specs.Calls.{Direction, coarsen, By, cells, functions, changed, Outcome, refused, settle, refusal, outcome}
 use Rattle.lines.specs.declared.Kind.{Kind}
@@ -85,11 +83,6 @@ module _ (p : Plan) (e : inRange p ≡ true) (g : tooLarge p ≡ false) where
   pub opening-fresh : (s : State) → cellTotal p ≤ wallCells → opening s p ≡ reply (wall p (freshCells p) (freshFunctions p)) (answer 0 [] [])
   unfolding opening
   opening-fresh s h = rw (blank-opened, le-ltb wallCells (cellTotal p) h) refl
-
--- a wall that is in range has cells
-cells-some : (p : Plan) → InRange p → 1 ≤ cellTotal p
-cells-some p r =
-    omega (arith, level-ends (columnsAt p) (rowsAt p) 0 (p .levels) (r .levels≥), mul-le-mul (up-in p r 0 (r .levels≥) .cells≥) (across-in p r 0 (r .levels≥) .cells≥))
 
 -- ---- a call: what it makes of the tables and prints does not hang on what the lent lists held
 

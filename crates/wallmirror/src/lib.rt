@@ -134,11 +134,7 @@ pub extern "C" fn wallmirror_coarsen_functions(
 }
 
 #[no_mangle]
-pub extern "C" fn wallmirror_read(
-    file: &[u8],
-    cells: &mut [u8],
-    functions: &mut [u8],
-) -> ReadAnswer
+pub extern "C" fn wallmirror_read(file: &[u8], cells: &mut [u8], functions: &mut [u8]) -> ReadAnswer
     ensures { λ r. ⌜ leftByRead r cells functions ≡ readMesh (now (file .entry)) (now (cells .entry)) (now (functions .entry)) ⌝ }
 {
     files::read(file, cells, functions)
