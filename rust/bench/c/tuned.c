@@ -573,3 +573,174 @@ TUNED_CALL(tuned_refine_cells, REFINE, CELLS)
 TUNED_CALL(tuned_refine_functions, REFINE, FUNCTIONS)
 TUNED_CALL(tuned_coarsen_cells, COARSEN, CELLS)
 TUNED_CALL(tuned_coarsen_functions, COARSEN, FUNCTIONS)
+
+/* ---- Files ---- */
+
+/* Bytes to read numbers from. */
+struct numbers {
+    const uint8_t *bytes;
+    size_t len, at;
+};
+
+/* Whether a number in its shortest form is next; reads it. */
+static int next_number(struct numbers *from, uint32_t *value)
+{
+    const uint8_t *bytes = from->bytes;
+    size_t left = from->len - from->at, at = from->at;
+    if (left > 0 && bytes[at] < 128) {
+        *value = bytes[at];
+        from->at = at + 1;
+        return 1;
+    }
+    if (left > 1 && bytes[at + 1] < 128) {
+        *value = (bytes[at] & 127u) | (uint32_t)bytes[at + 1] << 7;
+        from->at = at + 2;
+        return bytes[at + 1] != 0;
+    }
+    if (left > 2 && bytes[at + 2] < 128) {
+        *value = (bytes[at] & 127u) | (bytes[at + 1] & 127u) << 7 | (uint32_t)bytes[at + 2] << 14;
+        from->at = at + 3;
+        return bytes[at + 2] != 0;
+    }
+    return 0;
+}
+
+/* Whether a plan, a count and so many cells are next; reads the plan and the count, and leaves the
+ * bytes of the cells in `cells`. */
+static int read_numbers(struct numbers *from, WallmirrorPlan *plan, uint32_t *count,
+                        struct numbers *cells)
+{
+    uint32_t i, value;
+    if (!next_number(from, &plan->columns) || !next_number(from, &plan->rows) ||
+        !next_number(from, &plan->levels) || !next_number(from, &plan->degree_across) ||
+        !next_number(from, &plan->degree_up) || !next_number(from, &plan->admissibility_class) ||
+        !next_number(from, count))
+        return 0;
+    *cells = *from;
+    for (i = 0; i < *count; i++)
+        if (!next_number(from, &value) || (i > 0 && value == 0))
+            return 0;
+    return 1;
+}
+
+/* Makes the listed cells refined and the cells that are then present active. Whether every listed
+ * cell is there. */
+static int refine_listed(const struct layout *at, struct numbers *listed, uint32_t count,
+                         uint8_t *cells)
+{
+    uint8_t wide[2 * WIDEST_ROW];
+    size_t t = at->cells_at[at->levels], cell = 0, row, i;
+    uint32_t level, value;
+    memset(cells, 0, t);
+    for (; count > 0; count--) {
+        if (!next_number(listed, &value) || value >= t - cell)
+            return 0;
+        cell += value;
+        cells[cell] = 2;
+    }
+    for (i = 0; i < at->cells_at[1]; i++)
+        cells[i] = cells[i] == 2 ? 2 : 1;
+    for (level = 0; level + 1 < at->levels; level++) {
+        const uint8_t *here = cells + at->cells_at[level];
+        uint8_t *below = cells + at->cells_at[level + 1];
+        size_t n = at->columns[level];
+        for (row = 0; row < at->rows[level]; row++, here += n, below += 4 * n) {
+            if (!memchr(here, 2, n))
+                continue;
+            double_row(wide, here, n);
+            for (i = 0; i < 2 * n; i++)
+                below[i] = below[i] == 2 ? 2 : wide[i] == 2;
+            for (i = 0; i < 2 * n; i++)
+                below[2 * n + i] = below[2 * n + i] == 2 ? 2 : wide[i] == 2;
+        }
+    }
+    return 1;
+}
+
+WallmirrorRead tuned_read(const uint8_t *file, size_t file_len, uint8_t *cells, size_t cells_len,
+                          uint8_t *functions, size_t functions_len)
+{
+    static const WallmirrorRead no_plan;
+    uint8_t new_cells[ROOM];
+    WallmirrorRead answer = no_plan;
+    struct numbers from = {file, file_len, 0}, listed;
+    struct layout at;
+    uint32_t count;
+    int follow;
+    if (!read_numbers(&from, &answer.plan, &count, &listed)) {
+        answer = no_plan;
+        answer.number = WALLMIRROR_MALFORMED_FILE;
+        return answer;
+    }
+    follow = from.at != from.len;
+    answer.number = lay_out(&at, answer.plan);
+    if (answer.number != 0) {
+        answer.plan = no_plan.plan;
+        return answer;
+    }
+    if (cells_len != at.cells_at[at.levels] || functions_len != at.functions_at[at.levels])
+        answer.number = WALLMIRROR_TABLE_LENGTH;
+    else if (!refine_listed(&at, &listed, count, new_cells) || !is_mesh(&at, new_cells))
+        answer.number = WALLMIRROR_NOT_A_MESH;
+    else if (!is_admissible(&at, new_cells))
+        answer.number = WALLMIRROR_NOT_ADMISSIBLE;
+    else if (follow)
+        answer.number = WALLMIRROR_TRAILING_BYTES;
+    if (answer.number != 0)
+        return answer;
+    memcpy(cells, new_cells, cells_len);
+    over_supports(&at, cells, functions);
+    return answer;
+}
+
+static size_t size_of(uint32_t value)
+{
+    return value < 1u << 7 ? 1 : value < 1u << 14 ? 2 : 3;
+}
+
+static uint8_t *put_number(uint8_t *to, uint32_t value)
+{
+    for (; value >= 128; value >>= 7)
+        *to++ = (uint8_t)(value | 128);
+    *to++ = (uint8_t)value;
+    return to;
+}
+
+WallmirrorWritten tuned_write(WallmirrorPlan plan, const uint8_t *cells, size_t cells_len,
+                              const uint8_t *functions, size_t functions_len,
+                              uint8_t *file, size_t file_len)
+{
+    WallmirrorWritten written = {0, 0};
+    struct layout at;
+    uint32_t listed[WALLMIRROR_MOST_FILE_BYTES], count = 0, before = 0, i;
+    size_t last, length;
+    uint8_t *to = file;
+    written.number = check(&at, plan, cells, cells_len, functions, functions_len);
+    if (written.number != 0)
+        return written;
+    /* none is refined on the last level */
+    last = at.cells_at[at.levels - 1];
+    length = 6;
+    for (i = 0; i < last; i++)
+        if (cells[i] == 2) {
+            listed[count++] = i - before;
+            length += size_of(i - before);
+            before = i;
+        }
+    length += size_of(count);
+    if (file_len < length) {
+        written.number = WALLMIRROR_CELL_LIST_TOO_SHORT;
+        return written;
+    }
+    to = put_number(to, plan.columns);
+    to = put_number(to, plan.rows);
+    to = put_number(to, plan.levels);
+    to = put_number(to, plan.degree_across);
+    to = put_number(to, plan.degree_up);
+    to = put_number(to, plan.admissibility_class);
+    to = put_number(to, count);
+    for (i = 0; i < count; i++)
+        to = put_number(to, listed[i]);
+    written.length = (uint32_t)length;
+    return written;
+}
