@@ -576,64 +576,59 @@ TUNED_CALL(tuned_coarsen_functions, COARSEN, FUNCTIONS)
 
 /* ---- Files ---- */
 
-/* Bytes to read numbers from. */
-struct numbers {
-    const uint8_t *bytes;
-    size_t len, at;
-};
-
-/* Whether a number in its shortest form is next; reads it. */
-static int next_number(struct numbers *from, uint32_t *value)
+/* Reads the number in its shortest form at `at` and answers the place behind it, or 0 where there
+ * is none. */
+static size_t next_number(const uint8_t *file, size_t len, size_t at, uint32_t *value)
 {
-    const uint8_t *bytes = from->bytes;
-    size_t left = from->len - from->at, at = from->at;
-    if (left > 0 && bytes[at] < 128) {
-        *value = bytes[at];
-        from->at = at + 1;
-        return 1;
+    if (at < len && file[at] < 128) {
+        *value = file[at];
+        return at + 1;
     }
-    if (left > 1 && bytes[at + 1] < 128) {
-        *value = (bytes[at] & 127u) | (uint32_t)bytes[at + 1] << 7;
-        from->at = at + 2;
-        return bytes[at + 1] != 0;
+    if (len - at > 1 && file[at + 1] < 128) {
+        *value = (file[at] & 127u) | (uint32_t)file[at + 1] << 7;
+        return file[at + 1] != 0 ? at + 2 : 0;
     }
-    if (left > 2 && bytes[at + 2] < 128) {
-        *value = (bytes[at] & 127u) | (bytes[at + 1] & 127u) << 7 | (uint32_t)bytes[at + 2] << 14;
-        from->at = at + 3;
-        return bytes[at + 2] != 0;
+    if (len - at > 2 && file[at + 2] < 128) {
+        *value = (file[at] & 127u) | (file[at + 1] & 127u) << 7 | (uint32_t)file[at + 2] << 14;
+        return file[at + 2] != 0 ? at + 3 : 0;
     }
     return 0;
 }
 
-/* Whether a plan, a count and so many cells are next; reads the plan and the count, and leaves the
- * bytes of the cells in `cells`. */
-static int read_numbers(struct numbers *from, WallmirrorPlan *plan, uint32_t *count,
-                        struct numbers *cells)
+/* What a file begins with, and where its cells stand. */
+struct listing {
+    uint32_t numbers[7]; /* the plan and the count of cells */
+    size_t first, end;
+};
+
+/* Whether the file has all its numbers. */
+static int read_listing(const uint8_t *file, size_t len, struct listing *listing)
 {
     uint32_t i, value;
-    if (!next_number(from, &plan->columns) || !next_number(from, &plan->rows) ||
-        !next_number(from, &plan->levels) || !next_number(from, &plan->degree_across) ||
-        !next_number(from, &plan->degree_up) || !next_number(from, &plan->admissibility_class) ||
-        !next_number(from, count))
-        return 0;
-    *cells = *from;
-    for (i = 0; i < *count; i++)
-        if (!next_number(from, &value) || (i > 0 && value == 0))
+    size_t at = 0;
+    for (i = 0; i < 7; i++)
+        if ((at = next_number(file, len, at, &listing->numbers[i])) == 0)
             return 0;
+    listing->first = at;
+    for (i = 0; i < listing->numbers[6]; i++)
+        if ((at = next_number(file, len, at, &value)) == 0 || (i > 0 && value == 0))
+            return 0;
+    listing->end = at;
     return 1;
 }
 
 /* Makes the listed cells refined and the cells that are then present active. Whether every listed
- * cell is there. */
-static int refine_listed(const struct layout *at, struct numbers *listed, uint32_t count,
-                         uint8_t *cells)
+ * cell is one of the plan. */
+static int refine_listed(const struct layout *at, const uint8_t *file,
+                         const struct listing *listing, uint8_t *cells)
 {
     uint8_t wide[2 * WIDEST_ROW];
-    size_t t = at->cells_at[at->levels], cell = 0, row, i;
-    uint32_t level, value;
+    size_t t = at->cells_at[at->levels], place = listing->first, cell = 0, row, i;
+    uint32_t level, value = 0;
     memset(cells, 0, t);
-    for (; count > 0; count--) {
-        if (!next_number(listed, &value) || value >= t - cell)
+    while (place < listing->end) {
+        place = next_number(file, listing->end, place, &value);
+        if (value >= t - cell)
             return 0;
         cell += value;
         cells[cell] = 2;
@@ -660,31 +655,32 @@ static int refine_listed(const struct layout *at, struct numbers *listed, uint32
 WallmirrorRead tuned_read(const uint8_t *file, size_t file_len, uint8_t *cells, size_t cells_len,
                           uint8_t *functions, size_t functions_len)
 {
-    static const WallmirrorRead no_plan;
     uint8_t new_cells[ROOM];
-    WallmirrorRead answer = no_plan;
-    struct numbers from = {file, file_len, 0}, listed;
+    WallmirrorRead answer = {0, {0, 0, 0, 0, 0, 0}};
+    struct listing listing;
     struct layout at;
-    uint32_t count;
-    int follow;
-    if (!read_numbers(&from, &answer.plan, &count, &listed)) {
-        answer = no_plan;
+    WallmirrorPlan plan;
+    if (!read_listing(file, file_len, &listing)) {
         answer.number = WALLMIRROR_MALFORMED_FILE;
         return answer;
     }
-    follow = from.at != from.len;
-    answer.number = lay_out(&at, answer.plan);
-    if (answer.number != 0) {
-        answer.plan = no_plan.plan;
+    plan.columns = listing.numbers[0];
+    plan.rows = listing.numbers[1];
+    plan.levels = listing.numbers[2];
+    plan.degree_across = listing.numbers[3];
+    plan.degree_up = listing.numbers[4];
+    plan.admissibility_class = listing.numbers[5];
+    answer.number = lay_out(&at, plan);
+    if (answer.number != 0)
         return answer;
-    }
+    answer.plan = plan;
     if (cells_len != at.cells_at[at.levels] || functions_len != at.functions_at[at.levels])
         answer.number = WALLMIRROR_TABLE_LENGTH;
-    else if (!refine_listed(&at, &listed, count, new_cells) || !is_mesh(&at, new_cells))
+    else if (!refine_listed(&at, file, &listing, new_cells) || !is_mesh(&at, new_cells))
         answer.number = WALLMIRROR_NOT_A_MESH;
     else if (!is_admissible(&at, new_cells))
         answer.number = WALLMIRROR_NOT_ADMISSIBLE;
-    else if (follow)
+    else if (listing.end != file_len)
         answer.number = WALLMIRROR_TRAILING_BYTES;
     if (answer.number != 0)
         return answer;
