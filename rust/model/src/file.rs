@@ -12,6 +12,9 @@ use crate::{
 pub const NO_PLAN: Plan =
     Plan { columns: 0, rows: 0, levels: 0, degree_across: 0, degree_up: 0, class: 0 };
 
+/// Cell table and function table.
+pub type Tables = (Vec<u8>, Vec<u8>);
+
 /// The most groups of a number.
 const MOST_GROUPS: usize = 3;
 
@@ -83,7 +86,7 @@ fn listing(file: &[u8]) -> Result<Listing<'_>, u32> {
 }
 
 /// Both tables, where so many bytes are lent for them. Refusals 3 to 5 and 13.
-fn rebuilt(listing: &Listing, cells: usize, functions: usize) -> Result<(Vec<u8>, Vec<u8>), u32> {
+fn rebuilt(listing: &Listing, cells: usize, functions: usize) -> Result<Tables, u32> {
     let plan = listing.plan;
     refuse_sizes(plan, cells, functions)?;
     if listing.cells.iter().any(|&cell| cell >= plan.cell_total() as u64) {
@@ -105,11 +108,7 @@ fn rebuilt(listing: &Listing, cells: usize, functions: usize) -> Result<(Vec<u8>
 }
 
 /// The plan that is answered, and both tables or a refusal, where so many bytes are lent for them.
-pub fn read(
-    file: &[u8],
-    cells: usize,
-    functions: usize,
-) -> (Plan, Result<(Vec<u8>, Vec<u8>), u32>) {
+pub fn read(file: &[u8], cells: usize, functions: usize) -> (Plan, Result<Tables, u32>) {
     let listing = match listing(file) {
         Err(refusal) => return (NO_PLAN, Err(refusal)),
         Ok(listing) => listing,
