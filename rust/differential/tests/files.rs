@@ -14,8 +14,8 @@ const W2: [u32; 6] = [3, 1, 3, 1, 1, 2];
 /// The most that three groups hold.
 const MOST: u32 = (1 << 21) - 1;
 
-/// The numbers of the refusals that reading gives.
-const OF_READING: [usize; 7] = [1, 2, 3, 4, 5, 12, 13];
+/// The numbers that reading answers.
+const OF_READING: [usize; 8] = [0, 1, 2, 3, 4, 5, 12, 13];
 
 /// The bytes that hexadecimal digits say.
 fn bytes(digits: &str) -> Vec<u8> {
@@ -90,10 +90,10 @@ impl Seen {
         self.0[read(file).0 as usize] += 1;
     }
 
+    /// These were answered, and no others.
     fn expect(&self, numbers: &[usize]) {
         for (number, &often) in self.0.iter().enumerate() {
-            let expected = number == 0 || numbers.contains(&number);
-            assert_eq!(often > 0, expected, "number {number}: {self:?}");
+            assert_eq!(often > 0, numbers.contains(&number), "number {number}: {self:?}");
         }
     }
 }
@@ -298,8 +298,32 @@ fn refusals_by_hand() {
     for number in OF_READING {
         // 3 is what lent tables get, below.
         let there = REFUSED.iter().any(|&(_, refusal)| refusal as usize == number);
-        assert_eq!(there, number != 3);
+        assert_eq!(there, number != 0 && number != 3);
     }
+}
+
+/// The examples of the scope document's refusal table, each with no room at all besides, which is
+/// the last thing to be refused.
+#[test]
+fn refusals_of_writing_by_hand() {
+    let refused = |tables: Tables, number: u32| {
+        assert_eq!(tables.write(&[]), Err(number));
+        assert_eq!(tables.write(&[5; 7]), Err(number));
+    };
+    for numbers in [[0, 1, 3, 1, 1, 0], [3, 1, 3, 1, 1, 1]] {
+        refused(Tables { plan: plan(numbers), ..mesh(W0, &[]) }, 1);
+    }
+    refused(Tables { plan: plan([16, 16, 5, 1, 1, 0]), ..mesh(W0, &[]) }, 2);
+    refused(Tables { cells: vec![1; 62], ..mesh(W0, &[]) }, 3);
+    let mut tables = mesh(W0, &[]);
+    tables.cells[0] = 0;
+    refused(tables, 4);
+    refused(mesh(W2, &[0, 3]), 5);
+    let mut tables = mesh(W0, &[]);
+    tables.functions[0] = 2;
+    refused(tables, 6);
+    refused(mesh(W0, &[0]), 10);
+    assert_eq!(mesh(W0, &[0]).write(&[5; 8]), Ok(bytes("03 01 03 01 01 00 01 00")));
 }
 
 // ---- Everything short, and everything near ----
@@ -337,13 +361,12 @@ fn every_short_file() {
     for length in 0..=2 {
         each_string(&all, length, &mut |file| seen.read(file));
     }
-    seen.0[0] += 1;
     seen.expect(&[12]);
     let mut seen = Seen::default();
     for length in 0..=8 {
         each_string(&[0x00, 0x01, 0x02, 0x80], length, &mut |file| seen.read(file));
     }
-    seen.expect(&[1, 4, 12, 13]);
+    seen.expect(&[0, 1, 4, 12, 13]);
 }
 
 /// Behind a good plan, everything that a few bytes make: counts, cells, and what follows.
@@ -351,10 +374,10 @@ fn every_short_file() {
 fn every_ending() {
     let letters = [0x00, 0x01, 0x02, 0x03, 0x04, 0x05, 0x14, 0x7f, 0x80, 0x81, 0x84, 0xff];
     for (numbers, most, refusals) in [
-        ([1, 1, 2, 1, 1, 0], 5, &[4, 12, 13][..]),
-        ([1, 1, 3, 1, 1, 0], 5, &[4, 12, 13][..]),
-        ([2, 1, 3, 1, 1, 2], 5, &[4, 5, 12, 13][..]),
-        ([1, 1, 1, 4, 3, 8], 4, &[4, 12, 13][..]),
+        ([1, 1, 2, 1, 1, 0], 5, &[0, 4, 12, 13][..]),
+        ([1, 1, 3, 1, 1, 0], 5, &[0, 4, 12, 13][..]),
+        ([2, 1, 3, 1, 1, 2], 5, &[0, 4, 5, 12, 13][..]),
+        ([1, 1, 1, 4, 3, 8], 4, &[0, 4, 12, 13][..]),
     ] {
         let mut seen = Seen::default();
         let head = file_of(numbers, &[]);
@@ -400,7 +423,7 @@ fn every_number_changed() {
         }
     }
     // A count that is less leaves bytes; a mesh of class 2 and two levels is always admissible.
-    seen.expect(&[1, 2, 4, 12, 13]);
+    seen.expect(&[0, 1, 2, 4, 12, 13]);
 }
 
 /// Plans in range and just out of it, all of them of few cells and some of too many.
@@ -426,7 +449,7 @@ fn every_plan() {
             }
         }
     }
-    seen.expect(&[1, 2, 3]);
+    seen.expect(&[0, 1, 2, 3]);
 }
 
 /// Meshes whose files have something of everything.
@@ -470,7 +493,7 @@ fn every_damage_to_a_byte() {
         }
         assert_eq!(read(&[&file[..], &file[..]].concat()).0, 13);
     }
-    seen.expect(&[1, 2, 4, 5, 12, 13]);
+    seen.expect(&[0, 1, 2, 4, 5, 12, 13]);
 }
 
 // ---- Lent lengths ----
@@ -672,7 +695,7 @@ fn random_bytes() {
         }
         seen.read(&file);
     }
-    seen.expect(&[1, 4, 5, 12, 13]);
+    seen.expect(&[0, 1, 4, 5, 12, 13]);
 }
 
 /// Lists of numbers with several things done to them at once, so that the order of the refusals
@@ -900,5 +923,5 @@ fn writing_refused() {
         let poison: Vec<u8> = (0..room).map(|i| (i * 5) as u8).collect();
         seen.0[tables.write(&poison).err().unwrap_or(0) as usize] += 1;
     }
-    seen.expect(&[1, 2, 3, 4, 5, 6, 10]);
+    seen.expect(&[0, 1, 2, 3, 4, 5, 6, 10]);
 }

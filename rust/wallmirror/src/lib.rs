@@ -726,10 +726,14 @@ mod tests {
     use super::*;
 
     #[test]
-    fn the_documentation_has_the_c_example() {
+    fn the_documentation_has_the_examples() {
         let documentation = include_str!("../../../README.md");
-        let example = include_str!("../../../examples/c/refine.c");
-        assert!(documentation.contains(example));
+        let in_c = |block: &'static str| block.split("```").next().expect("the end of a block");
+        let blocks: Vec<&str> = documentation.split("```c\n").skip(1).map(in_c).collect();
+        assert_eq!(blocks.len(), 2);
+        assert_eq!(blocks[0], include_str!("../../../examples/c/refine.c"));
+        assert!(include_str!("../../../examples/c/file.c").contains(blocks[1]));
+        assert!(documentation.contains(include_str!("../examples/file.rs")));
     }
 
     #[test]
