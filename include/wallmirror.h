@@ -8,8 +8,9 @@
  * In the words of the scope document a mesh is a wall, refining and coarsening are splitting and
  * joining, admissible of class m is graded, and reactivable is joinable.
  *
- * Every call takes any plan, tables and marks whatever and returns. What it cannot serve it refuses
- * with a number (WallmirrorRefusal), and then every table and list holds the bytes it held before.
+ * Every call takes any plan, tables, marks and file whatever and returns. What it cannot serve it
+ * refuses with a number (WallmirrorRefusal), and then all that was lent holds the bytes it held
+ * before.
  *
  * Cells. Level k has columns * 2^k columns and rows * 2^k rows of cells. They are numbered from 0,
  * level by level, row by row. The cell at column c, row r has four children one level down, at
@@ -44,11 +45,25 @@
  * refined cell lies in the support of a deactivated function of its own level, as on a mesh just
  * opened.
  *
- * Pointers. Each table, mark list and output list is a pointer and its number of entries. A null
- * pointer with length 0 is taken as an empty slice. With any other length the pointer must be
+ * Files. The file of a mesh is bytes that the caller keeps where it likes: wallmirror_write makes
+ * them of a mesh, wallmirror_read makes the mesh of them. They are a list of numbers: the six of
+ * the plan in the order of WallmirrorPlan, how many cells are refined, the first refined cell if
+ * there is one, then for each further one, in rising order, its difference from the one before. A
+ * number is written in groups of seven bits, one to a byte, the lowest first, with the high bit set
+ * in all but the last; in as few groups as it needs, and at most three. So one mesh has one file,
+ * the same on every machine. The function table is not in it, since the cells fix it. In the
+ * example above, with class 2, the mesh just opened is the bytes 3 1 3 1 1 2 0; with cells 0, 1 and
+ * 3 refined it is 3 1 3 1 1 2 3 0 1 2.
+ *
+ * A file of unknown plan is read twice, the first time with empty tables (NULL, 0). That is
+ * refused: with 3 and the plan, or with 12, 1 or 2, where no tables will do. Then make the tables
+ * of the lengths that wallmirror_cells_len and wallmirror_functions_len give, and read again.
+ *
+ * Pointers. Each table, file, mark list and output list is a pointer and its number of entries. A
+ * null pointer with length 0 is taken as an empty slice. With any other length the pointer must be
  * aligned for its type and lead to that many entries, readable, and writable where it is not const.
- * The tables and lists of one call must not overlap each other. So the cell list of an earlier call
- * may serve as marks, but not as the cell list of the same call too.
+ * The tables, lists and file of one call must not overlap each other. So the cell list of an
+ * earlier call may serve as marks, but not as the cell list of the same call too.
  *
  * Limits.
  *   columns, rows                 1 to 16
@@ -58,6 +73,7 @@
  *   cells on all levels together  at most WALLMIRROR_MAX_CELLS
  *   functions of such a plan      at most WALLMIRROR_MAX_FUNCTIONS
  *   marks of a call               any number; their values are 32 bits
+ *   file of a mesh                at most WALLMIRROR_MOST_FILE_BYTES bytes
  *   stack of a call               at most WALLMIRROR_STACK_BYTES
  */
 #ifndef WALLMIRROR_H
@@ -72,14 +88,17 @@ extern "C" {
 
 /* Of this header. */
 #define WALLMIRROR_VERSION_MAJOR 0
-#define WALLMIRROR_VERSION_MINOR 2
+#define WALLMIRROR_VERSION_MINOR 3
 #define WALLMIRROR_VERSION_PATCH 0
-#define WALLMIRROR_VERSION "0.2.0"
+#define WALLMIRROR_VERSION "0.3.0"
 
 /* The most cells a mesh may have on all levels together, and the most functions such a mesh has:
  * buffers of these sizes serve every plan. */
 #define WALLMIRROR_MAX_CELLS 21845
 #define WALLMIRROR_MAX_FUNCTIONS 26220
+
+/* The most bytes that the file of a mesh has: a buffer of this size serves every mesh. */
+#define WALLMIRROR_MOST_FILE_BYTES 5469
 
 /* The most stack that any call takes, in bytes: what a thread must have left when it calls. */
 #define WALLMIRROR_STACK_BYTES 131072
@@ -110,7 +129,7 @@ enum WallmirrorFunction {
 };
 
 /* The number that every call answers. Where several apply, the first of this order is given:
- * 1 to 6; then the marks in list order, each tried for 7, 8, 9; then 10, 11. */
+ * 12; 1 to 6; then the marks in list order, each tried for 7, 8, 9; then 10, 11; then 13. */
 enum WallmirrorRefusal {
     WALLMIRROR_ACCEPTED = 0,
     /* a number of the plan is out of range */
@@ -133,10 +152,16 @@ enum WallmirrorRefusal {
     WALLMIRROR_MARK_OF_WRONG_KIND = 8,
     /* a mark of a refining call is of the last level */
     WALLMIRROR_MARK_OF_LAST_LEVEL = 9,
-    /* the cell list is shorter than the cells it must name */
+    /* the cell list is shorter than the cells it must name; of wallmirror_write: the lent bytes are
+     * fewer than the file has */
     WALLMIRROR_CELL_LIST_TOO_SHORT = 10,
     /* the function list is shorter than the functions it must name */
-    WALLMIRROR_FUNCTION_LIST_TOO_SHORT = 11
+    WALLMIRROR_FUNCTION_LIST_TOO_SHORT = 11,
+    /* a number of the file is cut off, has more than three groups or more than it needs, or is a
+     * difference of 0 */
+    WALLMIRROR_MALFORMED_FILE = 12,
+    /* bytes follow the last number of the file */
+    WALLMIRROR_TRAILING_BYTES = 13
 };
 
 /* What wallmirror_count answers. After a refusal all but the number are 0. */
@@ -155,6 +180,18 @@ typedef struct WallmirrorAnswer {
     uint32_t cells;     /* how many entries of the cell list were written */
     uint32_t functions; /* how many entries of the function list were written */
 } WallmirrorAnswer;
+
+/* What wallmirror_read answers. */
+typedef struct WallmirrorRead {
+    uint32_t number;     /* a WallmirrorRefusal */
+    WallmirrorPlan plan; /* that of the file, also with refusals 3, 4, 5, 13; all 0 with 1, 2, 12 */
+} WallmirrorRead;
+
+/* What wallmirror_write answers. */
+typedef struct WallmirrorWritten {
+    uint32_t number; /* a WallmirrorRefusal */
+    uint32_t length; /* how many bytes of the file were written; 0 after a refusal */
+} WallmirrorWritten;
 
 /* Whether the plan is one that wallmirror_open takes (refusals 1 and 2 do not apply). */
 static inline int wallmirror_plan_is_valid(WallmirrorPlan plan)
@@ -255,6 +292,22 @@ WallmirrorAnswer wallmirror_coarsen_functions(WallmirrorPlan plan,
                                               const uint32_t *marks, size_t marks_len,
                                               uint32_t *cell_list, size_t cell_list_len,
                                               uint32_t *function_list, size_t function_list_len);
+
+/* Makes both tables the mesh of the file; what they held does not matter. Refuses 12, judged over
+ * all numbers of the file; then 1 to 5, where 3 is said of the lent tables, 4 also of a listed cell
+ * that is not below the number of cells, and 4 and 5 of the mesh with the listed cells refined;
+ * then 13. How to read a file of unknown plan is said at the top. A mesh that was read passes
+ * wallmirror_check, and its file is the one that was read. */
+WallmirrorRead wallmirror_read(const uint8_t *file, size_t file_len,
+                               uint8_t *cells, size_t cells_len,
+                               uint8_t *functions, size_t functions_len);
+
+/* Writes the file of the mesh and answers its length. Bytes past it keep their values. Refuses 1 to
+ * 6, then 10. */
+WallmirrorWritten wallmirror_write(WallmirrorPlan plan,
+                                   const uint8_t *cells, size_t cells_len,
+                                   const uint8_t *functions, size_t functions_len,
+                                   uint8_t *file, size_t file_len);
 
 #ifdef __cplusplus
 }

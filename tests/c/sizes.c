@@ -1,8 +1,10 @@
 /*
  * The lengths that the header computes are those that the library takes, for every plan in range
- * and for the numbers just outside, and its macros agree with each other. The output is to be that
- * of sizes.expected.
+ * and for the numbers just outside, its macros agree with each other, its structs are laid out as
+ * the library has them, and the longest file is as long as it says. The output is to be that of
+ * sizes.expected.
  */
+#include <stddef.h>
 #include <stdio.h>
 #include <string.h>
 
@@ -43,10 +45,74 @@ static void try_version(void)
         wrong++;
 }
 
+/* Every field has four bytes and follows the one before. */
+static void try_structs(void)
+{
+    if (sizeof(WallmirrorPlan) != 24 || offsetof(WallmirrorPlan, columns) != 0 ||
+        offsetof(WallmirrorPlan, rows) != 4 || offsetof(WallmirrorPlan, levels) != 8 ||
+        offsetof(WallmirrorPlan, degree_across) != 12 || offsetof(WallmirrorPlan, degree_up) != 16 ||
+        offsetof(WallmirrorPlan, admissibility_class) != 20)
+        wrong++;
+    if (sizeof(WallmirrorCount) != 20 || offsetof(WallmirrorCount, number) != 0 ||
+        offsetof(WallmirrorCount, active_cells) != 4 ||
+        offsetof(WallmirrorCount, refined_cells) != 8 ||
+        offsetof(WallmirrorCount, active_functions) != 12 || offsetof(WallmirrorCount, area) != 16)
+        wrong++;
+    if (sizeof(WallmirrorAnswer) != 12 || offsetof(WallmirrorAnswer, number) != 0 ||
+        offsetof(WallmirrorAnswer, cells) != 4 || offsetof(WallmirrorAnswer, functions) != 8)
+        wrong++;
+    if (sizeof(WallmirrorRead) != 28 || offsetof(WallmirrorRead, number) != 0 ||
+        offsetof(WallmirrorRead, plan) != 4)
+        wrong++;
+    if (sizeof(WallmirrorWritten) != 8 || offsetof(WallmirrorWritten, number) != 0 ||
+        offsetof(WallmirrorWritten, length) != 4)
+        wrong++;
+}
+
+static int same_plan(WallmirrorPlan a, WallmirrorPlan b)
+{
+    return a.columns == b.columns && a.rows == b.rows && a.levels == b.levels &&
+           a.degree_across == b.degree_across && a.degree_up == b.degree_up &&
+           a.admissibility_class == b.admissibility_class;
+}
+
+/* Every cell of eight levels but the last is refined: 5461 cells, one byte each behind the plan and
+ * two bytes of count. */
+static void try_longest_file(void)
+{
+    static const uint8_t head[9] = {1, 1, 8, 4, 3, 2, 0x80 | 5461 % 128, 5461 / 128, 0};
+    static uint8_t file[WALLMIRROR_MOST_FILE_BYTES], written[WALLMIRROR_MOST_FILE_BYTES + 1];
+    WallmirrorPlan plan = {1, 1, 8, 4, 3, 2};
+    size_t t = wallmirror_cells_len(plan), f = wallmirror_functions_len(plan);
+    WallmirrorRead first, second;
+    WallmirrorWritten short_of_one, whole;
+    memset(file, 1, sizeof file);
+    memcpy(file, head, sizeof head);
+    memset(written, 9, sizeof written);
+    first = wallmirror_read(file, sizeof file, NULL, 0, NULL, 0);
+    if (first.number != WALLMIRROR_TABLE_LENGTH || !same_plan(first.plan, plan))
+        wrong++;
+    second = wallmirror_read(file, sizeof file, cells, t, functions, f);
+    if (second.number != WALLMIRROR_ACCEPTED || !same_plan(second.plan, plan) ||
+        wallmirror_check(plan, cells, t, functions, f) != WALLMIRROR_ACCEPTED)
+        wrong++;
+    short_of_one = wallmirror_write(plan, cells, t, functions, f, written,
+                                    WALLMIRROR_MOST_FILE_BYTES - 1);
+    if (short_of_one.number != WALLMIRROR_CELL_LIST_TOO_SHORT || short_of_one.length != 0 ||
+        written[0] != 9)
+        wrong++;
+    whole = wallmirror_write(plan, cells, t, functions, f, written, sizeof written);
+    if (whole.number != WALLMIRROR_ACCEPTED || whole.length != sizeof file ||
+        memcmp(written, file, sizeof file) != 0 || written[sizeof file] != 9)
+        wrong++;
+}
+
 int main(void)
 {
     WallmirrorPlan plan;
     try_version();
+    try_structs();
+    try_longest_file();
     for (plan.columns = 0; plan.columns <= 17; plan.columns++)
         for (plan.rows = 0; plan.rows <= 17; plan.rows++)
             for (plan.levels = 0; plan.levels <= 9; plan.levels++)
@@ -60,7 +126,7 @@ int main(void)
            (unsigned long)most_functions);
     if (most_cells != WALLMIRROR_MAX_CELLS || most_functions != WALLMIRROR_MAX_FUNCTIONS)
         wrong++;
-    printf("version %s, at most %lu bytes of stack\n", WALLMIRROR_VERSION,
-           (unsigned long)WALLMIRROR_STACK_BYTES);
+    printf("version %s, at most %lu bytes of stack and %lu of a file\n", WALLMIRROR_VERSION,
+           (unsigned long)WALLMIRROR_STACK_BYTES, (unsigned long)WALLMIRROR_MOST_FILE_BYTES);
     return wrong != 0;
 }

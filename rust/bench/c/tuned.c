@@ -573,3 +573,170 @@ TUNED_CALL(tuned_refine_cells, REFINE, CELLS)
 TUNED_CALL(tuned_refine_functions, REFINE, FUNCTIONS)
 TUNED_CALL(tuned_coarsen_cells, COARSEN, CELLS)
 TUNED_CALL(tuned_coarsen_functions, COARSEN, FUNCTIONS)
+
+/* ---- Files ---- */
+
+/* Reads the number in its shortest form at `at` and answers the place behind it, or 0 where there
+ * is none. */
+static size_t next_number(const uint8_t *file, size_t len, size_t at, uint32_t *value)
+{
+    if (at < len && file[at] < 128) {
+        *value = file[at];
+        return at + 1;
+    }
+    if (len - at > 1 && file[at + 1] < 128) {
+        *value = (file[at] & 127u) | (uint32_t)file[at + 1] << 7;
+        return file[at + 1] != 0 ? at + 2 : 0;
+    }
+    if (len - at > 2 && file[at + 2] < 128) {
+        *value = (file[at] & 127u) | (file[at + 1] & 127u) << 7 | (uint32_t)file[at + 2] << 14;
+        return file[at + 2] != 0 ? at + 3 : 0;
+    }
+    return 0;
+}
+
+/* What a file begins with, and where its cells stand. */
+struct listing {
+    uint32_t numbers[7]; /* the plan and the count of cells */
+    size_t first, end;
+};
+
+/* Whether the file has all its numbers. */
+static int read_listing(const uint8_t *file, size_t len, struct listing *listing)
+{
+    uint32_t i, value;
+    size_t at = 0;
+    for (i = 0; i < 7; i++)
+        if ((at = next_number(file, len, at, &listing->numbers[i])) == 0)
+            return 0;
+    listing->first = at;
+    for (i = 0; i < listing->numbers[6]; i++)
+        if ((at = next_number(file, len, at, &value)) == 0 || (i > 0 && value == 0))
+            return 0;
+    listing->end = at;
+    return 1;
+}
+
+/* Makes the listed cells refined and the cells that are then present active. Whether every listed
+ * cell is one of the plan. */
+static int refine_listed(const struct layout *at, const uint8_t *file,
+                         const struct listing *listing, uint8_t *cells)
+{
+    uint8_t wide[2 * WIDEST_ROW];
+    size_t t = at->cells_at[at->levels], place = listing->first, cell = 0, row, i;
+    uint32_t level, value = 0;
+    memset(cells, 0, t);
+    while (place < listing->end) {
+        place = next_number(file, listing->end, place, &value);
+        if (value >= t - cell)
+            return 0;
+        cell += value;
+        cells[cell] = 2;
+    }
+    for (i = 0; i < at->cells_at[1]; i++)
+        cells[i] = cells[i] == 2 ? 2 : 1;
+    for (level = 0; level + 1 < at->levels; level++) {
+        const uint8_t *here = cells + at->cells_at[level];
+        uint8_t *below = cells + at->cells_at[level + 1];
+        size_t n = at->columns[level];
+        for (row = 0; row < at->rows[level]; row++, here += n, below += 4 * n) {
+            if (!memchr(here, 2, n))
+                continue;
+            double_row(wide, here, n);
+            for (i = 0; i < 2 * n; i++)
+                below[i] = below[i] == 2 ? 2 : wide[i] == 2;
+            for (i = 0; i < 2 * n; i++)
+                below[2 * n + i] = below[2 * n + i] == 2 ? 2 : wide[i] == 2;
+        }
+    }
+    return 1;
+}
+
+WallmirrorRead tuned_read(const uint8_t *file, size_t file_len, uint8_t *cells, size_t cells_len,
+                          uint8_t *functions, size_t functions_len)
+{
+    uint8_t new_cells[ROOM];
+    WallmirrorRead answer = {0, {0, 0, 0, 0, 0, 0}};
+    struct listing listing;
+    struct layout at;
+    WallmirrorPlan plan;
+    if (!read_listing(file, file_len, &listing)) {
+        answer.number = WALLMIRROR_MALFORMED_FILE;
+        return answer;
+    }
+    plan.columns = listing.numbers[0];
+    plan.rows = listing.numbers[1];
+    plan.levels = listing.numbers[2];
+    plan.degree_across = listing.numbers[3];
+    plan.degree_up = listing.numbers[4];
+    plan.admissibility_class = listing.numbers[5];
+    answer.number = lay_out(&at, plan);
+    if (answer.number != 0)
+        return answer;
+    answer.plan = plan;
+    if (cells_len != at.cells_at[at.levels] || functions_len != at.functions_at[at.levels])
+        answer.number = WALLMIRROR_TABLE_LENGTH;
+    else if (!refine_listed(&at, file, &listing, new_cells) || !is_mesh(&at, new_cells))
+        answer.number = WALLMIRROR_NOT_A_MESH;
+    else if (!is_admissible(&at, new_cells))
+        answer.number = WALLMIRROR_NOT_ADMISSIBLE;
+    else if (listing.end != file_len)
+        answer.number = WALLMIRROR_TRAILING_BYTES;
+    if (answer.number != 0)
+        return answer;
+    memcpy(cells, new_cells, cells_len);
+    over_supports(&at, cells, functions);
+    return answer;
+}
+
+static size_t size_of(uint32_t value)
+{
+    return value < 1u << 7 ? 1 : value < 1u << 14 ? 2 : 3;
+}
+
+static uint8_t *put_number(uint8_t *to, uint32_t value)
+{
+    for (; value >= 128; value >>= 7)
+        *to++ = (uint8_t)(value | 128);
+    *to++ = (uint8_t)value;
+    return to;
+}
+
+WallmirrorWritten tuned_write(WallmirrorPlan plan, const uint8_t *cells, size_t cells_len,
+                              const uint8_t *functions, size_t functions_len,
+                              uint8_t *file, size_t file_len)
+{
+    WallmirrorWritten written = {0, 0};
+    struct layout at;
+    uint32_t listed[WALLMIRROR_MOST_FILE_BYTES], count = 0, before = 0, i;
+    size_t last, length;
+    uint8_t *to = file;
+    written.number = check(&at, plan, cells, cells_len, functions, functions_len);
+    if (written.number != 0)
+        return written;
+    /* none is refined on the last level */
+    last = at.cells_at[at.levels - 1];
+    length = 6;
+    for (i = 0; i < last; i++)
+        if (cells[i] == 2) {
+            listed[count++] = i - before;
+            length += size_of(i - before);
+            before = i;
+        }
+    length += size_of(count);
+    if (file_len < length) {
+        written.number = WALLMIRROR_CELL_LIST_TOO_SHORT;
+        return written;
+    }
+    to = put_number(to, plan.columns);
+    to = put_number(to, plan.rows);
+    to = put_number(to, plan.levels);
+    to = put_number(to, plan.degree_across);
+    to = put_number(to, plan.degree_up);
+    to = put_number(to, plan.admissibility_class);
+    to = put_number(to, count);
+    for (i = 0; i < count; i++)
+        to = put_number(to, listed[i]);
+    written.length = (uint32_t)length;
+    return written;
+}

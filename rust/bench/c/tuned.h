@@ -28,4 +28,11 @@ TUNED_CHANGE(tuned_refine_functions);
 TUNED_CHANGE(tuned_coarsen_cells);
 TUNED_CHANGE(tuned_coarsen_functions);
 
+WallmirrorRead tuned_read(const uint8_t *file, size_t file_len, uint8_t *cells, size_t cells_len,
+                          uint8_t *functions, size_t functions_len);
+
+WallmirrorWritten tuned_write(WallmirrorPlan plan, const uint8_t *cells, size_t cells_len,
+                              const uint8_t *functions, size_t functions_len,
+                              uint8_t *file, size_t file_len);
+
 #endif

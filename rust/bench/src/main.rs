@@ -27,7 +27,7 @@ impl Goal {
 
     fn of(call: Call, marks: usize) -> Option<Goal> {
         match call {
-            Call::Open | Call::Count => None,
+            Call::Open | Call::Count | Call::Read | Call::Write => None,
             Call::Check => Some(Goal::Check),
             Call::Change(kind) if kind.by_functions() => Some(Goal::Functions),
             Call::Change(_) if marks == 1 => Some(Goal::OneCell),
@@ -151,7 +151,7 @@ fn measure(scenario: &Scenario) -> Vec<Row> {
         rows.push(time(call, tables, marks, scenario.to_string()));
         rows[rows.len() - 1].print();
     };
-    for call in [Call::Open, Call::Check, Call::Count] {
+    for call in [Call::Open, Call::Check, Call::Count, Call::Read, Call::Write] {
         add(call, &scenario.to_coarsen, &[]);
     }
     for kind in Kind::ALL {
@@ -225,7 +225,7 @@ fn time(call: Call, tables: &Tables, marks: &[u32], place: String) -> Row {
     });
     let mut model = Duration::MAX;
     repeat(Duration::from_millis(60), 50, || {
-        model = model.min(timed(|| run_model(call, tables, marks)));
+        model = model.min(timed(|| run_model(call, tables, marks, &buffers.file)));
     });
     Row { call, place, marks: marks.len(), changed, library, tuned, model, read }
 }
@@ -279,13 +279,15 @@ fn read_by_vectors(tables: &Tables) -> u64 {
     sum(&tables.cells) + sum(&tables.functions)
 }
 
-fn run_model(call: Call, tables: &Tables, marks: &[u32]) {
+fn run_model(call: Call, tables: &Tables, marks: &[u32], file: &[u8]) {
     let Tables { plan, cells, functions } = tables;
     let (t, f) = (cells.len(), functions.len());
     match call {
         Call::Open => drop(black_box(model::open(*plan, t, f))),
         Call::Check => drop(black_box(model::check(*plan, cells, functions))),
         Call::Count => drop(black_box(model::count(*plan, cells, functions))),
+        Call::Read => drop(black_box(model::file::read(file, t, f))),
+        Call::Write => drop(black_box(model::file::write(*plan, cells, functions, file.len()))),
         Call::Change(kind) => {
             drop(black_box(kind.of_model()(*plan, cells, functions, marks, t, f)));
         }

@@ -8,6 +8,8 @@ pub enum Call {
     Open,
     Check,
     Count,
+    Read,
+    Write,
     Change(Kind),
 }
 
@@ -17,6 +19,8 @@ impl Call {
             Call::Open => "open",
             Call::Check => "check",
             Call::Count => "count",
+            Call::Read => "read file",
+            Call::Write => "write file",
             Call::Change(kind) => kind.name(),
         }
     }
@@ -25,12 +29,24 @@ impl Call {
 type Open = unsafe extern "C" fn(ffi::Plan, *mut u8, usize, *mut u8, usize) -> u32;
 type Check = unsafe extern "C" fn(ffi::Plan, *const u8, usize, *const u8, usize) -> u32;
 type Count = unsafe extern "C" fn(ffi::Plan, *const u8, usize, *const u8, usize) -> ffi::Count;
+type Read = unsafe extern "C" fn(*const u8, usize, *mut u8, usize, *mut u8, usize) -> ffi::Read;
+type Write = unsafe extern "C" fn(
+    ffi::Plan,
+    *const u8,
+    usize,
+    *const u8,
+    usize,
+    *mut u8,
+    usize,
+) -> ffi::Written;
 
 /// The calls of one version.
 pub struct Version {
     open: Open,
     check: Check,
     count: Count,
+    read: Read,
+    write: Write,
     change: fn(Kind) -> ffi::Change,
 }
 
@@ -38,6 +54,8 @@ pub const LIBRARY: Version = Version {
     open: ffi::wallmirror_open,
     check: ffi::wallmirror_check,
     count: ffi::wallmirror_count,
+    read: ffi::wallmirror_read,
+    write: ffi::wallmirror_write,
     change: Kind::of_library,
 };
 
@@ -45,6 +63,8 @@ pub const TUNED: Version = Version {
     open: tuned::tuned_open,
     check: tuned::tuned_check,
     count: tuned::tuned_count,
+    read: tuned::tuned_read,
+    write: tuned::tuned_write,
     change: |kind| match kind {
         Kind::RefineCells => tuned::tuned_refine_cells,
         Kind::RefineFunctions => tuned::tuned_refine_functions,
@@ -105,6 +125,23 @@ mod tuned {
             functions: *const u8,
             functions_len: usize,
         ) -> ffi::Count;
+        pub fn tuned_read(
+            file: *const u8,
+            file_len: usize,
+            cells: *mut u8,
+            cells_len: usize,
+            functions: *mut u8,
+            functions_len: usize,
+        ) -> ffi::Read;
+        pub fn tuned_write(
+            plan: ffi::Plan,
+            cells: *const u8,
+            cells_len: usize,
+            functions: *const u8,
+            functions_len: usize,
+            file: *mut u8,
+            file_len: usize,
+        ) -> ffi::Written;
     }
 }
 
@@ -114,21 +151,24 @@ pub struct Buffers {
     pub tables: Tables,
     pub cell_list: Vec<u32>,
     pub function_list: Vec<u32>,
-    pub answer: [u32; 5],
+    pub file: Vec<u8>,
+    pub answer: [u32; 7],
 }
 
 impl Buffers {
-    pub fn new(tables: &Tables, cell_room: usize, function_room: usize) -> Buffers {
+    pub fn new(tables: &Tables, cell_room: usize, function_room: usize, file: Vec<u8>) -> Buffers {
         Buffers {
             tables: tables.clone(),
             cell_list: vec![0; cell_room],
             function_list: vec![0; function_room],
-            answer: [0; 5],
+            file,
+            answer: [0; 7],
         }
     }
 
+    /// Lists of T and F entries, and the file of the mesh.
     pub fn with_room(tables: &Tables) -> Buffers {
-        Buffers::new(tables, tables.cells.len(), tables.functions.len())
+        Buffers::new(tables, tables.cells.len(), tables.functions.len(), tables.file())
     }
 
     /// Puts the tables back, which are to have the same lengths.
@@ -147,15 +187,30 @@ impl Buffers {
                 Call::Open => {
                     let number =
                         (version.open)(plan, cells.as_mut_ptr(), t, functions.as_mut_ptr(), f);
-                    [number, 0, 0, 0, 0]
+                    [number, 0, 0, 0, 0, 0, 0]
                 }
                 Call::Check => {
-                    [(version.check)(plan, cells.as_ptr(), t, functions.as_ptr(), f), 0, 0, 0, 0]
+                    let number = (version.check)(plan, cells.as_ptr(), t, functions.as_ptr(), f);
+                    [number, 0, 0, 0, 0, 0, 0]
                 }
                 Call::Count => {
                     let count = (version.count)(plan, cells.as_ptr(), t, functions.as_ptr(), f);
                     let ffi::Count { number, active_cells, refined_cells, .. } = count;
-                    [number, active_cells, refined_cells, count.active_functions, count.area]
+                    [number, active_cells, refined_cells, count.active_functions, count.area, 0, 0]
+                }
+                Call::Read => {
+                    let (file, length) = (self.file.as_ptr(), self.file.len());
+                    let (cells, functions) = (cells.as_mut_ptr(), functions.as_mut_ptr());
+                    let ffi::Read { number, plan } =
+                        (version.read)(file, length, cells, t, functions, f);
+                    let ffi::Plan { columns, rows, levels, degree_across, degree_up, class } = plan;
+                    [number, columns, rows, levels, degree_across, degree_up, class]
+                }
+                Call::Write => {
+                    let (file, length) = (self.file.as_mut_ptr(), self.file.len());
+                    let (cells, functions) = (cells.as_ptr(), functions.as_ptr());
+                    let written = (version.write)(plan, cells, t, functions, f, file, length);
+                    [written.number, written.length, 0, 0, 0, 0, 0]
                 }
                 Call::Change(kind) => {
                     let answer = (version.change)(kind)(
@@ -171,7 +226,7 @@ impl Buffers {
                         self.function_list.as_mut_ptr(),
                         self.function_list.len(),
                     );
-                    [answer.number, answer.cells, answer.functions, 0, 0]
+                    [answer.number, answer.cells, answer.functions, 0, 0, 0, 0]
                 }
             }
         };
@@ -186,7 +241,11 @@ pub fn agree(call: Call, before: &Buffers, marks: &[u32]) -> (u32, u32) {
     tuned.run(&TUNED, call, marks);
     let (plan, name) = (before.tables.plan, call.name());
     assert_eq!(library.answer, tuned.answer, "{name} {plan:?}, {} marks", marks.len());
-    assert!(library == tuned, "tables or lists differ: {name} {plan:?}, {} marks", marks.len());
+    assert!(
+        library == tuned,
+        "tables, lists or files differ: {name} {plan:?}, {} marks",
+        marks.len()
+    );
     let changed = if matches!(call, Call::Change(_)) { library.answer[1] } else { 0 };
     (library.answer[0], changed)
 }
@@ -196,23 +255,32 @@ mod tests {
     use super::*;
     use differential::{random_plan, random_refined, Random};
 
-    /// Random meshes, some with a wrong byte or another class, and random marks, some of them
-    /// wrong.
+    /// Random meshes, some with a wrong byte or another class, random marks, some of them wrong,
+    /// and files, some of them with a wrong byte, cut or longer.
     #[test]
     fn tuned_is_as_the_library() {
         let mut random = Random::new(600);
-        let mut seen = [0; 12];
+        let mut seen = [0; 14];
         for turn in 0..4000 {
             let degrees = (random.below(4) as u32 + 1, random.below(4) as u32 + 1);
             let class = random.pick(&[0, 2, 2, 3, 4, 5, 8]);
             let most = if turn % 100 == 0 { 21_845 } else { 500 };
             let plan = random_plan(&mut random, degrees, class, most);
             let mut tables = Tables::with_refined(plan, &random_refined(&mut random, plan));
-            let call = match random.below(7) {
+            let call = match random.below(9) {
                 0 => random.pick(&[Call::Open, Call::Check, Call::Count]),
+                1 => Call::Read,
+                2 => Call::Write,
                 _ => Call::Change(random.pick(&Kind::ALL)),
             };
             let marks = marks(&mut random, call, &tables);
+            let mut file = tables.file();
+            match random.below(8) {
+                0 | 1 => wrong_byte(&mut random, &mut file),
+                2 => drop(file.pop()),
+                3 => file.push(0),
+                _ => {}
+            }
             match random.below(12) {
                 0 => tables.plan.class = random.pick(&[0, 2, 3]),
                 1 => wrong_byte(&mut random, &mut tables.cells),
@@ -222,7 +290,7 @@ mod tests {
             }
             let room = random.pick(&[0, 3, 21_845, 21_845]);
             let function_room = random.pick(&[3, 26_220, 26_220]);
-            let before = Buffers::new(&tables, room, function_room);
+            let before = Buffers::new(&tables, room, function_room, file);
             seen[agree(call, &before, &marks).0 as usize] += 1;
         }
         assert!(seen.iter().all(|&count| count > 0), "{seen:?}");

@@ -3,7 +3,7 @@
 use model::{Cell, Function, Mesh, Plan};
 use std::collections::BTreeSet;
 use std::fmt::Debug;
-use wallmirror::ffi;
+use wallmirror::{ffi, MOST_FILE_BYTES};
 
 pub mod scenario;
 
@@ -280,6 +280,74 @@ impl Tables {
         count
     }
 
+    /// Reads the file into these tables, of whatever content and lengths. Plan and tables are then
+    /// as the call left them.
+    pub fn read(&mut self, file: &[u8]) -> u32 {
+        let (mut cells, mut functions) = self.lend();
+        // A guard that ends a number: one that is cut off would be whole to who reads on.
+        let mut lent_file = Lent::new(file, 0x01);
+        let said = || {
+            let few = &file[..file.len().min(40)];
+            let lent = (self.cells.len(), self.functions.len());
+            format!("read into tables of {lent:?}, {} bytes {few:02x?}", file.len())
+        };
+        // SAFETY: separate buffers of these lengths.
+        let answer = unsafe {
+            ffi::wallmirror_read(
+                lent_file.pointer(),
+                lent_file.len(),
+                cells.pointer(),
+                cells.len(),
+                functions.pointer(),
+                functions.len(),
+            )
+        };
+        let (plan, expected) = model::file::read(file, self.cells.len(), self.functions.len());
+        let number = *expected.as_ref().err().unwrap_or(&0);
+        assert_eq!(answer, ffi::Read { number, plan: raw(plan) }, "{}", said());
+        let (new_cells, new_functions) =
+            expected.unwrap_or_else(|_| (self.cells.clone(), self.functions.clone()));
+        cells.expect(&new_cells, "cell table", &said);
+        functions.expect(&new_functions, "function table", &said);
+        lent_file.expect(file, "file", &said);
+        *self = Tables { plan, cells: new_cells, functions: new_functions };
+        number
+    }
+
+    /// Writes the mesh to the file as lent. Answers what was written, or the refusal.
+    pub fn write(&self, lent: &[u8]) -> Result<Vec<u8>, u32> {
+        let (mut cells, mut functions) = self.lend();
+        let mut file = Lent::new(lent, 0x3c);
+        let plan = self.plan;
+        let said = || format!("write {plan:?} to {} bytes", lent.len());
+        // SAFETY: separate buffers of these lengths.
+        let written = unsafe {
+            ffi::wallmirror_write(
+                raw(self.plan),
+                cells.pointer(),
+                cells.len(),
+                functions.pointer(),
+                functions.len(),
+                file.pointer(),
+                file.len(),
+            )
+        };
+        let expected = model::file::write(self.plan, &self.cells, &self.functions, lent.len());
+        let bytes = expected.as_deref().unwrap_or(&[]);
+        let number = *expected.as_ref().err().unwrap_or(&0);
+        let answer = ffi::Written { number, length: bytes.len() as u32 };
+        assert_eq!(written, answer, "{}", said());
+        cells.expect(&self.cells, "cell table", &said);
+        functions.expect(&self.functions, "function table", &said);
+        file.expect(&overwritten(lent, bytes), "file", &said);
+        expected
+    }
+
+    /// The file of tables that check passes.
+    pub fn file(&self) -> Vec<u8> {
+        self.write(&[0xee; MOST_FILE_BYTES]).expect("a mesh")
+    }
+
     /// Runs one of the four calls with the lists as lent. The tables are then as it left them.
     pub fn call(
         &mut self,
@@ -384,7 +452,7 @@ impl Tables {
 }
 
 /// The list with its first entries replaced.
-fn overwritten(list: &[u32], first: &[u32]) -> Vec<u32> {
+fn overwritten<T: Copy>(list: &[T], first: &[T]) -> Vec<T> {
     let mut list = list.to_vec();
     list[..first.len()].copy_from_slice(first);
     list

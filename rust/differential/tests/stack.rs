@@ -19,7 +19,7 @@ type Ready<'a> = &'a mut (dyn FnMut() -> u32 + Send);
 fn each_call(scenarios: &[Scenario], mut visit: impl FnMut(&str, &str, Ready)) {
     for scenario in scenarios {
         for tables in [&scenario.to_refine, &scenario.to_coarsen] {
-            each_reading_call(tables, &scenario.to_string(), &mut visit);
+            each_call_without_marks(tables, &scenario.to_string(), &mut visit);
         }
         for kind in Kind::ALL {
             let tables = scenario.before(kind);
@@ -33,16 +33,30 @@ fn each_call(scenarios: &[Scenario], mut visit: impl FnMut(&str, &str, Ready)) {
     }
 }
 
-fn each_reading_call(tables: &Tables, place: &str, visit: &mut impl FnMut(&str, &str, Ready)) {
+fn each_call_without_marks(
+    tables: &Tables,
+    place: &str,
+    visit: &mut impl FnMut(&str, &str, Ready),
+) {
     let Tables { plan, mut cells, mut functions } = tables.clone();
     let (cells, functions) = (&mut cells[..], &mut functions[..]);
     let (t, f) = (cells.len(), functions.len());
+    let mut file = tables.file();
     // SAFETY: separate vectors of these lengths, here and below.
     visit("check", place, &mut || unsafe {
         ffi::wallmirror_check(raw(plan), cells.as_ptr(), t, functions.as_ptr(), f)
     });
     visit("count", place, &mut || unsafe {
         ffi::wallmirror_count(raw(plan), cells.as_ptr(), t, functions.as_ptr(), f).number
+    });
+    visit("write", place, &mut || unsafe {
+        let (cells, functions) = (cells.as_ptr(), functions.as_ptr());
+        let (file, length) = (file.as_mut_ptr(), file.len());
+        ffi::wallmirror_write(raw(plan), cells, t, functions, f, file, length).number
+    });
+    visit("read", place, &mut || unsafe {
+        let (cells, functions) = (cells.as_mut_ptr(), functions.as_mut_ptr());
+        ffi::wallmirror_read(file.as_ptr(), file.len(), cells, t, functions, f).number
     });
     visit("open", place, &mut || unsafe {
         ffi::wallmirror_open(raw(plan), cells.as_mut_ptr(), t, functions.as_mut_ptr(), f)

@@ -11,6 +11,7 @@
 use std::collections::BTreeSet;
 use std::ops::RangeInclusive;
 
+pub mod file;
 pub mod session;
 
 #[derive(Clone, Copy, Debug, PartialEq, Eq)]

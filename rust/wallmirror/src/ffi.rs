@@ -35,6 +35,24 @@ pub struct Answer {
     pub functions: u32,
 }
 
+/// What [`wallmirror_read`] answers: its number, and the plan of the file, which is all zeros with
+/// refusals 1, 2 and 12.
+#[repr(C)]
+#[derive(Clone, Copy, Debug, Default, PartialEq, Eq)]
+pub struct Read {
+    pub number: u32,
+    pub plan: Plan,
+}
+
+/// What [`wallmirror_write`] answers: its number, and how many bytes of the file were written, 0
+/// after a refusal.
+#[repr(C)]
+#[derive(Clone, Copy, Debug, Default, PartialEq, Eq)]
+pub struct Written {
+    pub number: u32,
+    pub length: u32,
+}
+
 /// A refining or coarsening call.
 ///
 /// # Safety
@@ -128,4 +146,33 @@ unsafe extern "C" {
         functions: *const u8,
         functions_len: usize,
     ) -> Count;
+
+    /// As [`crate::read`].
+    ///
+    /// # Safety
+    ///
+    /// As [`Change`] says, of the file and both tables.
+    pub fn wallmirror_read(
+        file: *const u8,
+        file_len: usize,
+        cells: *mut u8,
+        cells_len: usize,
+        functions: *mut u8,
+        functions_len: usize,
+    ) -> Read;
+
+    /// As [`crate::write`].
+    ///
+    /// # Safety
+    ///
+    /// As [`Change`] says, of both tables and the file.
+    pub fn wallmirror_write(
+        plan: Plan,
+        cells: *const u8,
+        cells_len: usize,
+        functions: *const u8,
+        functions_len: usize,
+        file: *mut u8,
+        file_len: usize,
+    ) -> Written;
 }

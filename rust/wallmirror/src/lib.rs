@@ -2,9 +2,9 @@
 //!
 //! A mesh is two tables of bytes that the caller owns: one byte for each cell of each level (0
 //! absent, 1 active, 2 refined) and one for each function of each level (0 passive, 1 active, 2
-//! deactivated). [`Plan`] gives their lengths. Every call takes any plan, tables and marks; what it
-//! cannot serve it refuses with a [`Refusal`], and then tables and lists hold what they held
-//! before.
+//! deactivated). [`Plan`] gives their lengths. Every call takes any plan, tables, marks and file;
+//! what it cannot serve it refuses with a [`Refusal`], and then all that was lent holds what it
+//! held before.
 //!
 //! In the words of the scope document a mesh is a wall, refining and coarsening are splitting and
 //! joining, admissible of class m is graded, and reactivable is joinable.
@@ -93,6 +93,32 @@
 //! each refined cell lies in the support of a deactivated function of its own level, as on a mesh
 //! just opened.
 //!
+//! # Files
+//!
+//! [`Mesh::to_file`] makes bytes of a mesh, to be kept where one likes, and [`Mesh::from_file`]
+//! makes the mesh of them; [`write`] and [`read`] are the same with lent slices. A file is a list of
+//! numbers: the six of the plan, how many cells are refined, the first refined cell if there is
+//! one, then for each further one, in rising order, its difference from the one before. A number is
+//! written in groups of seven bits, one to a byte, the lowest first, with the high bit set in all
+//! but the last; in as few groups as it needs, and at most three. So one mesh has one file, the
+//! same on every machine.
+//!
+//! ```
+//! # use wallmirror::{open, refine_cells, Cell, Function, Mesh, Plan};
+//! # let plan = Plan { columns: 3, rows: 1, levels: 3, degree_across: 1, degree_up: 1, class: 0 };
+//! # let (mut cells, mut functions) = (vec![0; 63], vec![0; 94]);
+//! # let (mut cell_list, mut function_list) = ([Cell(0); 63], [Function(0); 94]);
+//! open(plan, &mut cells, &mut functions)?;
+//! let marks = [Cell(0), Cell(1)];
+//! refine_cells(plan, &mut cells, &mut functions, &marks, &mut cell_list, &mut function_list)?;
+//! let mesh = Mesh { plan, cells, functions };
+//! let file = mesh.to_file()?;
+//! // The plan, two refined cells, cell 0, and one more.
+//! assert_eq!(file, [3, 1, 3, 1, 1, 0, 2, 0, 1]);
+//! assert_eq!(Mesh::from_file(&file)?, mesh);
+//! # Ok::<(), wallmirror::Refusal>(())
+//! ```
+//!
 //! # Limits
 //!
 //! | | |
@@ -104,6 +130,7 @@
 //! | cells on all levels together | at most [`MAX_CELLS`] |
 //! | functions of such a plan | at most [`MAX_FUNCTIONS`] |
 //! | marks of a call | any number |
+//! | file of a mesh | at most [`MOST_FILE_BYTES`] |
 //! | stack of a call | at most [`STACK_BYTES`] |
 
 use std::fmt;
@@ -140,6 +167,9 @@ pub const MAX_CELLS: usize = 21_845;
 
 /// The most functions that a mesh of at most [`MAX_CELLS`] cells has.
 pub const MAX_FUNCTIONS: usize = 26_220;
+
+/// The most bytes that the file of a mesh has.
+pub const MOST_FILE_BYTES: usize = 5_469;
 
 /// The most stack that any call takes, in bytes: what a thread must have left when it calls. The
 /// library allocates nothing, so whatever it needs beside the tables and lists is there. A thread
@@ -198,6 +228,17 @@ impl Plan {
             class: self.class,
         }
     }
+
+    fn from_raw(plan: ffi::Plan) -> Plan {
+        Plan {
+            columns: plan.columns,
+            rows: plan.rows,
+            levels: plan.levels,
+            degree_across: plan.degree_across,
+            degree_up: plan.degree_up,
+            class: plan.class,
+        }
+    }
 }
 
 /// The number of a cell: from 0, level by level, row by row.
@@ -210,8 +251,8 @@ pub struct Cell(pub u32);
 #[derive(Clone, Copy, Debug, Default, PartialEq, Eq, PartialOrd, Ord, Hash)]
 pub struct Function(pub u32);
 
-/// Why a call was refused. Where several apply, the first of this order is given: 1 to 6; then the
-/// marks in list order, each tried for 7, 8, 9; then 10, 11.
+/// Why a call was refused. Where several apply, the first of this order is given: 12; 1 to 6; then
+/// the marks in list order, each tried for 7, 8, 9; then 10, 11; then 13.
 #[derive(Clone, Copy, Debug, PartialEq, Eq, Hash)]
 #[repr(u32)]
 pub enum Refusal {
@@ -238,15 +279,21 @@ pub enum Refusal {
     MarkOfWrongKind = 8,
     /// A mark to refine is of the last level. Coarsening never gives this.
     MarkOfLastLevel = 9,
-    /// The cell list has fewer entries than cells change.
+    /// The cell list has fewer entries than cells change. Of [`write`]: the lent bytes are fewer
+    /// than the file has.
     CellListTooShort = 10,
     /// The function list has fewer entries than functions change.
     FunctionListTooShort = 11,
+    /// A number of the file is cut off, has more than three groups or more than it needs, or is a
+    /// difference of 0.
+    MalformedFile = 12,
+    /// Bytes follow the last number of the file.
+    TrailingBytes = 13,
 }
 
 impl Refusal {
     /// All refusals in the order of their numbers.
-    pub const ALL: [Refusal; 11] = [
+    pub const ALL: [Refusal; 13] = [
         Refusal::PlanOutOfRange,
         Refusal::TooManyCells,
         Refusal::TableLength,
@@ -258,9 +305,11 @@ impl Refusal {
         Refusal::MarkOfLastLevel,
         Refusal::CellListTooShort,
         Refusal::FunctionListTooShort,
+        Refusal::MalformedFile,
+        Refusal::TrailingBytes,
     ];
 
-    /// The number that the library answers, 1 to 11.
+    /// The number that the library answers, 1 to 13.
     pub fn number(self) -> u32 {
         self as u32
     }
@@ -297,10 +346,16 @@ impl fmt::Display for Refusal {
             Refusal::MarkOutOfRange => "a mark is not the number of a cell or function of the plan",
             Refusal::MarkOfWrongKind => "a mark is not of the kind that the call takes",
             Refusal::MarkOfLastLevel => "a mark is of the last level, which cannot be refined",
-            Refusal::CellListTooShort => "the cell list is too short for the cells that change",
+            Refusal::CellListTooShort => {
+                "the cell list is too short for the cells that change, or the lent bytes for the file"
+            }
             Refusal::FunctionListTooShort => {
                 "the function list is too short for the functions that change"
             }
+            Refusal::MalformedFile => {
+                "a number of the file is cut off, longer than it may be, or a difference of 0"
+            }
+            Refusal::TrailingBytes => "bytes follow the last number of the file",
         };
         write!(f, "refusal {}: {message}", self.number())
     }
@@ -319,6 +374,72 @@ pub struct Count {
     pub active_functions: usize,
     /// Of the active cells, in cells of the last level.
     pub area: usize,
+}
+
+/// Why a file was not read.
+#[derive(Clone, Copy, Debug, PartialEq, Eq, Hash)]
+pub struct ReadRefusal {
+    /// 12, 1 to 5, or 13.
+    pub refusal: Refusal,
+    /// The plan of the file, which tells the lengths of its tables; `None` with refusals 1, 2 and
+    /// 12.
+    pub plan: Option<Plan>,
+}
+
+impl fmt::Display for ReadRefusal {
+    fn fmt(&self, f: &mut fmt::Formatter<'_>) -> fmt::Result {
+        self.refusal.fmt(f)
+    }
+}
+
+impl std::error::Error for ReadRefusal {}
+
+impl From<ReadRefusal> for Refusal {
+    fn from(unread: ReadRefusal) -> Refusal {
+        unread.refusal
+    }
+}
+
+/// A plan with tables that it owns. Anything may stand in them; the calls refuse what is no mesh.
+#[derive(Clone, Debug, PartialEq, Eq, Hash)]
+pub struct Mesh {
+    pub plan: Plan,
+    /// One byte for each cell of each level.
+    pub cells: Vec<u8>,
+    /// One byte for each function of each level.
+    pub functions: Vec<u8>,
+}
+
+impl Mesh {
+    /// The mesh of a file. Refuses 12, then 1, 2, 4 and 5, then 13.
+    ///
+    /// ```
+    /// # use wallmirror::{Mesh, Refusal};
+    /// let mesh = Mesh::from_file(&[3, 1, 3, 1, 1, 0, 0])?;
+    /// assert_eq!((mesh.plan.columns, mesh.cells.len(), mesh.functions.len()), (3, 63, 94));
+    /// // A refined cell is announced and does not come.
+    /// assert_eq!(Mesh::from_file(&[3, 1, 3, 1, 1, 0, 1]), Err(Refusal::MalformedFile));
+    /// # Ok::<(), Refusal>(())
+    /// ```
+    pub fn from_file(file: &[u8]) -> Result<Mesh, Refusal> {
+        // A plan has cells, so empty tables are refused: with the plan, or because there is none.
+        let plan = match read(file, &mut [], &mut []) {
+            Ok(plan) | Err(ReadRefusal { plan: Some(plan), .. }) => plan,
+            Err(unread) => return Err(unread.refusal),
+        };
+        let table = |length: Option<usize>| vec![0; length.expect("a plan that is in range")];
+        let (mut cells, mut functions) = (table(plan.cells()), table(plan.functions()));
+        read(file, &mut cells, &mut functions)?;
+        Ok(Mesh { plan, cells, functions })
+    }
+
+    /// The file of the mesh, of at most [`MOST_FILE_BYTES`]. Refuses 1 to 6.
+    pub fn to_file(&self) -> Result<Vec<u8>, Refusal> {
+        let mut file = vec![0; MOST_FILE_BYTES];
+        let length = write(self.plan, &self.cells, &self.functions, &mut file)?;
+        file.truncate(length);
+        Ok(file)
+    }
 }
 
 /// How many entries a call wrote to its two lists.
@@ -508,6 +629,80 @@ fn change(
     Ok(Changed { cells: answer.cells as usize, functions: answer.functions as usize })
 }
 
+/// Makes both tables the mesh of the file, whatever they held, and answers its plan. Refuses 12,
+/// judged over all numbers of the file; then 1 to 5, where 3 is said of the lent tables, 4 also of a
+/// listed cell that is not below the number of cells, and 4 and 5 of the mesh with the listed cells
+/// refined; then 13. A mesh that was read passes [`check`], and its file is the one that was read.
+///
+/// A file of unknown plan is read twice, as [`Mesh::from_file`] does: with empty tables, which is
+/// refused with the plan, and with tables of that plan.
+///
+/// ```
+/// # use wallmirror::{read, ReadRefusal, Refusal};
+/// let file = [3, 1, 3, 1, 1, 0, 2, 0, 1];
+/// let unread = read(&file, &mut [], &mut []).unwrap_err();
+/// assert_eq!(unread.refusal, Refusal::TableLength);
+/// let plan = unread.plan.expect("a plan that is in range");
+/// let mut cells = vec![0; plan.cells().unwrap()];
+/// let mut functions = vec![0; plan.functions().unwrap()];
+/// assert_eq!(read(&file, &mut cells, &mut functions), Ok(plan));
+/// assert_eq!(cells[..3], [2, 2, 1]);
+/// ```
+pub fn read(file: &[u8], cells: &mut [u8], functions: &mut [u8]) -> Result<Plan, ReadRefusal> {
+    // SAFETY: pointers and lengths are those of slices; the mutable ones overlap no other.
+    let answer = unsafe {
+        ffi::wallmirror_read(
+            file.as_ptr(),
+            file.len(),
+            cells.as_mut_ptr(),
+            cells.len(),
+            functions.as_mut_ptr(),
+            functions.len(),
+        )
+    };
+    let plan = Plan::from_raw(answer.plan);
+    // All zeros stand for no plan.
+    let known = (answer.plan != ffi::Plan::default()).then_some(plan);
+    accepted(answer.number).map_err(|refusal| ReadRefusal { refusal, plan: known })?;
+    Ok(plan)
+}
+
+/// Writes the file of the mesh to the lent bytes, of which [`MOST_FILE_BYTES`] are always enough,
+/// and answers its length. Bytes past it keep their values. Refuses 1 to 6, then 10.
+///
+/// ```
+/// # use wallmirror::{open, write, Plan, Refusal};
+/// # let plan = Plan { columns: 3, rows: 1, levels: 3, degree_across: 1, degree_up: 1, class: 0 };
+/// # let (mut cells, mut functions) = (vec![0; 63], vec![0; 94]);
+/// open(plan, &mut cells, &mut functions)?;
+/// let mut file = [9; 8];
+/// assert_eq!(write(plan, &cells, &functions, &mut file), Ok(7));
+/// assert_eq!(file, [3, 1, 3, 1, 1, 0, 0, 9]);
+/// assert_eq!(write(plan, &cells, &functions, &mut file[..6]), Err(Refusal::CellListTooShort));
+/// # Ok::<(), Refusal>(())
+/// ```
+pub fn write(
+    plan: Plan,
+    cells: &[u8],
+    functions: &[u8],
+    file: &mut [u8],
+) -> Result<usize, Refusal> {
+    // SAFETY: pointers and lengths are those of slices; the mutable one overlaps no other.
+    let written = unsafe {
+        ffi::wallmirror_write(
+            plan.raw(),
+            cells.as_ptr(),
+            cells.len(),
+            functions.as_ptr(),
+            functions.len(),
+            file.as_mut_ptr(),
+            file.len(),
+        )
+    };
+    accepted(written.number)?;
+    Ok(written.length as usize)
+}
+
 fn accepted(number: u32) -> Result<(), Refusal> {
     match number {
         0 => Ok(()),
@@ -531,10 +726,14 @@ mod tests {
     use super::*;
 
     #[test]
-    fn the_documentation_has_the_c_example() {
+    fn the_documentation_has_the_examples() {
         let documentation = include_str!("../../../README.md");
-        let example = include_str!("../../../examples/c/refine.c");
-        assert!(documentation.contains(example));
+        let in_c = |block: &'static str| block.split("```").next().expect("the end of a block");
+        let blocks: Vec<&str> = documentation.split("```c\n").skip(1).map(in_c).collect();
+        assert_eq!(blocks.len(), 2);
+        assert_eq!(blocks[0], include_str!("../../../examples/c/refine.c"));
+        assert!(include_str!("../../../examples/c/file.c").contains(blocks[1]));
+        assert!(documentation.contains(include_str!("../examples/file.rs")));
     }
 
     #[test]
@@ -543,6 +742,7 @@ mod tests {
         for (name, number) in [
             ("MAX_CELLS", MAX_CELLS),
             ("MAX_FUNCTIONS", MAX_FUNCTIONS),
+            ("MOST_FILE_BYTES", MOST_FILE_BYTES),
             ("STACK_BYTES", STACK_BYTES),
         ] {
             assert!(header.contains(&format!("#define WALLMIRROR_{name} {number}\n")), "{name}");
@@ -558,7 +758,7 @@ mod tests {
             assert!(refusal.to_string().starts_with(&format!("refusal {}: ", i + 1)));
         }
         assert_eq!(Refusal::from_number(0), None);
-        assert_eq!(Refusal::from_number(12), None);
+        assert_eq!(Refusal::from_number(14), None);
     }
 
     #[test]
