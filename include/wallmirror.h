@@ -73,7 +73,7 @@
  *   cells on all levels together  at most WALLMIRROR_MAX_CELLS
  *   functions of such a plan      at most WALLMIRROR_MAX_FUNCTIONS
  *   marks of a call               any number; their values are 32 bits
- *   file of a mesh                at most WALLMIRROR_MOST_FILE_BYTES bytes
+ *   file of a mesh                at most WALLMIRROR_MAX_FILE_BYTES bytes
  *   stack of a call               at most WALLMIRROR_STACK_BYTES
  */
 #ifndef WALLMIRROR_H
@@ -98,7 +98,7 @@ extern "C" {
 #define WALLMIRROR_MAX_FUNCTIONS 26220
 
 /* The most bytes that the file of a mesh has: a buffer of this size serves every mesh. */
-#define WALLMIRROR_MOST_FILE_BYTES 5469
+#define WALLMIRROR_MAX_FILE_BYTES 5469
 
 /* The most stack that any call takes, in bytes: what a thread must have left when it calls. */
 #define WALLMIRROR_STACK_BYTES 131072

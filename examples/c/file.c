@@ -50,7 +50,7 @@ static int failed(const char *what, const char *path)
 /* Writes the file of the mesh to the disk. */
 static int save(const struct mesh *mesh, const char *path)
 {
-    uint8_t bytes[WALLMIRROR_MOST_FILE_BYTES];
+    uint8_t bytes[WALLMIRROR_MAX_FILE_BYTES];
     WallmirrorWritten written = wallmirror_write(mesh->plan, mesh->cells, mesh->t,
                                                  mesh->functions, mesh->f, bytes, sizeof bytes);
     FILE *file;
@@ -89,7 +89,7 @@ static int read_mesh(struct mesh *mesh, const uint8_t *bytes, size_t length)
 static int load(struct mesh *mesh, const char *path)
 {
     /* One byte more than the file of a mesh can have, so that a longer one is seen to be none. */
-    uint8_t bytes[WALLMIRROR_MOST_FILE_BYTES + 1];
+    uint8_t bytes[WALLMIRROR_MAX_FILE_BYTES + 1];
     FILE *file = fopen(path, "rb");
     size_t length, i;
     int unread;

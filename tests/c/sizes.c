@@ -81,7 +81,7 @@ static int same_plan(WallmirrorPlan a, WallmirrorPlan b)
 static void try_longest_file(void)
 {
     static const uint8_t head[9] = {1, 1, 8, 4, 3, 2, 0x80 | 5461 % 128, 5461 / 128, 0};
-    static uint8_t file[WALLMIRROR_MOST_FILE_BYTES], written[WALLMIRROR_MOST_FILE_BYTES + 1];
+    static uint8_t file[WALLMIRROR_MAX_FILE_BYTES], written[WALLMIRROR_MAX_FILE_BYTES + 1];
     WallmirrorPlan plan = {1, 1, 8, 4, 3, 2};
     size_t t = wallmirror_cells_len(plan), f = wallmirror_functions_len(plan);
     WallmirrorRead first, second;
@@ -97,7 +97,7 @@ static void try_longest_file(void)
         wallmirror_check(plan, cells, t, functions, f) != WALLMIRROR_ACCEPTED)
         wrong++;
     short_of_one = wallmirror_write(plan, cells, t, functions, f, written,
-                                    WALLMIRROR_MOST_FILE_BYTES - 1);
+                                    WALLMIRROR_MAX_FILE_BYTES - 1);
     if (short_of_one.number != WALLMIRROR_CELL_LIST_TOO_SHORT || short_of_one.length != 0 ||
         written[0] != 9)
         wrong++;
@@ -127,6 +127,6 @@ int main(void)
     if (most_cells != WALLMIRROR_MAX_CELLS || most_functions != WALLMIRROR_MAX_FUNCTIONS)
         wrong++;
     printf("version %s, at most %lu bytes of stack and %lu of a file\n", WALLMIRROR_VERSION,
-           (unsigned long)WALLMIRROR_STACK_BYTES, (unsigned long)WALLMIRROR_MOST_FILE_BYTES);
+           (unsigned long)WALLMIRROR_STACK_BYTES, (unsigned long)WALLMIRROR_MAX_FILE_BYTES);
     return wrong != 0;
 }

@@ -708,7 +708,7 @@ WallmirrorWritten tuned_write(WallmirrorPlan plan, const uint8_t *cells, size_t 
 {
     WallmirrorWritten written = {0, 0};
     struct layout at;
-    uint32_t listed[WALLMIRROR_MOST_FILE_BYTES], count = 0, before = 0, i;
+    uint32_t listed[WALLMIRROR_MAX_FILE_BYTES], count = 0, before = 0, i;
     size_t last, length;
     uint8_t *to = file;
     written.number = check(&at, plan, cells, cells_len, functions, functions_len);

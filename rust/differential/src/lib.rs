@@ -3,7 +3,7 @@
 use model::{Cell, Function, Mesh, Plan};
 use std::collections::BTreeSet;
 use std::fmt::Debug;
-use wallmirror::{ffi, MOST_FILE_BYTES};
+use wallmirror::{ffi, MAX_FILE_BYTES};
 
 pub mod scenario;
 
@@ -345,7 +345,7 @@ impl Tables {
 
     /// The file of tables that check passes.
     pub fn file(&self) -> Vec<u8> {
-        self.write(&[0xee; MOST_FILE_BYTES]).expect("a mesh")
+        self.write(&[0xee; MAX_FILE_BYTES]).expect("a mesh")
     }
 
     /// Runs one of the four calls with the lists as lent. The tables are then as it left them.

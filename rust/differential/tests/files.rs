@@ -6,7 +6,7 @@ use differential::{plan, random_plan, random_refined, Kind, Random, Tables};
 use model::file::{number, NO_PLAN};
 use model::{Cell, Plan};
 use std::collections::BTreeSet;
-use wallmirror::{Mesh, ReadRefusal, Refusal, MAX_CELLS, MAX_FUNCTIONS, MOST_FILE_BYTES};
+use wallmirror::{Mesh, ReadRefusal, Refusal, MAX_CELLS, MAX_FUNCTIONS, MAX_FILE_BYTES};
 
 const W0: [u32; 6] = [3, 1, 3, 1, 1, 0];
 const W2: [u32; 6] = [3, 1, 3, 1, 1, 2];
@@ -76,7 +76,7 @@ fn read(file: &[u8]) -> (u32, Tables) {
 /// Writes the mesh and reads it back.
 fn round_trip(mesh: &Tables) -> Vec<u8> {
     let file = mesh.file();
-    assert!(file.len() <= MOST_FILE_BYTES);
+    assert!(file.len() <= MAX_FILE_BYTES);
     assert_eq!(read(&file), (0, mesh.clone()));
     file
 }
@@ -529,7 +529,7 @@ fn every_length_of_tables() {
 fn every_length_of_a_file() {
     for mesh in some_meshes() {
         let file = mesh.file();
-        for room in (0..file.len() + 3).chain([MOST_FILE_BYTES, MOST_FILE_BYTES + 1, 100_000]) {
+        for room in (0..file.len() + 3).chain([MAX_FILE_BYTES, MAX_FILE_BYTES + 1, 100_000]) {
             let poison: Vec<u8> = (0..room).map(|i| (i * 7) as u8 ^ 0xa5).collect();
             let expected = if room < file.len() { Err(10) } else { Ok(file.clone()) };
             assert_eq!(mesh.write(&poison), expected);
@@ -582,26 +582,26 @@ fn the_longest_file() {
             }
         }
     }
-    assert_eq!(longest, MOST_FILE_BYTES);
+    assert_eq!(longest, MAX_FILE_BYTES);
 
     for numbers in [[1, 1, 8, 1, 1, 0], [1, 1, 8, 4, 4, 2]] {
         let plan = plan(numbers);
         let refined = plan.cells().filter(|cell| cell.level + 1 < plan.levels).collect();
         let tables = Tables::with_refined(plan, &refined);
         let file = round_trip(&tables);
-        assert_eq!(file.len(), MOST_FILE_BYTES);
+        assert_eq!(file.len(), MAX_FILE_BYTES);
         assert_eq!(file[..9], [&file_of(numbers, &[5461])[..], &[0]].concat());
         assert!(file[9..].iter().all(|&byte| byte == 1));
         assert_eq!(tables.write(&file[1..]), Err(10));
 
-        assert_eq!(read(&file[..MOST_FILE_BYTES - 1]).0, 12);
+        assert_eq!(read(&file[..MAX_FILE_BYTES - 1]).0, 12);
         assert_eq!(read(&[&file[..], &[0]].concat()).0, 13);
         // One cell more, of the last level.
         let mut more = [&file_of(numbers, &[5462])[..], &file[8..]].concat();
         assert_eq!(read(&more).0, 12);
         more.push(1);
         assert_eq!(read(&more).0, 4);
-        for place in [9, 10, 100, 5000, MOST_FILE_BYTES - 1] {
+        for place in [9, 10, 100, 5000, MAX_FILE_BYTES - 1] {
             for (byte, number) in [(0, 12), (0x81, 12), (2, 4), (0x7f, 4)] {
                 let mut damaged = file.clone();
                 damaged[place] = byte;

@@ -130,7 +130,7 @@
 //! | cells on all levels together | at most [`MAX_CELLS`] |
 //! | functions of such a plan | at most [`MAX_FUNCTIONS`] |
 //! | marks of a call | any number |
-//! | file of a mesh | at most [`MOST_FILE_BYTES`] |
+//! | file of a mesh | at most [`MAX_FILE_BYTES`] |
 //! | stack of a call | at most [`STACK_BYTES`] |
 
 use std::fmt;
@@ -169,7 +169,7 @@ pub const MAX_CELLS: usize = 21_845;
 pub const MAX_FUNCTIONS: usize = 26_220;
 
 /// The most bytes that the file of a mesh has.
-pub const MOST_FILE_BYTES: usize = 5_469;
+pub const MAX_FILE_BYTES: usize = 5_469;
 
 /// The most stack that any call takes, in bytes: what a thread must have left when it calls. The
 /// library allocates nothing, so whatever it needs beside the tables and lists is there. A thread
@@ -433,9 +433,9 @@ impl Mesh {
         Ok(Mesh { plan, cells, functions })
     }
 
-    /// The file of the mesh, of at most [`MOST_FILE_BYTES`]. Refuses 1 to 6.
+    /// The file of the mesh, of at most [`MAX_FILE_BYTES`]. Refuses 1 to 6.
     pub fn to_file(&self) -> Result<Vec<u8>, Refusal> {
-        let mut file = vec![0; MOST_FILE_BYTES];
+        let mut file = vec![0; MAX_FILE_BYTES];
         let length = write(self.plan, &self.cells, &self.functions, &mut file)?;
         file.truncate(length);
         Ok(file)
@@ -667,7 +667,7 @@ pub fn read(file: &[u8], cells: &mut [u8], functions: &mut [u8]) -> Result<Plan,
     Ok(plan)
 }
 
-/// Writes the file of the mesh to the lent bytes, of which [`MOST_FILE_BYTES`] are always enough,
+/// Writes the file of the mesh to the lent bytes, of which [`MAX_FILE_BYTES`] are always enough,
 /// and answers its length. Bytes past it keep their values. Refuses 1 to 6, then 10.
 ///
 /// ```
@@ -742,7 +742,7 @@ mod tests {
         for (name, number) in [
             ("MAX_CELLS", MAX_CELLS),
             ("MAX_FUNCTIONS", MAX_FUNCTIONS),
-            ("MOST_FILE_BYTES", MOST_FILE_BYTES),
+            ("MAX_FILE_BYTES", MAX_FILE_BYTES),
             ("STACK_BYTES", STACK_BYTES),
         ] {
             assert!(header.contains(&format!("#define WALLMIRROR_{name} {number}\n")), "{name}");
