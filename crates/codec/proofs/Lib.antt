@@ -1,3 +1,4 @@
+pub mod Computed
 pub mod Numbers
 pub mod Lists
 pub mod Groups
