@@ -22,11 +22,11 @@ use Rattle.files.specs.File.{File, badFile, gotFile, encodeFile, fileOf,
 pub data Row : Type 0 where
   -- a number is written as these bytes, and they are read as it
   numbers : ℕ → List ℕ → Row
-  -- so are a plan and listed cells, and a file
+  -- a plan and listed cells are written as this file, and it is read as them
   lists : Plan → List ℕ → List ℕ → Row
-  -- reading these bytes into these tables answers the number and the plan, and leaves the tables behind them
+  -- reading these bytes into these tables answers this number and plan, and leaves the tables given last
   reads : List ℕ → Tables → ℕ → Plan → Tables → Row
-  -- writing the mesh of a plan and tables into these bytes answers the number and the length, and leaves the bytes behind them
+  -- writing the mesh of a plan and tables into these bytes answers this number and length, and leaves the bytes given last
   writes : Plan → Tables → List ℕ → ℕ → ℕ → List ℕ → Row
 
 -- ---- what a row says
@@ -75,8 +75,8 @@ abbrev pub small : Plan
 small = plan 1 1 2 1 1 0
 
 -- the smallest plan with a mesh that is not admissible: T = 42, F = 66
-abbrev pub graded : Plan
-graded = plan 2 1 3 1 1 2
+abbrev pub classTwo : Plan
+classTwo = plan 2 1 3 1 1 2
 
 -- what is lent holds 9s, which no mesh and none of these files has
 abbrev pub nines : ℕ → List ℕ
@@ -98,20 +98,20 @@ afterP3 =
     ++ (1 ∷ 1 ∷ 1 ∷ 1 ∷ 0 ∷ 0 ∷ 0 ∷ []) ++ (1 ∷ 1 ∷ 1 ∷ 1 ∷ 0 ∷ 0 ∷ 0 ∷ []) ++ (1 ∷ 1 ∷ 1 ∷ 1 ∷ 0 ∷ 0 ∷ 0 ∷ []) ++ replicate 65 0)
 
 -- the small plan with cell 0 refined
-abbrev pub split0 : Tables
-split0 = tables (2 ∷ 1 ∷ 1 ∷ 1 ∷ 1 ∷ []) (2 ∷ 2 ∷ 2 ∷ 2 ∷ 1 ∷ 1 ∷ 1 ∷ 1 ∷ 1 ∷ 1 ∷ 1 ∷ 1 ∷ 1 ∷ [])
+abbrev pub oneRefined : Tables
+oneRefined = tables (2 ∷ 1 ∷ 1 ∷ 1 ∷ 1 ∷ []) (2 ∷ 2 ∷ 2 ∷ 2 ∷ 1 ∷ 1 ∷ 1 ∷ 1 ∷ 1 ∷ 1 ∷ 1 ∷ 1 ∷ 1 ∷ [])
 
--- the graded plan with cells 0 and 2 refined: cell 1 is in the neighbourhood of cell 2 and is not
-abbrev pub ungraded : Tables
-ungraded =
+-- the class 2 plan with cells 0 and 2 refined: cell 1 is in the neighbourhood of cell 2 and is not
+abbrev pub inadmissible : Tables
+inadmissible =
     tables
     ((2 ∷ 1 ∷ []) ++ (2 ∷ 1 ∷ 0 ∷ 0 ∷ []) ++ (1 ∷ 1 ∷ 0 ∷ 0 ∷ []) ++ (1 ∷ 1 ∷ []) ++ replicate 6 0 ++ (1 ∷ 1 ∷ []) ++ replicate 22 0)
     ((2 ∷ 1 ∷ 1 ∷ []) ++ (2 ∷ 1 ∷ 1 ∷ []) ++ (2 ∷ 1 ∷ 0 ∷ 0 ∷ 0 ∷ []) ++ (1 ∷ 1 ∷ 0 ∷ 0 ∷ 0 ∷ []) ++ (1 ∷ 1 ∷ 0 ∷ 0 ∷ 0 ∷ [])
     ++ (1 ∷ 1 ∷ []) ++ replicate 7 0 ++ (1 ∷ 1 ∷ []) ++ replicate 34 0)
 
 -- and with cell 1 refined too
-abbrev pub graded012 : Tables
-graded012 =
+abbrev pub admissible : Tables
+admissible =
     tables
     ((2 ∷ 2 ∷ []) ++ (2 ∷ 1 ∷ 1 ∷ 1 ∷ []) ++ (1 ∷ 1 ∷ 1 ∷ 1 ∷ []) ++ (1 ∷ 1 ∷ []) ++ replicate 6 0 ++ (1 ∷ 1 ∷ []) ++ replicate 22 0)
     ((2 ∷ 2 ∷ 2 ∷ []) ++ (2 ∷ 2 ∷ 2 ∷ []) ++ (2 ∷ 1 ∷ 1 ∷ 1 ∷ 1 ∷ []) ++ replicate 10 1
@@ -148,8 +148,8 @@ table =
     -- "Reading rebuilds both tables": W0 fresh, W0 after P3, and meshes of a smaller plan and of one with a class
     ∷ reads (3 ∷ 1 ∷ 3 ∷ 1 ∷ 1 ∷ 0 ∷ 0 ∷ []) (lent 63 94) 0 W0 fresh0
     ∷ reads (3 ∷ 1 ∷ 3 ∷ 1 ∷ 1 ∷ 0 ∷ 2 ∷ 0 ∷ 1 ∷ []) (lent 63 94) 0 W0 afterP3
-    ∷ reads (1 ∷ 1 ∷ 2 ∷ 1 ∷ 1 ∷ 0 ∷ 1 ∷ 0 ∷ []) (lent 5 13) 0 small split0
-    ∷ reads (2 ∷ 1 ∷ 3 ∷ 1 ∷ 1 ∷ 2 ∷ 3 ∷ 0 ∷ 1 ∷ 1 ∷ []) (lent 42 66) 0 graded graded012
+    ∷ reads (1 ∷ 1 ∷ 2 ∷ 1 ∷ 1 ∷ 0 ∷ 1 ∷ 0 ∷ []) (lent 5 13) 0 small oneRefined
+    ∷ reads (2 ∷ 1 ∷ 3 ∷ 1 ∷ 1 ∷ 2 ∷ 3 ∷ 0 ∷ 1 ∷ 1 ∷ []) (lent 42 66) 0 classTwo admissible
     -- 12 "where a number is cut off": no bytes, in the plan, before the count, in the count, in a cell's second and third group,
     -- and a count of more cells than follow
     ∷ unreadable []
@@ -190,7 +190,7 @@ table =
     ∷ refusesRead (3 ∷ 1 ∷ 3 ∷ 1 ∷ 1 ∷ 0 ∷ 0 ∷ []) (lent 0 0) 3 W0
     ∷ refusesRead (1 ∷ 1 ∷ 2 ∷ 1 ∷ 1 ∷ 0 ∷ 1 ∷ 5 ∷ []) (lent 6 13) 3 small
     ∷ refusesRead (1 ∷ 1 ∷ 2 ∷ 1 ∷ 1 ∷ 0 ∷ 0 ∷ 0 ∷ []) (lent 5 12) 3 small
-    -- 4: "also for a listed cell of T or more", alone and behind one that is none
+    -- 4: "also for a listed cell of T or more", alone and behind a cell that may be refined
     ∷ refusesRead (1 ∷ 1 ∷ 2 ∷ 1 ∷ 1 ∷ 0 ∷ 1 ∷ 5 ∷ []) (lent 5 13) 4 small
     ∷ refusesRead (1 ∷ 1 ∷ 2 ∷ 1 ∷ 1 ∷ 0 ∷ 2 ∷ 0 ∷ 5 ∷ []) (lent 5 13) 4 small
     ∷ refusesRead (1 ∷ 1 ∷ 2 ∷ 1 ∷ 1 ∷ 0 ∷ 2 ∷ 0 ∷ 255 ∷ 255 ∷ 127 ∷ []) (lent 5 13) 4 small
@@ -198,24 +198,24 @@ table =
     ∷ refusesRead (3 ∷ 1 ∷ 3 ∷ 1 ∷ 1 ∷ 0 ∷ 1 ∷ 3 ∷ []) (lent 63 94) 4 W0
     ∷ refusesRead (1 ∷ 1 ∷ 2 ∷ 1 ∷ 1 ∷ 0 ∷ 2 ∷ 0 ∷ 1 ∷ []) (lent 5 13) 4 small
     -- before 5 (below), by a cell whose parent is not listed and by T, and before 13
-    ∷ refusesRead (2 ∷ 1 ∷ 3 ∷ 1 ∷ 1 ∷ 2 ∷ 3 ∷ 0 ∷ 2 ∷ 2 ∷ []) (lent 42 66) 4 graded
-    ∷ refusesRead (2 ∷ 1 ∷ 3 ∷ 1 ∷ 1 ∷ 2 ∷ 3 ∷ 0 ∷ 2 ∷ 40 ∷ []) (lent 42 66) 4 graded
+    ∷ refusesRead (2 ∷ 1 ∷ 3 ∷ 1 ∷ 1 ∷ 2 ∷ 3 ∷ 0 ∷ 2 ∷ 2 ∷ []) (lent 42 66) 4 classTwo
+    ∷ refusesRead (2 ∷ 1 ∷ 3 ∷ 1 ∷ 1 ∷ 2 ∷ 3 ∷ 0 ∷ 2 ∷ 40 ∷ []) (lent 42 66) 4 classTwo
     ∷ refusesRead (1 ∷ 1 ∷ 2 ∷ 1 ∷ 1 ∷ 0 ∷ 1 ∷ 5 ∷ 0 ∷ []) (lent 5 13) 4 small
     -- 5: cells 0 and 2; before 13
-    ∷ refusesRead (2 ∷ 1 ∷ 3 ∷ 1 ∷ 1 ∷ 2 ∷ 2 ∷ 0 ∷ 2 ∷ []) (lent 42 66) 5 graded
-    ∷ refusesRead (2 ∷ 1 ∷ 3 ∷ 1 ∷ 1 ∷ 2 ∷ 2 ∷ 0 ∷ 2 ∷ 0 ∷ []) (lent 42 66) 5 graded
+    ∷ refusesRead (2 ∷ 1 ∷ 3 ∷ 1 ∷ 1 ∷ 2 ∷ 2 ∷ 0 ∷ 2 ∷ []) (lent 42 66) 5 classTwo
+    ∷ refusesRead (2 ∷ 1 ∷ 3 ∷ 1 ∷ 1 ∷ 2 ∷ 2 ∷ 0 ∷ 2 ∷ 0 ∷ []) (lent 42 66) 5 classTwo
     -- 13 "where bytes follow the last number": the count, or a cell
     ∷ refusesRead (3 ∷ 1 ∷ 3 ∷ 1 ∷ 1 ∷ 0 ∷ 0 ∷ 0 ∷ []) (lent 63 94) 13 W0
     ∷ refusesRead (1 ∷ 1 ∷ 2 ∷ 1 ∷ 1 ∷ 0 ∷ 1 ∷ 0 ∷ 1 ∷ []) (lent 5 13) 13 small
     -- "Writing answers its length", and keeps the bytes past it
     ∷ writes W0 fresh0 (nines 9) 0 7 (3 ∷ 1 ∷ 3 ∷ 1 ∷ 1 ∷ 0 ∷ 0 ∷ 9 ∷ 9 ∷ [])
     ∷ writes W0 afterP3 (nines 12) 0 9 (3 ∷ 1 ∷ 3 ∷ 1 ∷ 1 ∷ 0 ∷ 2 ∷ 0 ∷ 1 ∷ 9 ∷ 9 ∷ 9 ∷ [])
-    ∷ writes graded graded012 (nines 11) 0 10 (2 ∷ 1 ∷ 3 ∷ 1 ∷ 1 ∷ 2 ∷ 3 ∷ 0 ∷ 1 ∷ 1 ∷ 9 ∷ [])
+    ∷ writes classTwo admissible (nines 11) 0 10 (2 ∷ 1 ∷ 3 ∷ 1 ∷ 1 ∷ 2 ∷ 3 ∷ 0 ∷ 1 ∷ 1 ∷ 9 ∷ [])
     -- just enough bytes; 10 where there is one less, or none
-    ∷ writes small split0 (nines 8) 0 8 (1 ∷ 1 ∷ 2 ∷ 1 ∷ 1 ∷ 0 ∷ 1 ∷ 0 ∷ [])
-    ∷ refusesWrite small split0 (nines 7) 10
+    ∷ writes small oneRefined (nines 8) 0 8 (1 ∷ 1 ∷ 2 ∷ 1 ∷ 1 ∷ 0 ∷ 1 ∷ 0 ∷ [])
+    ∷ refusesWrite small oneRefined (nines 7) 10
     ∷ refusesWrite W0 afterP3 (nines 8) 10
-    ∷ refusesWrite small split0 [] 10
+    ∷ refusesWrite small oneRefined [] 10
     -- "refuses 1 to 6, then 10": no columns; T = 87,296; either table's length; W0 fresh with cell 0 absent; cells 0 and 2; W0 fresh
     -- with function 0 deactivated
     ∷ refusesWrite (plan 0 1 3 1 1 0) (lent 0 0) (nines 9) 1
@@ -223,9 +223,9 @@ table =
     ∷ refusesWrite W0 (tables (drop 1 (fresh0 .cells)) (fresh0 .functions)) (nines 9) 3
     ∷ refusesWrite W0 (tables (fresh0 .cells) (drop 1 (fresh0 .functions))) (nines 9) 3
     ∷ refusesWrite W0 (tables (set (fresh0 .cells) 0 0) (fresh0 .functions)) (nines 9) 4
-    ∷ refusesWrite graded ungraded (nines 9) 5
+    ∷ refusesWrite classTwo inadmissible (nines 9) 5
     ∷ refusesWrite W0 (tables (fresh0 .cells) (set (fresh0 .functions) 0 2)) (nines 9) 6
-    ∷ refusesWrite small (tables (split0 .cells) (set (split0 .functions) 0 1)) [] 6
+    ∷ refusesWrite small (tables (oneRefined .cells) (set (oneRefined .functions) 0 1)) [] 6
     ∷ []
 
 pub worked : T (allHold table)

@@ -86,7 +86,8 @@ coarser p = cellOffset p (p .levels - 1)
 coarser-le : (p : Plan) → coarser p ≤ cellTotal p
 coarser-le p = offset-mono (columnsAt p) (rowsAt p) (p .levels - 1) (p .levels) (omega arith)
 
-listed-coarser : (p : Plan) (S : Cells) → ((c : ℕ) → coarser p ≤ c → c < cellTotal p → S c ≡ false) → listed (cellTotal p) S ≡ listed (coarser p) S
+listed-coarser : (p : Plan) (S : Cells) → ((c : ℕ) → coarser p ≤ c → c < cellTotal p → S c ≡ false)
+    → listed (cellTotal p) S ≡ listed (coarser p) S
 listed-coarser p S h =
     let e : coarser p + (cellTotal p - coarser p) ≡ cellTotal p = omega (arith, coarser-le p) in
     rw e at (listed-above S (coarser p) (cellTotal p - coarser p) (λ c l m. h c l (omega arith)))
