@@ -1,5 +1,7 @@
+pub mod Computed
 pub mod Coding
 pub mod Decoding
+pub mod Longest
 pub mod Meshes
 pub mod Reading
 pub mod Results

@@ -13,10 +13,10 @@ use Rattle.grid.specs.declared.Plan.{Plan}
 use Rattle.grid.specs.Plan.{cellTotal, functionTotal}
 use Rattle.mesh.specs.Mesh.{labels, refusal3, check}
 use Rattle.mesh.proofs.Bridge.{check-good, check-passed, chain}
-use Rattle.files.specs.Bounds.{mostFileBytes}
 use Rattle.files.specs.File.{File, badFile, gotFile, decodeFile, fileOf, rebuilt, readRefusal, noPlan, answeredPlan, ReadOutcome, readFile, readMesh, WriteOutcome, unwritten, writeText, writeMesh}
 use Rattle.files.specs.Demands.{Written, Unwritten, Rebuilt, Refused, Files}
 use Rattle.files.proofs.Coding.{no-file}
+use Rattle.files.proofs.Longest.{file-short}
 use Rattle.files.proofs.Meshes.{same-lengths, file-read, same-table, passes13, unsized, rebuilt-checked, rebuilt-only}
 
 -- ---- writing
@@ -169,15 +169,14 @@ module _ (p : Plan) (cs fs : List ℕ) (e : check p cs fs ≡ 0) where
   unfolding readMesh readFile readRefusal answeredPlan
   sized = rw (file-read p cs fs e, unsized p cs fs e) refl
 
--- ---- all of it, from a bound on the length of a file
+-- ---- all of it
 
-module _ (short : (p : Plan) (cs fs : List ℕ) → check p cs fs ≡ 0 → length (fileOf p cs) ≤ mostFileBytes) where
-  pub files : Files
-  files = record {
-    written = λ p cs fs file. written-of p cs fs file (writeMesh p cs fs file) (wrote p cs fs file);
-    unwritten = λ p cs fs file. unwritten-of p cs fs file (writeMesh p cs fs file) (wrote p cs fs file);
-    rebuilt = λ s cs fs. rebuilt-of s cs fs (readMesh s cs fs) (read s cs fs);
-    refused = λ s cs fs. refused-of s cs fs (readMesh s cs fs) (read s cs fs);
-    kept = λ p cs fs e. record { back = back p cs fs e; sized = sized p cs fs e; short = short p cs fs e };
-    again = λ s cs fs file z h. again s file (readMesh s cs fs) (rebuilt-of s cs fs (readMesh s cs fs) (read s cs fs) z) h;
-  }
+pub files : Files
+files = record {
+  written = λ p cs fs file. written-of p cs fs file (writeMesh p cs fs file) (wrote p cs fs file);
+  unwritten = λ p cs fs file. unwritten-of p cs fs file (writeMesh p cs fs file) (wrote p cs fs file);
+  rebuilt = λ s cs fs. rebuilt-of s cs fs (readMesh s cs fs) (read s cs fs);
+  refused = λ s cs fs. refused-of s cs fs (readMesh s cs fs) (read s cs fs);
+  kept = λ p cs fs e. record { back = back p cs fs e; sized = sized p cs fs e; short = file-short p cs fs e };
+  again = λ s cs fs file z h. again s file (readMesh s cs fs) (rebuilt-of s cs fs (readMesh s cs fs) (read s cs fs) z) h;
+}
