@@ -1,4 +1,4 @@
--- Req 01 worked by hand: numbers, files, and whole calls of reading and writing, as rows of one table under one theorem that the
+-- Req 01 worked by hand: files, and whole calls of reading and writing, as rows of one table under one theorem that the
 -- checker computes. What is expected is written out. Assumes nothing.
 use mathlib.Core.Bool.{Bool, true, false, _&&_}
 use mathlib.Core.List.{List, [], _∷_, _++_}
@@ -14,14 +14,12 @@ use Rattle.mesh.specs.Mesh.{absent, refined, children, cellFits, isMesh, isAdmi
 use Rattle.outcomes.specs.Runs.{Tables}
 use Rattle.outcomes.proofs.Examples.{same, plan, W0, tables}
 use Rattle.codec.specs.Numbers as codec
-use Rattle.codec.specs.Numbers.{Decoded, bad, got, encodeGroups, encodeNumber, decodeGroups, decodeNumber, encodeNumbers, front, onward, decodeNumbers, encodeBehind, encodeRising, decodeBehind, decodeRising}
+use Rattle.codec.specs.Numbers.{encodeGroups, encodeNumber, decodeGroups, decodeNumber, encodeNumbers, front, onward, decodeNumbers, encodeBehind, encodeRising, decodeBehind, decodeRising}
 use Rattle.files.specs.File.{File, badFile, gotFile, encodeFile, fileOf, withCells, withCount, withPlan, decodeFile, rebuilt, refusal13, readRefusal, answeredPlan, ReadOutcome, readFile, readMesh, WriteOutcome, unwritten, writeText, writeMesh}
 
 -- ---- rows
 
 pub data Row : Type 0 where
-  -- a number is written as these bytes, and they are read as it
-  numbers : ℕ → List ℕ → Row
   -- a plan and listed cells are written as this file, and it is read as them
   lists : Plan → List ℕ → List ℕ → Row
   -- reading these bytes into these tables answers this number and plan, and leaves the tables given last
@@ -39,10 +37,6 @@ samePlan p q =
     && (eqb (p .«degree_across») (q .«degree_across») && (eqb (p .«degree_up») (q .«degree_up») && eqb (p .class) (q .class)))))
 
 -- with nothing left behind it
-abbrev pub isNumber : Decoded → ℕ → Bool
-isNumber bad n = false
-isNumber (got m rest) n = eqb m n && same rest []
-
 abbrev pub isFile : File → Plan → List ℕ → Bool
 isFile badFile p cells = false
 isFile (gotFile q listed rest) p cells = samePlan q p && (same listed cells && same rest [])
@@ -54,7 +48,6 @@ abbrev pub isWritten : WriteOutcome → ℕ → ℕ → List ℕ → Bool
 isWritten o n l file = eqb (o .answer .number) n && (eqb (o .answer .length) l && same (o .file) file)
 
 abbrev pub holds : Row → Bool
-holds (numbers n s) = same (encodeNumber n) s && isNumber (decodeNumber s) n
 holds (lists p cells s) = same (encodeFile p cells) s && isFile (decodeFile s) p cells
 holds (reads s t n p u) = isRead (readMesh s (t .cells) (t .functions)) n p u
 holds (writes p t file n l new) = isWritten (writeMesh p (t .cells) (t .functions) file) n l new
@@ -132,17 +125,9 @@ refusesWrite p t file n = writes p t file n 0 file
 
 pub table : List Row
 table =
-    -- "groups of seven bits, lowest group first, the high bit set on all but the last .. at most three groups"
-    numbers 0 (0 ∷ [])
-    ∷ numbers 127 (127 ∷ [])
-    ∷ numbers 128 (128 ∷ 1 ∷ [])
-    ∷ numbers 300 (172 ∷ 2 ∷ [])
-    ∷ numbers 16383 (255 ∷ 127 ∷ [])
-    ∷ numbers 16384 (128 ∷ 128 ∷ 1 ∷ [])
-    ∷ numbers 2097151 (255 ∷ 255 ∷ 127 ∷ [])
     -- "the six plan numbers, the count of split cells, the first split cell if there is one, then each difference from the one
     -- before"; a file lists what it lists, mesh or not
-    ∷ lists (plan 1 2 3 4 5 6) [] (1 ∷ 2 ∷ 3 ∷ 4 ∷ 5 ∷ 6 ∷ 0 ∷ [])
+    lists (plan 1 2 3 4 5 6) [] (1 ∷ 2 ∷ 3 ∷ 4 ∷ 5 ∷ 6 ∷ 0 ∷ [])
     ∷ lists (plan 1 2 3 4 5 6) (7 ∷ 10 ∷ 210 ∷ []) (1 ∷ 2 ∷ 3 ∷ 4 ∷ 5 ∷ 6 ∷ 3 ∷ 7 ∷ 3 ∷ 200 ∷ 1 ∷ [])
     ∷ lists (plan 128 1 1 1 1 0) (16384 ∷ 16385 ∷ []) (128 ∷ 1 ∷ 1 ∷ 1 ∷ 1 ∷ 1 ∷ 0 ∷ 2 ∷ 128 ∷ 128 ∷ 1 ∷ 1 ∷ [])
     -- "Reading rebuilds both tables": W0 fresh, W0 after P3, and meshes of a smaller plan and of one with a class
