@@ -1,7 +1,7 @@
 -- The bytes of the cells that are not refined, made part by part: the refined cells stay the same, and so does what is still to be made.
 -- Assumes nothing.
 use mathlib.Core.Path.{_≡_, refl, sym, ap, _∙_}
-use mathlib.Core.Bool.{Bool, true, false, _||_, cond}
+use mathlib.Core.Bool.{Bool, true, _||_, cond}
 use mathlib.Core.List.{List}
 use Prim.Native.Nat.{ℕ, _+_, _-_, _*_, _≤_, _<_}
 use native.Mathlib.Omega.{arith}
@@ -15,6 +15,7 @@ use Rattle.grid.specs.declared.Plan.{Plan}
 use Rattle.grid.specs.Plan.{ratio, columnsAt, rowsAt, cellOffset, cellTotal, cellLevel, parent}
 use Rattle.grid.specs.Range.{InRange}
 use Rattle.grid.proofs.Levels.{offset-mono}
+use Rattle.mesh.proofs.Bridge.{byte-two}
 use Rattle.mesh.specs.Mesh.{refined, tableOf}
 use Rattle.nesting.specs.Table.{RowUnder}
 use Rattle.nesting.specs.Completed.{byteIn, completed}
@@ -44,22 +45,17 @@ module _ (g : Cells → ℕ → ℕ) (two : (S : Cells) (c : ℕ) → eqb (g S c
       let keeps = ap refined e ∙ (λ i c. refined-filled a m (g (refined ts)) ts (two (refined ts)) c i) in
       f ∙ ((λ i. filled b n (g (keeps i)) (e i)) ∙ filled-more a m b n (g (refined ts)) ts q)
 
-is-two : (s b : Bool) → eqb (cond s 2 (cond b 1 0)) 2 ≡ s
-is-two true b = refl
-is-two false true = refl
-is-two false false = refl
-
 -- one cell more
 pub cells-next : (a i : ℕ) (present : Bool) (ts : List ℕ) {v : ℕ} {xs : List ℕ} → a + i < length xs → xs ≡ filled a i (byteIn (refined ts) present) ts
     → v ≡ cond (eqb (getD xs (a + i) 0) 2) 2 (cond present 1 0) → set xs (a + i) v ≡ filled a (i + 1) (byteIn (refined ts) present) ts
 unfolding byteIn refined
 cells-next a i present ts {v} {xs} l e q =
-    filled-join (λ S. byteIn S present) (λ S c. is-two (S c) present) ts a i (a + i) 1 refl e (filled-set (a + i) v (byteIn (refined xs) present) xs l q)
+    filled-join (λ S. byteIn S present) (λ S c. byte-two (S c) present) ts a i (a + i) 1 refl e (filled-set (a + i) v (byteIn (refined xs) present) xs l q)
 
 module _ (p : Plan) where
   completed-two : (S : Cells) (c : ℕ) → eqb (completed p S c) 2 ≡ S c
   unfolding completed byteIn
-  completed-two S c = is-two (S c) (eqb (cellLevel p c) 0 || S (parent p c))
+  completed-two S c = byte-two (S c) (eqb (cellLevel p c) 0 || S (parent p c))
 
   -- a level's rows, and a row's cells with one parent, w each
   pub rows-next : (ts : List ℕ) (a w row at : ℕ) {n : ℕ} {xs zs : List ℕ} → at ≡ a + row * w → n ≡ w → xs ≡ filled a (row * w) (completed p (refined ts)) ts → zs ≡ filled at n (completed p (refined xs)) xs
