@@ -1,8 +1,8 @@
 -- What the contracts of the parts cite. Definitions only.
 use mathlib.Core.Path.{_≡_}
-use mathlib.Core.Bool.{Bool, not, cond}
+use mathlib.Core.Bool.{Bool, true, not, cond}
 use mathlib.Core.List.{List, []}
-use Prim.Native.Nat.{ℕ, _≤_, _<_}
+use Prim.Native.Nat.{ℕ, _≤_}
 use lib.ListN.{length, getD, drop}
 use Rattle.grid.specs.declared.Plan.{Plan}
 use Rattle.grid.specs.Plan.{cellTotal}
@@ -75,3 +75,8 @@ pub record CellRoom (p : Plan) (cells : List ℕ) : Type 0 where
   pub range : InRange p
   pub small : cellTotal p ≤ mostCells
   pub size : length cells ≡ cellTotal p
+
+-- and its bytes are a mesh
+pub record MeshRoom (p : Plan) (cells : List ℕ) : Type 0 where
+  pub room : CellRoom p cells
+  pub mesh : isMesh p cells ≡ true

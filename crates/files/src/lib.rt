@@ -9,7 +9,7 @@ ghost use Prim.Native.Nat.{_<_};
 ghost use lib.ListN.{length};
 ghost use Rattle.mesh.specs.Mesh.{refusal3};
 ghost use Rattle.files.specs.File.{fileOf, rebuilt, noPlan, answeredPlan, readMesh, writeText, writeMesh};
-ghost use Rattle.files.specs.Steps.{leftByRead, leftByWrite, ReadsPlan, cellsOf, GoodFile, JudgesFile, Clear, tableRefusal, CellRoom};
+ghost use Rattle.files.specs.Steps.{leftByRead, leftByWrite, ReadsPlan, cellsOf, GoodFile, JudgesFile, Clear, tableRefusal, CellRoom, MeshRoom};
 
 // What reading answers: a refusal or 0, and the plan, all zeros with refusals 1, 2 and 12.
 #[repr(C)]
@@ -204,12 +204,15 @@ fn unwritten(number: u32) -> WriteAnswer
     WriteAnswer { number, length: 0 }
 }
 
-// Writing, when the tables are checked: the whole length is known before the first byte is written.
+// Writing, when the tables are checked: the whole length is known before the first byte is written. No cell of the last level is
+// refined, so that level, most of the table, is not read.
 fn write_mesh(plan: Plan, cells: &[u8], file: &mut [u8]) -> WriteAnswer
-    requires { ⌜ CellRoom plan (now cells) ⌝ }
+    requires { ⌜ MeshRoom plan (now cells) ⌝ }
     ensures { λ r. ⌜ leftByWrite r file ≡ writeText (fileOf plan (now (cells .entry))) (now (file .entry)) ⌝ }
 {
-    let listed = listing::measure(cells);
+    let inner = plan.cell_offset(plan.levels - 1) as usize;
+    let coarse = &cells[..inner];
+    let listed = listing::measure(coarse);
     let head = [
         plan.columns,
         plan.rows,
@@ -224,7 +227,7 @@ fn write_mesh(plan: Plan, cells: &[u8], file: &mut [u8]) -> WriteAnswer
         return unwritten(10);
     }
     let at = codec::write_all(&head, file, 0);
-    listing::write_cells(cells, file, at);
+    listing::write_cells(coarse, file, at);
     WriteAnswer {
         number: 0,
         length: length as u32,
