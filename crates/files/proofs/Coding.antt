@@ -2,11 +2,12 @@
 -- gave. Assumes nothing.
 use mathlib.Core.Path.{_≡_, refl, sym, ap, _∙_}
 use mathlib.Core.List.{List, [], _∷_, _++_, append-assoc, append-nil}
-use Prim.Native.Nat.{ℕ, _<_}
+use Prim.Native.Nat.{ℕ, _≤_, _<_}
 use native.Mathlib.Omega.{arith}
 use lib.ListN.{length}
 use Rattle.grid.specs.declared.Plan.{Plan}
-use Rattle.codec.specs.Numbers.{Decoded, bad, got, Many, badMany, gotMany, encodeNumber, encodeNumbers, decodeNumber, decodeNumbers, Small, encodeRising, decodeRising, Rising}
+use Rattle.grid.specs.Range.{InRange}
+use Rattle.codec.specs.Numbers.{Decoded, bad, got, Many, badMany, gotMany, encodeNumber, encodeNumbers, decodeNumber, decodeNumbers, Small, more, encodeRising, decodeRising, Rising}
 use Rattle.codec.proofs.Numbers.{number-round, number-canonical}
 use Rattle.codec.proofs.Lists.{numbers-round, rising-round, numbers-canonical, rising-canonical}
 use Rattle.files.specs.File.{planNumbers, encodeFile, badFile, gotFile, planOf, withCells, withCount, withPlan, decodeFile}
@@ -26,6 +27,15 @@ six (a ∷ b ∷ c ∷ d ∷ []) e = absurd (omega arith)
 six (a ∷ b ∷ c ∷ d ∷ f ∷ []) e = absurd (omega arith)
 six (a ∷ b ∷ c ∷ d ∷ f ∷ g ∷ []) e = refl
 six (a ∷ b ∷ c ∷ d ∷ f ∷ g ∷ h ∷ t) e = absurd (omega arith)
+
+-- the numbers of a plan in range can be written, in front of others
+and-more : (n : ℕ) {ns : List ℕ} → n ≤ 16 → Small ns → Small (n ∷ ns)
+and-more n h s = more {n = n} (omega arith) s
+
+pub plan-small : (p : Plan) → InRange p → {ns : List ℕ} → Small ns → Small (p .columns ∷ p .rows ∷ p .levels ∷ p .«degree_across» ∷ p .«degree_up» ∷ p .class ∷ ns)
+plan-small p r s =
+    and-more (p .columns) (omega arith) (and-more (p .rows) (omega arith) (and-more (p .levels) (omega arith)
+    (and-more (p .«degree_across») (omega arith) (and-more (p .«degree_up») (omega arith) (and-more (p .class) (omega arith) s)))))
 
 -- ---- written, then read
 

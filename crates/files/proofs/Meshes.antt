@@ -2,7 +2,7 @@
 -- lists just the cells that were read. Assumes nothing.
 use mathlib.Core.Path.{_≡_, refl, sym, ap, _∙_, fun-ext}
 use mathlib.Core.List.{List, [], _∷_}
-use Prim.Native.Nat.{ℕ, _≤_, _<_}
+use Prim.Native.Nat.{ℕ, _≤_}
 use native.Mathlib.Omega.{arith}
 use lib.Dec.{T, eqb, eqb→eq, ltb, ltb→lt, lt→ltb}
 use lib.ListN.{length}
@@ -19,12 +19,12 @@ use Rattle.grid.specs.Range.{InRange}
 use Rattle.grid.proofs.Laws.{range-test, cells-some}
 use Rattle.mesh.specs.Mesh.{refined, isMesh, isAdmissible, isLabelled, tableOf, labels, refusal3, refusal6, check}
 use Rattle.mesh.proofs.Bridge.{Good, check-good, good-inside, is-mesh, is-admissible, chain, pass, passed, length-tableOf, length-labels, getD-labels, refined-tableOf}
-use Rattle.codec.specs.Numbers.{Small, none, more}
+use Rattle.codec.specs.Numbers.{none}
 use Rattle.listing.specs.Cells.{refinedBelow}
 use Rattle.listing.proofs.Cells.{refined-rising}
 use Rattle.files.specs.File.{fileOf, encodeFile, gotFile, decodeFile, rebuilt, refusal13, readRefusal}
 use Rattle.files.proofs.Rising.{rises, listed-elem}
-use Rattle.files.proofs.Coding.{Writable, file-whole, file-only, file-rising}
+use Rattle.files.proofs.Coding.{plan-small, Writable, file-whole, file-only, file-rising}
 
 -- ---- refusals 1 to 3
 
@@ -45,9 +45,6 @@ no-tables p r s =
 
 -- ---- a mesh has a file
 
-small-more : (n : ℕ) {ns : List ℕ} → n ≤ 16 → Small ns → Small (n ∷ ns)
-small-more n h s = let w : n < 2097152 = omega arith in more w s
-
 module _ (p : Plan) (cs fs : List ℕ) (e : check p cs fs ≡ 0) where
   good : Good p cs
   good = check-good p cs fs e .0
@@ -62,8 +59,7 @@ module _ (p : Plan) (cs fs : List ℕ) (e : check p cs fs ≡ 0) where
       let G = good in
       let r = G .range in
       record {
-        plan = small-more (p .columns) (omega arith) (small-more (p .rows) (omega arith) (small-more (p .levels) (omega arith)
-            (small-more (p .«degree_across») (omega arith) (small-more (p .«degree_up») (omega arith) (small-more (p .class) (omega arith) none)))));
+        plan = plan-small p (G .range) none;
         few = omega (arith, listed-short (refined cs) (cellTotal p));
         rising = refined-rising cs (cellTotal p) (omega arith) .0;
       }

@@ -30,6 +30,7 @@ use Rattle.listing.specs.Cells.{refinedBelow, refinedBytes, Measures}
 use Rattle.files.specs.declared.WriteAnswer.{WriteAnswer}
 use Rattle.files.specs.File.{planNumbers, encodeFile, fileOf, WriteOutcome, unwritten, writeText, writeMesh}
 use Rattle.files.specs.Steps.{MeshRoom}
+use Rattle.files.proofs.Coding.{plan-small}
 use Rattle.files.proofs.Rising.{rising-same}
 
 -- ---- the cells before the last level: no other is refined in a mesh
@@ -81,9 +82,6 @@ module _ (p : Plan) (cells : List ℕ) (k : MeshRoom p cells) where
 
 -- ---- the parts of a file
 
-and-small : (n k : ℕ) {ns : List ℕ} → n ≤ k → k < 2097152 → Small ns → Small (n ∷ ns)
-and-small n k h j s = more {n = n} (omega arith) s
-
 module _ (p : Plan) (cells part : List ℕ) (k : Part p cells part) (m : Measured) (w : Measures part m) where
   -- the plan and the count
   abbrev pub head : List ℕ
@@ -94,15 +92,7 @@ module _ (p : Plan) (cells part : List ℕ) (k : Part p cells part) (m : Measure
   few-cells = omega (arith, w .count, listed-short (refined part) (length part), k .small)
 
   pub head-small : Small head
-  head-small =
-      let r = k .range in
-      and-small (p .columns) 16 (r .columns≤) (omega arith)
-      (and-small (p .rows) 16 (r .rows≤) (omega arith)
-      (and-small (p .levels) 8 (r .levels≤) (omega arith)
-      (and-small (p .«degree_across») 4 (r .across≤) (omega arith)
-      (and-small (p .«degree_up») 4 (r .up≤) (omega arith)
-      (and-small (p .class) 8 (r .class≤) (omega arith)
-      (and-small (m .count) 21845 few-cells (omega arith) none))))))
+  head-small = plan-small p (k .range) (more {n = m .count} (omega (arith, few-cells)) none)
 
   pub file-parts : encodeNumbers head ++ refinedBytes part (length part) ≡ fileOf p cells
   unfolding fileOf encodeFile refinedBytes encodeNumbers

@@ -1,6 +1,6 @@
 -- Document 02, Req 01, "Walls kept on disk": the file of a mesh ("wall"), what bytes are read as, and reading and writing as functions
 -- of their whole input. Everywhere cs and fs are the lent cell and function table. Definitions only.
-use mathlib.Core.Bool.{Bool, not, _||_, cond}
+use mathlib.Core.Bool.{not, _||_, cond}
 use mathlib.Core.List.{List, [], _∷_, _++_}
 use Prim.Native.Nat.{ℕ}
 use lib.Dec.{ltb, eqb}

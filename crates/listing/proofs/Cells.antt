@@ -1,15 +1,15 @@
 -- The refined cells of a table, one by one: they rise, and each adds the bytes of its difference from the last. Assumes nothing.
 use mathlib.Core.Path.{_≡_, refl, sym, ap, _∙_}
-use mathlib.Core.Bool.{Bool, true, false, cond}
+use mathlib.Core.Bool.{Bool, true, false}
 use mathlib.Core.List.{List, [], _∷_, _++_, append-assoc, append-nil}
-use Prim.Native.Nat.{ℕ, zero, suc, _+_, _-_, _/_, _%_, _<_, _≤_}
+use Prim.Native.Nat.{ℕ, zero, suc, _+_, _-_, _<_, _≤_}
 use native.Mathlib.Numerals.{add-one}
 use native.Mathlib.Omega.{arith}
-use lib.Dec.{eqb, ltb}
+use lib.Dec.{eqb}
 use lib.ListN.{length, getD, length-append}
 use borrow.Author.Tests.{eq-eqb, ne-eqb, eqb-true, eqb-false}
 use Rattle.facts.proofs.Turns.{listed-none, listed-yes, listed-no}
-use Rattle.codec.specs.Numbers.{encodeGroups, encodeNumber, encodeBehind, encodeRising, Behind, last, next, Rising, empty, first}
+use Rattle.codec.specs.Numbers.{encodeNumber, encodeBehind, encodeRising, Behind, last, next, Rising, empty, first}
 use Rattle.facts.specs.Writing.{Writes}
 use Rattle.listing.specs.Judged.{lastOf}
 use Rattle.facts.proofs.Writing.{writes-none, writes-more, writes-length}
