@@ -19,10 +19,10 @@ use Rattle.mesh.proofs.Bridge.{length-tableOf, pass, passed}
 use Rattle.nesting.specs.Table.{MeshTable}
 use Rattle.codec.specs.Numbers.{decodeRising}
 use Rattle.codec.proofs.Lists.{rising-canonical}
-use Rattle.listing.specs.Judged.{lastOf, Markable}
+use Rattle.listing.specs.Judged.{lastOf}
 use Rattle.listing.specs.Cells.{marked, markedBy}
 use Rattle.listing.proofs.Judging.{ends-good, last-all, all-last}
-use Rattle.listing.proofs.Tables.{marked-length, marked-yes, marked-no}
+use Rattle.listing.proofs.Tables.{marked-yes, marked-no}
 use Rattle.files.specs.declared.Heading.{Heading}
 use Rattle.files.specs.declared.ReadAnswer.{ReadAnswer}
 use Rattle.files.specs.File.{badFile, decodeFile, rebuilt, refusal13, readRefusal, noPlan, answeredPlan, ReadOutcome, readFile, readMesh}
@@ -90,9 +90,6 @@ not-early p table whole = go (isMesh p table) (isAdmissible p table) whole
 -- ---- the rebuilt table
 
 module _ (s : List ℕ) (h : Heading) (g : GoodFile s h) where
-  pub markable : (n : ℕ) → h .last < n → Markable s (h .first) (h .count) n
-  markable n l = record { last = h .last; rest = drop (h .end) s; reads = g .cells; below = l }
-
   -- the listed cells, all below t where the last is
   cells-below : (t : ℕ) → h .last < t → T (all (λ c. ltb c t) (cellsOf s h))
   unfolding cellsOf numbersOf
@@ -107,9 +104,6 @@ module _ (s : List ℕ) (h : Heading) (g : GoodFile s h) where
     new-is : new ≡ marked (cellsOf s h) t
     unfolding cellsOf numbersOf markedBy
     new-is = ends-good 0 (h .last) (decodeRising (h .count) (drop (h .first) s)) (drop (h .end) s) (g .cells) (λ cs q _. e ∙ rw q refl)
-
-    pub marked-size : length new ≡ length t
-    marked-size = ap length new-is ∙ marked-length (cellsOf s h) t
 
     refined-is : (c : ℕ) → refined new c ≡ elem c (cellsOf s h)
     unfolding refined

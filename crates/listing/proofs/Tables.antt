@@ -11,11 +11,6 @@ use Rattle.facts.specs.Numbers.{elem}
 use Rattle.facts.proofs.Tests.{or-e, or-l, or-r}
 use Rattle.listing.specs.Cells.{marked}
 
-pub marked-length : (cs t : List ℕ) → length (marked cs t) ≡ length t
-unfolding marked
-marked-length [] t = refl
-marked-length (c ∷ cs) t = marked-length cs (set t c 2) ∙ length-set t c 2
-
 -- a cell that is 2 stays 2
 marked-keeps : (cs t : List ℕ) (x : ℕ) → x < length t → getD t x 0 ≡ 2 → getD (marked cs t) x 0 ≡ 2
 unfolding marked
