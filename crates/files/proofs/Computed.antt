@@ -1,5 +1,6 @@
 -- Req 01 worked by hand: files, and whole calls of reading and writing, as rows of one table under one theorem that the
 -- checker computes. What is expected is written out. Assumes nothing.
+use mathlib.Core.Path.{_≡_, refl}
 use mathlib.Core.Bool.{Bool, true, false, _&&_}
 use mathlib.Core.List.{List, [], _∷_, _++_}
 use Prim.Native.Nat.{ℕ}
@@ -212,6 +213,11 @@ table =
     ∷ refusesWrite W0 (tables (fresh0 .cells) (set (fresh0 .functions) 0 2)) (nines 9) 6
     ∷ refusesWrite small (tables (oneRefined .cells) (set (oneRefined .functions) 0 1)) [] 6
     ∷ []
+
+-- the order of 4, 5 and 13, where all three, the last two or one are due
+pub late : refusal13 classTwo (0 ∷ 2 ∷ 42 ∷ []) (0 ∷ []) ∷ refusal13 classTwo (0 ∷ 2 ∷ []) (0 ∷ []) ∷ refusal13 classTwo (0 ∷ []) (0 ∷ []) ∷ [] ≡ 4 ∷ 5 ∷ 13 ∷ []
+unfolding some every elem all tabulate offset number levelOf placeOn place ratio grown lastLevel above below parent child apart ancestor nearAt near absent refined children cellFits isMesh isAdmissible tableOf rebuilt refusal13
+late = refl
 
 pub worked : T (allHold table)
 unfolding table some every elem all listed tabulate offset number levelOf placeOn place between inRange ratio grown tooLarge lastLevel above below parent child covers supportedAt supported apart ancestor nearAt near absent refined children cellFits isMesh isAdmissible tableOf labelOf labels isLabelled refusal3 refusal6 check codec.above encodeGroups encodeNumber decodeGroups decodeNumber encodeNumbers front onward decodeNumbers encodeBehind encodeRising decodeBehind decodeRising encodeFile fileOf withCells withCount withPlan decodeFile rebuilt refusal13 readRefusal answeredPlan readFile readMesh unwritten writeText writeMesh
