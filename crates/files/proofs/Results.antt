@@ -177,6 +177,9 @@ files = record {
   unwritten = λ p cs fs file. unwritten-of p cs fs file (writeMesh p cs fs file) (wrote p cs fs file);
   rebuilt = λ s cs fs. rebuilt-of s cs fs (readMesh s cs fs) (read s cs fs);
   refused = λ s cs fs. refused-of s cs fs (readMesh s cs fs) (read s cs fs);
+  back = λ p cs fs file z cells functions a b.
+      let w = written-of p cs fs file (writeMesh p cs fs file) (wrote p cs fs file) z in
+      ap (λ (t : List ℕ). readMesh t cells functions) (w .bytes) ∙ back p cs fs (w .checked) cells functions a b;
   kept = λ p cs fs e. record { back = back p cs fs e; sized = sized p cs fs e; short = file-short p cs fs e };
   again = λ s cs fs file z h. again s file (readMesh s cs fs) (rebuilt-of s cs fs (readMesh s cs fs) (read s cs fs) z) h;
 }

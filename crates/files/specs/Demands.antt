@@ -59,6 +59,11 @@ pub record Files : Type 0 where
   pub rebuilt : (s cs fs : List ℕ) → readMesh s cs fs .answer .number ≡ 0 → Rebuilt s (readMesh s cs fs)
   pub refused : (s cs fs : List ℕ) → readMesh s cs fs .answer .number ≢ 0 → Refused s cs fs (readMesh s cs fs)
   pub kept : (p : Plan) (cs fs : List ℕ) → check p cs fs ≡ 0 → Kept p cs fs
+  -- what writing gave, read into any tables of the right lengths
+  pub back : (p : Plan) (cs fs file : List ℕ) → writeMesh p cs fs file .answer .number ≡ 0
+      → (cells functions : List ℕ) → length cells ≡ cellTotal p → length functions ≡ functionTotal p
+      → readMesh (take (writeMesh p cs fs file .answer .length) (writeMesh p cs fs file .file)) cells functions
+      ≡ record { answer = record { number = 0; plan = p }; cells = cs; functions = fs }
   -- what reading accepted, written again: the same bytes, where there is room for them
   pub again : (s cs fs file : List ℕ) → readMesh s cs fs .answer .number ≡ 0 → length s ≤ length file
       → writeMesh (readMesh s cs fs .answer .plan) (readMesh s cs fs .cells) (readMesh s cs fs .functions) file
