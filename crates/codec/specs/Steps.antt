@@ -3,9 +3,11 @@ use mathlib.Core.Path.{_≡_}
 use mathlib.Core.List.{List}
 use Prim.Native.Nat.{ℕ, _≤_, _<_}
 use lib.ListN.{length, drop}
-use Rattle.codec.specs.Numbers.{bad, got, decodeNumber}
+use Rattle.codec.specs.Numbers.{bad, got, decodeNumber, badMany, gotMany, decodeNumbers}
 use Rattle.codec.specs.declared.Step.{Step}
 use Rattle.codec.specs.declared.Step.the-variants.{Number, Bad}
+use Rattle.codec.specs.declared.Reached.{Reached}
+use Rattle.codec.specs.declared.Reached.the-variants.{Place, Nowhere}
 
 -- a number that stands in the bytes s from a place up to another
 pub record Found (s : List ℕ) (at n to : ℕ) : Type 0 where
@@ -18,3 +20,13 @@ pub record Found (s : List ℕ) (at n to : ℕ) : Type 0 where
 abbrev pub ReadsAt : List ℕ → ℕ → Step → Type 0
 ReadsAt s at Bad = decodeNumber (drop at s) ≡ bad
 ReadsAt s at (Number n c) = Found s at n (c .at)
+
+-- numbers that stand in the bytes s from a place up to another
+pub record AllFound (s : List ℕ) (at : ℕ) (ns : List ℕ) (to : ℕ) : Type 0 where
+  pub reads : decodeNumbers (length ns) (drop at s) ≡ gotMany ns (drop to s)
+  pub inside : to ≤ length s
+
+-- what is read at a place of s into a list of that length
+abbrev pub ReadsAll : List ℕ → ℕ → List ℕ → Reached → Type 0
+ReadsAll s at ns Nowhere = decodeNumbers (length ns) (drop at s) ≡ badMany
+ReadsAll s at ns (Place c) = AllFound s at ns (c .at)

@@ -4,7 +4,7 @@ ghost use Prim.Native.Nat.{_+_, _≤_, _<_};
 ghost use lib.ListN.{length};
 ghost use Rattle.facts.specs.Writing.{Writes};
 ghost use Rattle.codec.specs.Numbers.{encodeNumber, encodeNumbers, Small};
-ghost use Rattle.codec.specs.Steps.{ReadsAt};
+ghost use Rattle.codec.specs.Steps.{ReadsAt, ReadsAll};
 
 // A place in the bytes.
 pub struct Cursor {
@@ -15,6 +15,12 @@ pub struct Cursor {
 pub enum Step {
     Number(u32, Cursor),
     Bad,
+}
+
+// The place behind some numbers that were read; or one of them was none.
+pub enum Reached {
+    Place(Cursor),
+    Nowhere,
 }
 
 fn wide(x: u8) -> u32
@@ -62,6 +68,24 @@ pub fn read(s: &[u8], c: Cursor) -> Step
         );
     }
     Step::Bad
+}
+
+// As many numbers as the list has, one behind another from a place on.
+pub fn read_all(s: &[u8], c: Cursor, numbers: &mut [u32]) -> Reached
+    requires { ⌜ c .at ≤ length (now s) ⌝ }
+    ensures { λ r. ⌜ ReadsAll (now (s .entry)) (c .at) (now (numbers .exit)) r ⌝ }
+{
+    let mut at = c.at;
+    let mut i = 0;
+    while i < numbers.len() {
+        let Step::Number(n, next) = read(s, Cursor { at }) else {
+            return Reached::Nowhere;
+        };
+        numbers[i] = n;
+        at = next.at;
+        i += 1;
+    }
+    Reached::Place(Cursor { at })
 }
 
 // How many bytes a number takes.

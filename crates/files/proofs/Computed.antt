@@ -16,7 +16,7 @@ use Rattle.outcomes.specs.Runs.{Tables}
 use Rattle.outcomes.proofs.Examples.{same, plan, W0, tables}
 use Rattle.codec.specs.Numbers as codec
 use Rattle.codec.specs.Numbers.{encodeGroups, encodeNumber, decodeGroups, decodeNumber, encodeNumbers, front, onward, decodeNumbers, encodeBehind, encodeRising, decodeBehind, decodeRising}
-use Rattle.files.specs.File.{File, badFile, gotFile, encodeFile, fileOf, withCells, withCount, withPlan, decodeFile, rebuilt, refusal13, readRefusal, answeredPlan, ReadOutcome, readFile, readMesh, WriteOutcome, unwritten, writeText, writeMesh}
+use Rattle.files.specs.File.{File, badFile, gotFile, encodeFile, fileOf, withCells, withHead, decodeFile, rebuilt, refusal13, readRefusal, answeredPlan, ReadOutcome, readFile, readMesh, WriteOutcome, unwritten, writeText, writeMesh}
 
 -- ---- rows
 
@@ -220,5 +220,5 @@ unfolding some every elem all tabulate offset number levelOf placeOn place ratio
 late = refl
 
 pub worked : T (allHold table)
-unfolding table some every elem all listed tabulate offset number levelOf placeOn place between inRange ratio grown tooLarge lastLevel above below parent child covers supportedAt supported apart ancestor nearAt near absent refined children cellFits isMesh isAdmissible tableOf labelOf labels isLabelled refusal3 refusal6 check codec.above encodeGroups encodeNumber decodeGroups decodeNumber encodeNumbers front onward decodeNumbers encodeBehind encodeRising decodeBehind decodeRising encodeFile fileOf withCells withCount withPlan decodeFile rebuilt refusal13 readRefusal answeredPlan readFile readMesh unwritten writeText writeMesh
+unfolding table some every elem all listed tabulate offset number levelOf placeOn place between inRange ratio grown tooLarge lastLevel above below parent child covers supportedAt supported apart ancestor nearAt near absent refined children cellFits isMesh isAdmissible tableOf labelOf labels isLabelled refusal3 refusal6 check codec.above encodeGroups encodeNumber decodeGroups decodeNumber encodeNumbers front onward decodeNumbers encodeBehind encodeRising decodeBehind decodeRising encodeFile fileOf withCells withHead decodeFile rebuilt refusal13 readRefusal answeredPlan readFile readMesh unwritten writeText writeMesh
 worked = tt

@@ -1,4 +1,5 @@
 pub mod Computed
+pub mod Coarse
 pub mod Coding
 pub mod Decoding
 pub mod Longest

@@ -1,29 +1,27 @@
 -- How long a file can be: no mesh has one of more than 5,469 bytes, and one mesh has as many. Assumes nothing.
-use mathlib.Core.Path.{_≡_, refl, sym, ap, subst, _∙_}
-use mathlib.Core.Bool.{Bool, false}
-use mathlib.Core.List.{List}
+use mathlib.Core.Path.{_≡_, refl, sym, ap, subst}
+use mathlib.Core.List.{List, append-nil}
 use Prim.Native.Nat.{ℕ, zero, suc, _+_, _-_, _*_, _^_, _≤_, _<_}
 use native.Mathlib.Nat.{pow-suc, mul-le-mul}
 use native.Mathlib.Numerals.{add-one}
 use native.Mathlib.Omega.{arith}
-use lib.Dec.{T, eqb→eq, ltb, ltb→lt, lt→ltb, le→leb, lit≤, nltb→le}
+use lib.Dec.{T, eqb→eq, ltb, ltb→lt, lt→ltb, lit≤, nltb→le}
 use lib.ListN.{length, getD, length-append}
 use Rattle.facts.specs.Numbers.{listed}
-use Rattle.facts.proofs.Tests.{cases, T-false}
-use Rattle.facts.proofs.Turns.{listed-no, listed-short}
+use Rattle.facts.proofs.Tests.{cases}
+use Rattle.facts.proofs.Turns.{listed-short}
 use Rattle.hierarchy.specs.Hierarchy.{Cells}
 use Rattle.hierarchy.proofs.Sets.{Inside, MeshSet, Admissible}
 use Rattle.grid.specs.declared.Plan.{Plan}
 use Rattle.grid.specs.Numbering.{offset}
-use Rattle.grid.specs.Plan.{ratio, grown, columnsAt, rowsAt, cellOffset, cellTotal, cellPlace, cellNumber, CellInside, cellLevel, lastLevel, parent, hierarchy}
+use Rattle.grid.specs.Plan.{ratio, grown, columnsAt, rowsAt, cellOffset, cellTotal, cellPlace, cellNumber, CellInside, cellLevel, parent, hierarchy}
 use Rattle.grid.specs.Bounds.{mostCells}
 use Rattle.grid.specs.Range.{InRange}
 use Rattle.grid.proofs.Laws.{cell-inside, cell-number-place, parent-lt, parent-level, near-places}
-use Rattle.grid.proofs.LastLevel.{cell-last}
-use Rattle.grid.proofs.Levels.{offset-mono, level-before, level-from}
+use Rattle.grid.proofs.Levels.{level-before, level-from}
 use Rattle.grid.proofs.Totals.{cells-closed}
 use Rattle.mesh.specs.Mesh.{refined, tableOf, labels, check}
-use Rattle.mesh.proofs.Bridge.{Good, check-good, good-table, good-check, refined-tableOf}
+use Rattle.mesh.proofs.Bridge.{Good, is-mesh, check-good, good-table, good-check, refined-tableOf}
 use Rattle.codec.specs.Numbers.{encodeNumber, encodeNumbers, encodeBehind, encodeRising, Behind, last, next, Rising, empty, first}
 use Rattle.codec.proofs.Numbers.{short}
 use Rattle.codec.proofs.Groups.{bytes-one, bytes-two}
@@ -31,7 +29,8 @@ use Rattle.listing.specs.Judged.{lastOf}
 use Rattle.listing.specs.Cells.{refinedBelow, refinedBytes}
 use Rattle.listing.proofs.Cells.{refined-none, count-yes, bytes-none, bytes-yes, last-yes, refined-rising}
 use Rattle.files.specs.Bounds.{mostFileBytes}
-use Rattle.files.specs.File.{planNumbers, encodeFile, fileOf}
+use Rattle.files.specs.File.{headNumbers, encodeFile, fileOf}
+use Rattle.files.proofs.Coarse.{coarser, listed-coarser}
 
 -- ---- the bytes of a number
 
@@ -71,26 +70,7 @@ cells-short : (table : List ℕ) (n : ℕ) → n ≤ 2097152 → length (refined
 unfolding refinedBytes
 cells-short table n h = let (r, l) = refined-rising table n h in rising-short r l
 
--- ---- no cell of the last level is refined, and three quarters of the cells are of that level
-
-listed-above : (p : ℕ → Bool) (n d : ℕ) → ((c : ℕ) → n ≤ c → c < n + d → p c ≡ false) → listed (n + d) p ≡ listed n p
-listed-above p n zero h = let e : n + 0 ≡ n = omega arith in rw e
-listed-above p n (suc d) h =
-    let e : n + suc d ≡ n + d + 1 = omega arith in
-    rw e (listed-no p (n + d) (h (n + d) (omega arith) (omega arith)) ∙ listed-above p n d (λ c l m. h c l (omega arith)))
-
--- how many cells stand before the last level
-abbrev coarser : Plan → ℕ
-coarser p = cellOffset p (p .levels - 1)
-
-coarser-le : (p : Plan) → coarser p ≤ cellTotal p
-coarser-le p = offset-mono (columnsAt p) (rowsAt p) (p .levels - 1) (p .levels) (omega arith)
-
-listed-coarser : (p : Plan) (S : Cells) → ((c : ℕ) → coarser p ≤ c → c < cellTotal p → S c ≡ false)
-    → listed (cellTotal p) S ≡ listed (coarser p) S
-listed-coarser p S h =
-    let e : coarser p + (cellTotal p - coarser p) ≡ cellTotal p = omega (arith, coarser-le p) in
-    rw e at (listed-above S (coarser p) (cellTotal p - coarser p) (λ c l m. h c l (omega arith)))
+-- ---- three quarters of the cells are of the last level
 
 -- each level has four times the cells of the one before
 fourfold : (p : Plan) (k : ℕ) → cellOffset p (suc k) ≡ 4 * cellOffset p k + p .columns * p .rows
@@ -105,31 +85,28 @@ coarser-small p range small =
     let m : 1 * 1 ≤ p .columns * p .rows = mul-le-mul (range .columns≥) (range .rows≥) in
     omega arith
 
-refined-coarser : (p : Plan) (cs : List ℕ) → Good p cs → (c : ℕ) → coarser p ≤ c → c < cellTotal p → refined cs c ≡ false
-unfolding lastLevel
-refined-coarser p cs G c l m = T-false (refined cs c) (λ r.
-    let k = cell-last p (G .range) c m in
-    absurd (omega (arith, G .mesh .shallow c m r, eqb→eq (cellLevel p c + 1) (p .levels) (subst T (sym k) (le→leb (coarser p) c l)))))
-
 -- ---- the whole file
 
 -- the plan's numbers take a byte each
-plan-bytes : (p : Plan) → InRange p → length (encodeNumbers (planNumbers p)) ≡ 6
+head-bytes : (p : Plan) (count : ℕ) → InRange p → length (encodeNumbers (headNumbers p count)) ≡ 6 + length (encodeNumber count)
 unfolding encodeNumbers
-plan-bytes p range = rw (
+head-bytes p count range = rw (
   bytes-one (p .columns) (omega arith),
   bytes-one (p .rows) (omega arith),
   bytes-one (p .levels) (omega arith),
   bytes-one (p .«degree_across») (omega arith),
   bytes-one (p .«degree_up») (omega arith),
   bytes-one (p .class) (omega arith),
-) refl
+  append-nil (encodeNumber count),
+) (omega arith)
 
 -- where no cell from n on is refined
 file-parts : (p : Plan) (table : List ℕ) (n : ℕ) → InRange p → listed (cellTotal p) (refined table) ≡ listed n (refined table)
     → length (fileOf p table) ≡ 6 + (length (encodeNumber (length (refinedBelow table n))) + length (refinedBytes table n))
 unfolding fileOf encodeFile refinedBelow refinedBytes
-file-parts p table n range e = rw e (simp (length-append, plan-bytes p range))
+file-parts p table n range e =
+    let ls = listed n (refined table) in
+    rw e (omega (arith, length-append (encodeNumbers (headNumbers p (length ls))) (encodeRising ls), head-bytes p (length ls) range))
 
 pub file-short : (p : Plan) (cs fs : List ℕ) → check p cs fs ≡ 0 → length (fileOf p cs) ≤ mostFileBytes
 unfolding refinedBelow
@@ -140,7 +117,7 @@ file-short p cs fs e =
     let k : n ≤ coarser p = listed-short (refined cs) (coarser p) in
     omega (
       arith,
-      file-parts p cs (coarser p) (G .range) (listed-coarser p (refined cs) (refined-coarser p cs G)),
+      file-parts p cs (coarser p) (G .range) (listed-coarser p cs (G .range) (is-mesh p cs G)),
       two-bytes n (omega arith),
       cells-short cs (coarser p) (omega arith),
     )
@@ -242,6 +219,6 @@ longest =
     let n = coarser deepest in
     let two : length (encodeNumber 5461) ≡ 2 = ap length (bytes-two 5461 (lit≤ tt) (lit≤ tt)) in
     let count : length (encodeNumber (length (refinedBelow cs n))) ≡ 2 = rw (all-counted cs n coarse-byte, deepest-coarser) two in
-    let below = listed-coarser deepest (refined cs) (refined-coarser deepest cs deepest-good) in
+    let below = listed-coarser deepest cs deepest-range (is-mesh deepest cs deepest-good) in
     let bytes = file-parts deepest cs n deepest-range below in
     (good-check deepest cs deepest-good, omega (arith, all-bytes cs n coarse-byte, deepest-coarser))

@@ -19,12 +19,11 @@ use Rattle.grid.specs.Range.{InRange}
 use Rattle.grid.proofs.Laws.{range-test, cells-some}
 use Rattle.mesh.specs.Mesh.{refined, isMesh, isAdmissible, isLabelled, tableOf, labels, refusal3, refusal6, check}
 use Rattle.mesh.proofs.Bridge.{Good, check-good, good-inside, is-mesh, is-admissible, chain, pass, passed, length-tableOf, length-labels, getD-labels, refined-tableOf}
-use Rattle.codec.specs.Numbers.{none}
 use Rattle.listing.specs.Cells.{refinedBelow}
 use Rattle.listing.proofs.Cells.{refined-rising}
 use Rattle.files.specs.File.{fileOf, encodeFile, gotFile, decodeFile, rebuilt, refusal13, readRefusal}
 use Rattle.files.proofs.Rising.{rises, listed-elem}
-use Rattle.files.proofs.Coding.{plan-small, Writable, file-whole, file-only, file-rising}
+use Rattle.files.proofs.Coding.{head-small, Writable, file-whole, file-only, file-rising}
 
 -- ---- refusals 1 to 3
 
@@ -57,10 +56,8 @@ module _ (p : Plan) (cs fs : List ℕ) (e : check p cs fs ≡ 0) where
   unfolding refinedBelow
   writable =
       let G = good in
-      let r = G .range in
       record {
-        plan = plan-small p (G .range) none;
-        few = omega (arith, listed-short (refined cs) (cellTotal p));
+        head = head-small p (length cells) (G .range) (omega (arith, listed-short (refined cs) (cellTotal p)));
         rising = refined-rising cs (cellTotal p) (omega arith) .0;
       }
 

@@ -9,20 +9,19 @@ use Rattle.facts.specs.Numbers.{elem, all, listed}
 use Rattle.grid.specs.declared.Plan.{Plan}
 use Rattle.grid.specs.Plan.{cellTotal}
 use Rattle.mesh.specs.Mesh.{refined, isMesh, isAdmissible, tableOf, labels, refusal3, check}
-use Rattle.codec.specs.Numbers.{Decoded, bad, got, Many, badMany, gotMany, encodeNumber, encodeNumbers, encodeRising, decodeNumber, decodeNumbers, decodeRising}
+use Rattle.codec.specs.Numbers.{Many, badMany, gotMany, encodeNumbers, encodeRising, decodeNumbers, decodeRising}
 use Rattle.files.specs.declared.ReadAnswer.{ReadAnswer}
 use Rattle.files.specs.declared.WriteAnswer.{WriteAnswer}
 
 -- ---- the file
 
--- "the six plan numbers"
-abbrev pub planNumbers : Plan → List ℕ
-planNumbers p = p .columns ∷ p .rows ∷ p .levels ∷ p .«degree_across» ∷ p .«degree_up» ∷ p .class ∷ []
+-- the head: "the six plan numbers, the count of split cells"
+abbrev pub headNumbers : Plan → ℕ → List ℕ
+headNumbers p count = p .columns ∷ p .rows ∷ p .levels ∷ p .«degree_across» ∷ p .«degree_up» ∷ p .class ∷ count ∷ []
 
--- "the six plan numbers, the count of split cells, the first split cell if there is one, then each difference from the one before,
--- in rising order"
+-- the head, "the first split cell if there is one, then each difference from the one before, in rising order"
 unfoldable pub encodeFile : Plan → List ℕ → List ℕ
-encodeFile p cells = encodeNumbers (planNumbers p) ++ (encodeNumber (length cells) ++ encodeRising cells)
+encodeFile p cells = encodeNumbers (headNumbers p (length cells)) ++ encodeRising cells
 
 -- the file of the mesh with this cell table
 unfoldable pub fileOf : Plan → List ℕ → List ℕ
@@ -34,7 +33,7 @@ pub data File : Type 0 where
   badFile : File
   gotFile : Plan → List ℕ → List ℕ → File
 
--- six numbers as a plan
+-- the first six numbers of a head
 abbrev pub planOf : List ℕ → Plan
 planOf ns = record {
   columns = getD ns 0 0;
@@ -45,22 +44,18 @@ planOf ns = record {
   class = getD ns 5 0;
 }
 
--- the cells behind the count
+-- the cells behind the head
 unfoldable pub withCells : Plan → Many → File
 withCells p badMany = badFile
 withCells p (gotMany cells s) = gotFile p cells s
 
--- the count behind the plan, and as many cells
-unfoldable pub withCount : Plan → Decoded → File
-withCount p bad = badFile
-withCount p (got n s) = withCells p (decodeRising n s)
-
-unfoldable pub withPlan : Many → File
-withPlan badMany = badFile
-withPlan (gotMany ns s) = withCount (planOf ns) (decodeNumber s)
+-- a head, and as many cells as it counts
+unfoldable pub withHead : Many → File
+withHead badMany = badFile
+withHead (gotMany ns s) = withCells (planOf ns) (decodeRising (getD ns 6 0) s)
 
 unfoldable pub decodeFile : List ℕ → File
-decodeFile s = withPlan (decodeNumbers 6 s)
+decodeFile s = withHead (decodeNumbers 7 s)
 
 -- ---- reading
 

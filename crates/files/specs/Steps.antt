@@ -10,16 +10,14 @@ use Rattle.grid.specs.Bounds.{mostCells}
 use Rattle.grid.specs.Range.{InRange}
 use Rattle.mesh.specs.Mesh.{isMesh, isAdmissible}
 use Rattle.outcomes.specs.Contracts.{Lent}
-use Rattle.codec.specs.Numbers.{Many, badMany, gotMany, decodeNumbers, decodeRising}
+use Rattle.codec.specs.Numbers.{Many, badMany, gotMany, decodeRising}
 use Rattle.listing.specs.Judged.{ends, endsOf}
-use Rattle.files.specs.declared.Planned.{Planned}
-use Rattle.files.specs.declared.Planned.the-variants.{Found, NoPlan}
 use Rattle.files.specs.declared.Heading.{Heading}
 use Rattle.files.specs.declared.Judged.{Judged}
 use Rattle.files.specs.declared.Judged.the-variants.{Good, Refused}
 use Rattle.files.specs.declared.ReadAnswer.{ReadAnswer}
 use Rattle.files.specs.declared.WriteAnswer.{WriteAnswer}
-use Rattle.files.specs.File.{planNumbers, badFile, gotFile, decodeFile, ReadOutcome, WriteOutcome}
+use Rattle.files.specs.File.{badFile, gotFile, decodeFile, ReadOutcome, WriteOutcome}
 
 -- ---- how the contracts of the calls are said: an answer, and what the lent slices hold at exit
 
@@ -30,15 +28,6 @@ abbrev pub leftByWrite : WriteAnswer → Lent → WriteOutcome
 leftByWrite r file = record { answer = r; file = file .exit .now }
 
 -- ---- judging
-
--- a plan that stands at the start of the bytes s
-pub record PlanFound (s : List ℕ) (p : Plan) (to : ℕ) : Type 0 where
-  pub reads : decodeNumbers 6 s ≡ gotMany (planNumbers p) (drop to s)
-  pub inside : to ≤ length s
-
-abbrev pub ReadsPlan : List ℕ → Planned → Type 0
-ReadsPlan s NoPlan = decodeNumbers 6 s ≡ badMany
-ReadsPlan s (Found p c) = PlanFound s p (c .at)
 
 unfoldable pub numbersOf : Many → List ℕ
 numbersOf badMany = []

@@ -1,6 +1,6 @@
 // A mesh and its file: document 02, Req 01. Any bytes, plans and tables are taken; what is refused gets its number and nothing is written.
 use codec::Cursor;
-use codec::Step;
+use codec::Reached;
 use grid::MOST_CELLS;
 use grid::Plan;
 use listing::Listed;
@@ -9,7 +9,7 @@ ghost use Prim.Native.Nat.{_<_};
 ghost use lib.ListN.{length};
 ghost use Rattle.mesh.specs.Mesh.{refusal3};
 ghost use Rattle.files.specs.File.{fileOf, rebuilt, noPlan, answeredPlan, readMesh, writeText, writeMesh};
-ghost use Rattle.files.specs.Steps.{leftByRead, leftByWrite, ReadsPlan, cellsOf, GoodFile, JudgesFile, Clear, tableRefusal, CellRoom, MeshRoom};
+ghost use Rattle.files.specs.Steps.{leftByRead, leftByWrite, cellsOf, GoodFile, JudgesFile, Clear, tableRefusal, CellRoom, MeshRoom};
 
 // What reading answers: a refusal or 0, and the plan, all zeros with refusals 1, 2 and 12.
 #[repr(C)]
@@ -23,11 +23,6 @@ pub struct ReadAnswer {
 pub struct WriteAnswer {
     pub number: u32,
     pub length: u32,
-}
-
-enum Planned {
-    Found(Plan, Cursor),
-    NoPlan,
 }
 
 // A file that can be read: its plan, how many cells it lists, where their numbers begin and end, and the last of them.
@@ -45,52 +40,26 @@ enum Judged {
     Refused,
 }
 
-// The six numbers at the start.
-fn read_plan(s: &[u8]) -> Planned
-    ensures { λ r. ⌜ ReadsPlan (now (s .entry)) r ⌝ }
-{
-    let Step::Number(columns, c1) = codec::read(s, Cursor { at: 0 }) else {
-        return Planned::NoPlan;
-    };
-    let Step::Number(rows, c2) = codec::read(s, c1) else {
-        return Planned::NoPlan;
-    };
-    let Step::Number(levels, c3) = codec::read(s, c2) else {
-        return Planned::NoPlan;
-    };
-    let Step::Number(degree_across, c4) = codec::read(s, c3) else {
-        return Planned::NoPlan;
-    };
-    let Step::Number(degree_up, c5) = codec::read(s, c4) else {
-        return Planned::NoPlan;
-    };
-    let Step::Number(class, c6) = codec::read(s, c5) else {
-        return Planned::NoPlan;
-    };
-    let plan = Plan {
-        columns,
-        rows,
-        levels,
-        degree_across,
-        degree_up,
-        class,
-    };
-    Planned::Found(plan, c6)
-}
-
-// Refusal 12, in one pass over the bytes; what stands behind the last number is left for later.
+// Refusal 12, in one pass over the bytes: the head, and as many cells as it counts. What stands behind the last number is left for later.
 fn judge(s: &[u8]) -> Judged
     ensures { λ r. ⌜ JudgesFile (now (s .entry)) r ⌝ }
 {
-    let Planned::Found(plan, c) = read_plan(s) else {
+    let mut head = [0u32; 7];
+    let Reached::Place(c) = codec::read_all(s, Cursor { at: 0 }, &mut head) else {
         return Judged::Refused;
     };
-    let Step::Number(count, d) = codec::read(s, c) else {
-        return Judged::Refused;
-    };
-    let first = d.at;
+    let first = c.at;
+    let count = head[6];
     let Listed::Cells(e) = listing::read_cells(s, first, count) else {
         return Judged::Refused;
+    };
+    let plan = Plan {
+        columns: head[0],
+        rows: head[1],
+        levels: head[2],
+        degree_across: head[3],
+        degree_up: head[4],
+        class: head[5],
     };
     Judged::Good(Heading {
         plan,

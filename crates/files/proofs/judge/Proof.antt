@@ -1,95 +1,102 @@
--- `judge` meets its contract: the plan, the count, the cells. Assumes nothing.
-use mathlib.Core.Path.{refl}
-use Rattle.codec.proofs.Steps.{found, missing}
+-- `judge` meets its contract: the head, then the cells. Assumes nothing.
+use mathlib.Core.Path.{_≡_, refl}
+use lib.ListN.{length}
+use Rattle.codec.specs.Steps.{AllFound}
+use Rattle.codec.proofs.Steps.{all-found, all-missing}
 use Rattle.listing.proofs.Judging.{cells-found, cells-missing}
-use Rattle.files.proofs.Decoding.{plan-found, plan-missing, file-no-plan, file-no-count, file-no-cells, file-good}
+use Rattle.files.proofs.Decoding.{file-no-head, count-small, file-no-cells, file-good}
 use borrow.Author.Needs.{needs}
 use Rattle.files.proofs.judge.Statement.{statement}
 use Rattle.files.proofs.judge.Tie as tie
 use Rattle.files.proofs.judge.Reads as reads
 use Rattle.files.proofs.judge.Lts as lts
-use Rattle.codec.proofs.read.Reads as read-reads
+use Rattle.codec.proofs.read_all.Reads as read-all-reads
 use Rattle.listing.proofs.read_cells.Reads as read-cells-reads
-use Rattle.files.proofs.read_plan.Reads as read-plan-reads
 
-read-plan-requires : tie.Need-read-plan-requires
-read-plan-requires c κs = search needs
+slice-aggregate-read-all : tie.Need-slice-aggregate-read-all
+slice-aggregate-read-all c = search needs
 
-enum-known-plan : tie.Need-enum-known-plan
-enum-known-plan c = search needs
+read-all-requires : tie.Need-read-all-requires
+read-all-requires c κs = search needs
+
+enum-known-c : tie.Need-enum-known-c
+enum-known-c c = search needs
 
 enum-told : tie.Need-enum-told
 enum-told c = search needs
 
+-- the head has as many numbers as before
+seven : (c : tie.After-read-all) → length (c .read-all .last .1 .1 .0) ≡ 7
+seven c = c .read-all .kept .1 .1 .0
+
+headed : (c : tie.After-c) → AllFound (c .before .before .before .before .before .before .args .s .now) 0 (c .before .before .before .read-all .last .1 .1 .0) (c .c .given .0 .0 .at)
+headed c = let r = c .before .before .before .read-all in all-found _ 0 _ (r .result) (c .c .given .0 .0) (r .ensures) (c .c .given .1)
+
 returns : tie.Need-returns
 returns c =
-    file-no-plan _ (plan-missing _ (c .before .before .read-plan .result) (c .before .before .read-plan .ensures) (c .enum-told .given .1))
+    let s = c .before .before .before .before .before .before .args .s .now in
+    let r = c .before .before .before .read-all in
+    file-no-head s (rw (seven (c .before .before .before)) at (all-missing s 0 _ (r .result) (r .ensures) (c .enum-told .given .1)))
 
-read-requires : tie.Need-read-requires
-read-requires c κs = search needs
+array-read-count : tie.Need-array-read-count
+array-read-count c = search needs
 
-enum-known-count : tie.Need-enum-known-count
-enum-known-count c = search needs
+read-cells-requires : tie.Need-read-cells-requires
+read-cells-requires c κs = let f = headed (c .before) in (f .inside, count-small (seven (c .before .before .before .before)) f)
+
+enum-known-e : tie.Need-enum-known-e
+enum-known-e c = search needs
 
 enum-told-2 : tie.Need-enum-told-2
 enum-told-2 c = search needs
 
 returns-2 : tie.Need-returns-2
 returns-2 c =
-    let s = c .before .before .before .before .before .before .before .before .args .s .now in
-    let v = c .before .before .before .before .plan .given in
-    let p = plan-found s (c .before .before .before .before .before .before .read-plan .result) (v .0 .0) (v .0 .1 .0) (c .before .before .before .before .before .before .read-plan .ensures) (v .1) in
-    file-no-count p (missing s (v .0 .1 .0 .at) (c .before .before .read .result) (c .before .before .read .ensures) (c .enum-told2 .given .1))
+    let h = c .before .before .before .before in
+    file-no-cells (seven (c .before .before .before .before .before .before .before)) (headed h) (cells-missing _ _ _ (c .before .before .read-cells .result) (c .before .before .read-cells .ensures) (c .enum-told2 .given .1))
 
-read-cells-requires : tie.Need-read-cells-requires
-read-cells-requires c κs =
-    let s = c .before .before .before .before .before .before .before .before .before .args .s .now in
-    let v = c .before .before .before .before .before .plan .given in
-    let p = plan-found s (c .before .before .before .before .before .before .before .read-plan .result) (v .0 .0) (v .0 .1 .0) (c .before .before .before .before .before .before .before .read-plan .ensures) (v .1) in
-    let n = c .before .count .given in
-    let f = found s (v .0 .1 .0 .at) (c .before .before .before .read .result) (n .0 .0) (n .0 .1 .0) (c .before .before .before .read .ensures) (n .1) in
-    (f .inside, f .small)
+array-read-t14 : tie.Need-array-read-t14
+array-read-t14 c = search needs
 
-enum-known-e : tie.Need-enum-known-e
-enum-known-e c = search needs
+array-read-t20 : tie.Need-array-read-t20
+array-read-t20 c = search needs
 
-enum-told-3 : tie.Need-enum-told-3
-enum-told-3 c = search needs
+array-read-t23 : tie.Need-array-read-t23
+array-read-t23 c = search needs
+
+array-read-t26 : tie.Need-array-read-t26
+array-read-t26 c = search needs
+
+array-read-t29 : tie.Need-array-read-t29
+array-read-t29 c = search needs
+
+array-read-t32 : tie.Need-array-read-t32
+array-read-t32 c = search needs
 
 returns-3 : tie.Need-returns-3
 returns-3 c =
-    let s = c .before .before .before .before .before .before .before .before .before .before .before .before .args .s .now in
-    let v = c .before .before .before .before .before .before .before .before .plan .given in
-    let p = plan-found s (c .before .before .before .before .before .before .before .before .before .before .read-plan .result) (v .0 .0) (v .0 .1 .0) (c .before .before .before .before .before .before .before .before .before .before .read-plan .ensures) (v .1) in
-    let n = c .before .before .before .before .count .given in
-    let f = found s (v .0 .1 .0 .at) (c .before .before .before .before .before .before .read .result) (n .0 .0) (n .0 .1 .0) (c .before .before .before .before .before .before .read .ensures) (n .1) in
-    file-no-cells p f (cells-missing s (n .0 .1 .0 .at) (n .0 .0) (c .before .before .read-cells .result) (c .before .before .read-cells .ensures) (c .enum-told3 .given .1))
-
-returns-4 : tie.Need-returns-4
-returns-4 c =
-    let s = c .before .before .before .before .before .before .before .before .before .before .before .before .before .args .s .now in
-    let v = c .before .before .before .before .before .before .before .before .before .plan .given in
-    let p = plan-found s (c .before .before .before .before .before .before .before .before .before .before .before .read-plan .result) (v .0 .0) (v .0 .1 .0) (c .before .before .before .before .before .before .before .before .before .before .before .read-plan .ensures) (v .1) in
-    let n = c .before .before .before .before .before .count .given in
-    let f = found s (v .0 .1 .0 .at) (c .before .before .before .before .before .before .before .read .result) (n .0 .0) (n .0 .1 .0) (c .before .before .before .before .before .before .before .read .ensures) (n .1) in
-    let e = c .before .e .given in
-    let g = cells-found s (n .0 .1 .0 .at) (n .0 .0) (c .before .before .before .read-cells .result) (e .0 .0) (c .before .before .before .read-cells .ensures) (e .1) in
-    file-good p f g _ refl
+    let h = c .before .before .before .before .before in
+    let g = cells-found _ _ _ (c .before .before .before .read-cells .result) (c .before .e .given .0 .0) (c .before .before .before .read-cells .ensures) (c .before .e .given .1) in
+    file-good (seven (c .before .before .before .before .before .before .before .before)) (headed h) g _ refl
 
 pub judge-spec : {M : Type 1} → statement M
 judge-spec =
     tie.close
     (tie.spec
-    read-plan-requires
-    enum-known-plan
+    slice-aggregate-read-all
+    read-all-requires
+    enum-known-c
     enum-told
     returns
-    read-requires
-    enum-known-count
-    enum-told-2
-    returns-2
+    array-read-count
     read-cells-requires
     enum-known-e
-    enum-told-3
-    returns-3
-    returns-4)
+    enum-told-2
+    returns-2
+    array-read-t14
+    array-read-t20
+    array-read-t23
+    array-read-t26
+    array-read-t29
+    array-read-t32
+    returns-3)

@@ -6,8 +6,8 @@ use lib.ListN.{length, take}
 use lib.Seq.{length-take-le}
 use Rattle.codec.specs.Numbers.{Small}
 use Rattle.codec.proofs.Lists.{numbers-short}
-use Rattle.files.specs.File.{fileOf}
-use Rattle.files.proofs.Writing.{Part, inner-fits, coarse, head, head-small, file-length, too-few, wrote-parts}
+use Rattle.files.specs.File.{headNumbers, fileOf}
+use Rattle.files.proofs.Writing.{Part, coarser-fits, coarse, small-head, file-length, too-few, wrote-parts}
 use borrow.Author.Needs.{needs}
 use Rattle.files.proofs.write_mesh.Statement.{statement}
 use Rattle.files.proofs.write_mesh.Tie as tie
@@ -32,7 +32,7 @@ cast-inner c = search needs
 slice-aggregate-coarse : tie.Need-slice-aggregate-coarse
 slice-aggregate-coarse c =
     let s = c .before .before .before .before .before in
-    sym (length-take-le (c .before .cell-offset .result) (s .args .cells .now) (omega (arith, inner-fits (s .args .plan) (s .args .cells .now) (s .pre), c .before .cell-offset .ensures)))
+    sym (length-take-le (c .before .cell-offset .result) (s .args .cells .now) (omega (arith, coarser-fits (s .args .plan) (s .args .cells .now) (s .pre), c .before .cell-offset .ensures)))
 
 -- what is read of the table has all refined cells
 part : (c : tie.After-cell-offset) → let a = c .before .before .before .before .args in Part (a .plan) (a .cells .now) (take (c .cell-offset .result) (a .cells .now))
@@ -44,8 +44,8 @@ measure-requires c κs = omega (arith, part (c .before) .small)
 slice-aggregate-size-all : tie.Need-slice-aggregate-size-all
 slice-aggregate-size-all c = search needs
 
-small : (c : tie.After-measure) → let a = c .before .before .before .before .before .before .args in Small (head (a .plan) (a .cells .now) _ (part (c .before .before)) (c .measure .result) (c .measure .ensures))
-small c = let a = c .before .before .before .before .before .before .args in head-small (a .plan) (a .cells .now) _ (part (c .before .before)) (c .measure .result) (c .measure .ensures)
+small : (c : tie.After-measure) → Small (headNumbers (c .before .before .before .before .before .before .args .plan) (c .measure .result .count))
+small c = let a = c .before .before .before .before .before .before .args in small-head (a .plan) (a .cells .now) _ (part (c .before .before)) (c .measure .result) (c .measure .ensures)
 
 size-all-requires : tie.Need-size-all-requires
 size-all-requires c κs = (small (c .before), omega arith)
@@ -63,7 +63,7 @@ few c =
     let m = c .before .before .before .measure in
     omega (
       arith,
-      numbers-short (head (a .plan) (a .cells .now) _ (part (c .before .before .before .before .before)) (m .result) (m .ensures)),
+      numbers-short (headNumbers (a .plan) (m .result .count)),
       c .before .size-all .ensures,
       m .ensures .few,
       part (c .before .before .before .before .before) .small,
