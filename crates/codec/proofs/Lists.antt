@@ -131,11 +131,6 @@ rising-canonical (suc k) s cs rest e =
 
 -- ---- numbers one by one
 
-pub numbers-append : (xs ys : List ℕ) → encodeNumbers (xs ++ ys) ≡ encodeNumbers xs ++ encodeNumbers ys
-unfolding encodeNumbers
-numbers-append [] ys = refl
-numbers-append (x ∷ xs) ys = ap (λ (t : List ℕ). encodeNumber x ++ t) (numbers-append xs ys) ∙ sym (append-assoc (encodeNumber x) (encodeNumbers xs) (encodeNumbers ys))
-
 pub numbers-short : (ns : List ℕ) → length (encodeNumbers ns) ≤ 3 * length ns
 unfolding encodeNumbers
 numbers-short [] = omega arith
