@@ -1,4 +1,4 @@
--- A number read group by group at a place of the bytes, and the bytes of one writtenAt. Assumes nothing.
+-- A number read group by group at a place of the bytes, and the bytes of one written. Assumes nothing.
 use mathlib.Core.Path.{_≡_, refl, ap, _∙_}
 use mathlib.Core.List.{List, [], _∷_, append-assoc}
 use Prim.Native.Nat.{ℕ, zero, suc, _+_, _-_, _*_, _/_, _%_, _<_, _≤_}
@@ -7,6 +7,7 @@ use native.Mathlib.Omega.{arith}
 use lib.ListN.{length, getD, take, drop, set, drop-of-length-le}
 use lib.Seq.{drop-cons, sets, sets-eq}
 use borrow.Author.Tests.{lt-ltb, le-ltb, ne-eqb, eq-eqb}
+use Rattle.codec.specs.Fitting.{numberLimit}
 use Rattle.codec.specs.Numbers.{Decoded, bad, got, above, decodeGroups, decodeNumber, encodeGroups, encodeNumber}
 use Rattle.codec.specs.Steps.{Found}
 use Rattle.facts.specs.Writing.{writtenAt, Writes}
@@ -114,7 +115,7 @@ pub bytes-two : (n : ℕ) → 128 ≤ n → n < 16384 → encodeNumber n ≡ (12
 unfolding encodeNumber encodeGroups
 bytes-two n l h = rw (le-ltb n 128 l, lt-ltb (n / 128) 128 (omega arith)) refl
 
-pub bytes-three : (n : ℕ) → 16384 ≤ n → n < 2097152 → encodeNumber n ≡ (128 + n % 128) ∷ (128 + n / 128 % 128) ∷ (n / 16384) ∷ []
+pub bytes-three : (n : ℕ) → 16384 ≤ n → n < numberLimit → encodeNumber n ≡ (128 + n % 128) ∷ (128 + n / 128 % 128) ∷ (n / 16384) ∷ []
 unfolding encodeNumber encodeGroups
 bytes-three n l h =
     let e : n / 128 / 128 ≡ n / 16384 = omega arith in

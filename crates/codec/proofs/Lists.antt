@@ -1,4 +1,4 @@
--- Lists of numbers and rising lists: read back as writtenAt, and only what is writtenAt so is read. Assumes nothing.
+-- Lists of numbers and rising lists: read back as written, and only what is written so is read. Assumes nothing.
 use mathlib.Core.Path.{_≡_, refl, sym, ap, _∙_}
 use mathlib.Core.Bool.{Bool, true, false, cond}
 use mathlib.Core.List.{List, [], _∷_, _++_, append-assoc}
@@ -9,10 +9,11 @@ use native.Mathlib.Numerals.{add-one}
 use lib.ListN.{length, getD, drop, length-append, drop-of-length-le}
 use lib.Seq.{drop-cons}
 use borrow.Author.Tests.{eqb-false, ne-eqb}
-use Rattle.codec.specs.Numbers.{Decoded, bad, got, Many, badMany, gotMany, encodeNumber, encodeNumbers, decodeNumber, front, onward, decodeNumbers, Small, none, more, encodeBehind, encodeRising, decodeBehind, decodeRising, Behind, last, next, Rising, empty, first}
+use Rattle.codec.specs.Numbers.{Decoded, bad, got, Many, badMany, gotMany, encodeNumber, encodeNumbers, decodeNumber, front, onward, decodeNumbers, encodeBehind, encodeRising, decodeBehind, decodeRising}
+use Rattle.codec.specs.Fitting.{numberLimit, Small, none, more, Behind, last, next, Rising, empty, first}
 use Rattle.codec.proofs.Numbers.{none-many, number-round, number-canonical, short}
 
--- ---- writtenAt, then read
+-- ---- written, then read
 
 pub numbers-round : {ns : List ℕ} (rest : List ℕ) → Small ns → decodeNumbers (length ns) (encodeNumbers ns ++ rest) ≡ gotMany ns rest
 unfolding encodeNumbers decodeNumbers onward front
@@ -34,7 +35,7 @@ rising-round rest empty = refl
 rising-round rest (first {c} {cs} d hs) =
     rw (append-assoc (encodeNumber c) (encodeBehind c cs) rest, number-round c (encodeBehind c cs ++ rest) d, behind-round rest hs) refl
 
--- ---- only what is writtenAt so is read
+-- ---- only what is written so is read
 
 pub record ManyOf (k : ℕ) (s ns rest : List ℕ) : Type 0 where
   pub bytes : s ≡ encodeNumbers ns ++ rest
@@ -60,7 +61,7 @@ front-is n (gotMany ms s) ns rest e f = f ms (cc) (cc)
 
 -- the number that a good reading began with
 onward-is : {C : Type 0} (s : List ℕ) (g : ℕ → List ℕ → Many) (ns rest : List ℕ) → onward (decodeNumber s) g ≡ gotMany ns rest
-    → ((n : ℕ) (r : List ℕ) → s ≡ encodeNumber n ++ r → n < 2097152 → g n r ≡ gotMany ns rest → C) → C
+    → ((n : ℕ) (r : List ℕ) → s ≡ encodeNumber n ++ r → n < numberLimit → g n r ≡ gotMany ns rest → C) → C
 unfolding onward
 onward-is {C} s g ns rest e f = go (decodeNumber s) refl
   where
@@ -84,7 +85,7 @@ numbers-canonical (suc k) s ns rest e =
       count = ap suc (i .count);
     })))
 
-behind-step : (k p d : ℕ) (s cs rest r : List ℕ) → s ≡ encodeNumber d ++ r → d < 2097152 → (z : Bool) → eqb d 0 ≡ z
+behind-step : (k p d : ℕ) (s cs rest r : List ℕ) → s ≡ encodeNumber d ++ r → d < numberLimit → (z : Bool) → eqb d 0 ≡ z
     → cond z badMany (front (p + d) (decodeBehind k (p + d) r)) ≡ gotMany cs rest
     → ((ms : List ℕ) → decodeBehind k (p + d) r ≡ gotMany ms rest → BehindOf k (p + d) r ms rest)
     → BehindOf (suc k) p s cs rest
@@ -96,7 +97,7 @@ behind-step k p d s cs rest r b h false z w ih =
     let n : (d ≡ 0 → ⊥) = eqb-false d 0 z in
     let m : (p + d) - p ≡ d = omega arith in
     let f : p < p + d = omega arith in
-    let g : (p + d) - p < 2097152 = omega arith in
+    let g : (p + d) - p < numberLimit = omega arith in
     rw l (record {
       bytes = rw m (b ∙ ap (λ (x : List ℕ). encodeNumber d ++ x) (i .bytes) ∙ sym (append-assoc (encodeNumber d) (encodeBehind (p + d) ms) rest));
       rises = next f g (i .rises);
@@ -149,7 +150,7 @@ module _ (l : List ℕ) (i : ℕ) where
   unfolding encodeNumbers
   numbers-end h = rw (drop-of-length-le l h) refl
 
-pub small-at : {l : List ℕ} → Small l → (i : ℕ) → i < length l → getD l i 0 < 2097152
+pub small-at : {l : List ℕ} → Small l → (i : ℕ) → i < length l → getD l i 0 < numberLimit
 small-at none i h = absurd (let w : ⊥ = omega arith in w)
 small-at (more n ns) zero h = n
 small-at (more n ns) (suc i) h = small-at ns i (omega arith)

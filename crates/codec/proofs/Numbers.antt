@@ -1,4 +1,4 @@
--- Reading a number gives back what was writtenAt, and only what is writtenAt so is read. Assumes nothing.
+-- Reading a number gives back what was written, and only what is written so is read. Assumes nothing.
 use mathlib.Core.Path.{_≡_, refl, ap}
 use mathlib.Core.Bool.{Bool, true, false, cond}
 use mathlib.Core.List.{List, [], _∷_, _++_}
@@ -7,7 +7,13 @@ use native.Mathlib.Omega.{arith}
 use lib.Dec.{ltb, eqb}
 use lib.ListN.{length}
 use borrow.Author.Tests.{ltb-true, ltb-false, eqb-false, lt-ltb, le-ltb, ne-eqb}
-use Rattle.codec.specs.Numbers.{limit, Decoded, bad, got, badMany, gotMany, encodeGroups, encodeNumber, above, decodeGroups, decodeNumber}
+use Rattle.codec.specs.Fitting.{numberLimit}
+use Rattle.codec.specs.Numbers.{Decoded, bad, got, badMany, gotMany, encodeGroups, encodeNumber, above, decodeGroups, decodeNumber}
+
+-- the numbers of at most k groups are those below `limit k`
+unfoldable limit : ℕ → ℕ
+limit zero = 1
+limit (suc k) = 128 * limit k
 
 -- two readings that cannot be the same
 pub bad-got : {C : Type 0} {n : ℕ} {s : List ℕ} → bad ≡ got n s → C
@@ -21,7 +27,7 @@ unfolding limit
 limit-pos zero = omega arith
 limit-pos (suc k) = omega (arith, limit-pos k)
 
--- ---- writtenAt, then read
+-- ---- written, then read
 
 groups-round : (k n : ℕ) (rest : List ℕ) → n < limit (suc k) → decodeGroups (suc k) (encodeGroups (suc k) n ++ rest) ≡ got n rest
 unfolding limit encodeGroups decodeGroups above
@@ -37,13 +43,13 @@ groups-round (suc k) n rest h = go (ltb n 128) refl (groups-round k (n / 128) re
         rw (t, le-ltb (128 + n % 128) 128 (omega arith), lt-ltb (128 + n % 128) 256 (omega arith), i, ne-eqb (n / 128) 0 m)
         (ap (λ (x : ℕ). got x rest) (omega arith))
 
-pub number-round : (n : ℕ) (rest : List ℕ) → n < 2097152 → decodeNumber (encodeNumber n ++ rest) ≡ got n rest
+pub number-round : (n : ℕ) (rest : List ℕ) → n < numberLimit → decodeNumber (encodeNumber n ++ rest) ≡ got n rest
 unfolding limit encodeNumber decodeNumber
 number-round n rest h = groups-round 2 n rest h
 
--- ---- only what is writtenAt so is read
+-- ---- only what is written so is read
 
-pub record Canonical (k : ℕ) (s : List ℕ) (n : ℕ) (rest : List ℕ) : Type 0 where
+record Canonical (k : ℕ) (s : List ℕ) (n : ℕ) (rest : List ℕ) : Type 0 where
   pub bytes : s ≡ encodeGroups k n ++ rest
   pub small : n < limit k
 
@@ -86,7 +92,7 @@ groups-canonical (suc k) (b ∷ s) n rest e = go (ltb b 128) refl (ltb b 256) re
     go false t false v ih = bad-got (rw (t, v) at e)
     go false t true v ih = groups-more k b s n rest t v (decodeGroups k s) refl ih (rw (t, v) at e)
 
-pub number-canonical : {n : ℕ} {rest : List ℕ} (s : List ℕ) → decodeNumber s ≡ got n rest → (s ≡ encodeNumber n ++ rest) × (n < 2097152)
+pub number-canonical : {n : ℕ} {rest : List ℕ} (s : List ℕ) → decodeNumber s ≡ got n rest → (s ≡ encodeNumber n ++ rest) × (n < numberLimit)
 unfolding limit encodeNumber decodeNumber
 number-canonical {n} {rest} s e = let c = groups-canonical 3 s n rest e in (c .bytes, c .small)
 

@@ -1,18 +1,14 @@
--- A number as groups of seven bits, lowest first, the high bit on all but the last, in the shortest form and at most three groups.
--- Assumes nothing: these are definitions.
+-- Document 02, Req 01: "Each number is written in groups of seven bits, lowest group first, the high bit set on all but the last, in the
+-- shortest form and at most three groups". A number, a list of numbers, and a rising list as its first number and differences, as bytes
+-- and back. Definitions only.
 use mathlib.Core.Bool.{cond}
 use mathlib.Core.List.{List, [], _∷_, _++_}
-use Prim.Native.Nat.{ℕ, zero, suc, _+_, _-_, _*_, _/_, _%_, _<_}
+use Prim.Native.Nat.{ℕ, zero, suc, _+_, _-_, _*_, _/_, _%_}
 use lib.Dec.{ltb, eqb}
 
 -- ---- one number
 
--- the numbers of at most k groups are those below `limit k`
-unfoldable pub limit : ℕ → ℕ
-limit zero = 1
-limit (suc k) = 128 * limit k
-
--- at most k groups
+-- "the high bit set on all but the last": a number in at most k groups
 unfoldable pub encodeGroups : ℕ → ℕ → List ℕ
 encodeGroups zero n = []
 encodeGroups (suc k) n = cond (ltb n 128) (n ∷ []) ((128 + n % 128) ∷ encodeGroups k (n / 128))
@@ -30,7 +26,7 @@ unfoldable pub above : ℕ → Decoded → Decoded
 above low bad = bad
 above low (got n s) = cond (eqb n 0) bad (got (low + 128 * n) s)
 
--- at most k groups; what is no byte is bad
+-- a number in at most k groups; what is no byte is bad
 unfoldable pub decodeGroups : ℕ → List ℕ → Decoded
 decodeGroups zero s = bad
 decodeGroups (suc k) [] = bad
@@ -65,14 +61,9 @@ unfoldable pub decodeNumbers : ℕ → List ℕ → Many
 decodeNumbers zero s = gotMany [] s
 decodeNumbers (suc k) s = onward (decodeNumber s) (λ n r. front n (decodeNumbers k r))
 
--- every one fits three groups
-pub data Small : List ℕ → Type 0 where
-  none : Small []
-  more : {n : ℕ} {ns : List ℕ} → n < 2097152 → Small ns → Small (n ∷ ns)
-
 -- ---- a rising list as its first and the differences
 
--- those behind p, as differences
+-- "each difference from the one before": those behind p
 unfoldable pub encodeBehind : ℕ → List ℕ → List ℕ
 encodeBehind p [] = []
 encodeBehind p (c ∷ cs) = encodeNumber (c - p) ++ encodeBehind c cs
@@ -81,21 +72,12 @@ unfoldable pub encodeRising : List ℕ → List ℕ
 encodeRising [] = []
 encodeRising (c ∷ cs) = encodeNumber c ++ encodeBehind c cs
 
--- k differences; 0 is bad
+-- k differences behind p; "a zero difference" is bad
 unfoldable pub decodeBehind : ℕ → ℕ → List ℕ → Many
 decodeBehind zero p s = gotMany [] s
 decodeBehind (suc k) p s = onward (decodeNumber s) (λ d r. cond (eqb d 0) badMany (front (p + d) (decodeBehind k (p + d) r)))
 
--- k numbers, the first one plain
+-- k numbers in rising order
 unfoldable pub decodeRising : ℕ → List ℕ → Many
 decodeRising zero s = gotMany [] s
 decodeRising (suc k) s = onward (decodeNumber s) (λ c r. front c (decodeBehind k c r))
-
--- each is above the one before, by what fits three groups
-pub data Behind : ℕ → List ℕ → Type 0 where
-  last : {p : ℕ} → Behind p []
-  next : {p c : ℕ} {cs : List ℕ} → p < c → c - p < 2097152 → Behind c cs → Behind p (c ∷ cs)
-
-pub data Rising : List ℕ → Type 0 where
-  empty : Rising []
-  first : {c : ℕ} {cs : List ℕ} → c < 2097152 → Behind c cs → Rising (c ∷ cs)

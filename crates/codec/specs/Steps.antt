@@ -3,6 +3,7 @@ use mathlib.Core.Path.{_≡_}
 use mathlib.Core.List.{List}
 use Prim.Native.Nat.{ℕ, _≤_, _<_}
 use lib.ListN.{length, drop}
+use Rattle.codec.specs.Fitting.{numberLimit}
 use Rattle.codec.specs.Numbers.{bad, got, decodeNumber, badMany, gotMany, decodeNumbers}
 use Rattle.codec.specs.declared.Step.{Step}
 use Rattle.codec.specs.declared.Step.the-variants.{Number, Bad}
@@ -14,7 +15,7 @@ pub record Found (s : List ℕ) (at n to : ℕ) : Type 0 where
   pub reads : decodeNumber (drop at s) ≡ got n (drop to s)
   pub forward : at < to
   pub inside : to ≤ length s
-  pub small : n < 2097152
+  pub small : n < numberLimit
 
 -- what is read at a place of s
 abbrev pub ReadsAt : List ℕ → ℕ → Step → Type 0

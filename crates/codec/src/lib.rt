@@ -3,7 +3,8 @@ ghost use mathlib.Core.Path.{_≡_};
 ghost use Prim.Native.Nat.{_+_, _≤_, _<_};
 ghost use lib.ListN.{length};
 ghost use Rattle.facts.specs.Writing.{Writes};
-ghost use Rattle.codec.specs.Numbers.{encodeNumber, encodeNumbers, Small};
+ghost use Rattle.codec.specs.Numbers.{encodeNumber, encodeNumbers};
+ghost use Rattle.codec.specs.Fitting.{numberLimit, Small};
 ghost use Rattle.codec.specs.Steps.{ReadsAt, ReadsAll};
 
 // A place in the bytes.
@@ -90,7 +91,7 @@ pub fn read_all(s: &[u8], c: Cursor, numbers: &mut [u32]) -> Reached
 
 // How many bytes a number takes.
 pub fn size(n: u32) -> usize
-    requires { ⌜ n < 2097152 ⌝ }
+    requires { ⌜ n < numberLimit ⌝ }
     ensures { λ r. ⌜ r ≡ length (encodeNumber n) ⌝ }
 {
     if n < 128 {
@@ -102,7 +103,7 @@ pub fn size(n: u32) -> usize
 
 // A number put at a place; the place behind it.
 pub fn write(out: &mut [u8], at: usize, n: u32) -> usize
-    requires { ⌜ n < 2097152 ⌝ }
+    requires { ⌜ n < numberLimit ⌝ }
     requires { ⌜ at + length (encodeNumber n) ≤ length (now out) ⌝ }
     ensures { λ r. ⌜ Writes (now (out .entry)) at (encodeNumber n) r (now (out .exit)) ⌝ }
 {
@@ -124,7 +125,7 @@ pub fn write(out: &mut [u8], at: usize, n: u32) -> usize
 // How many bytes some numbers take.
 pub fn size_all(numbers: &[u32]) -> usize
     requires { ⌜ Small (now numbers) ⌝ }
-    requires { ⌜ length (now numbers) ≤ 2097152 ⌝ }
+    requires { ⌜ length (now numbers) ≤ numberLimit ⌝ }
     ensures { λ r. ⌜ r ≡ length (encodeNumbers (now (numbers .entry))) ⌝ }
 {
     let mut bytes: usize = 0;

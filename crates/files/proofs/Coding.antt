@@ -7,7 +7,8 @@ use native.Mathlib.Omega.{arith}
 use lib.ListN.{length, getD}
 use Rattle.grid.specs.declared.Plan.{Plan}
 use Rattle.grid.specs.Range.{InRange}
-use Rattle.codec.specs.Numbers.{Many, badMany, gotMany, encodeNumbers, decodeNumbers, Small, none, more, encodeRising, decodeRising, Rising}
+use Rattle.codec.specs.Numbers.{Many, badMany, gotMany, encodeNumbers, decodeNumbers, encodeRising, decodeRising}
+use Rattle.codec.specs.Fitting.{numberLimit, Small, none, more, Rising}
 use Rattle.codec.proofs.Lists.{numbers-round, rising-round, numbers-canonical, rising-canonical}
 use Rattle.files.specs.File.{headNumbers, encodeFile, badFile, gotFile, planOf, withCells, withHead, decodeFile}
 
@@ -32,7 +33,7 @@ seven (a ∷ b ∷ c ∷ d ∷ f ∷ g ∷ h ∷ i ∷ t) e = absurd (omega arit
 and-more : (n : ℕ) {ns : List ℕ} → n ≤ 16 → Small ns → Small (n ∷ ns)
 and-more n h s = more {n = n} (omega arith) s
 
-pub head-small : (p : Plan) (count : ℕ) → InRange p → count < 2097152 → Small (headNumbers p count)
+pub head-small : (p : Plan) (count : ℕ) → InRange p → count < numberLimit → Small (headNumbers p count)
 head-small p count r h =
     and-more (p .columns) (omega arith) (and-more (p .rows) (omega arith) (and-more (p .levels) (omega arith)
     (and-more (p .«degree_across») (omega arith) (and-more (p .«degree_up») (omega arith) (and-more (p .class) (omega arith) (more h none))))))

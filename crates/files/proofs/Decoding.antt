@@ -4,6 +4,7 @@ use mathlib.Core.List.{List}
 use Prim.Native.Nat.{ℕ, _<_}
 use native.Mathlib.Omega.{arith}
 use lib.ListN.{length, getD, drop}
+use Rattle.codec.specs.Fitting.{numberLimit}
 use Rattle.codec.specs.Numbers.{badMany, gotMany, decodeNumbers, decodeRising}
 use Rattle.codec.specs.Steps.{AllFound}
 use Rattle.codec.proofs.Lists.{numbers-canonical, small-at}
@@ -24,7 +25,7 @@ module _ {s ns : List ℕ} {to : ℕ} (seven : length ns ≡ 7) (f : AllFound s 
   head-reads : decodeNumbers 7 s ≡ gotMany ns (drop to s)
   head-reads = rw seven at (f .reads)
 
-  pub count-small : getD ns 6 0 < 2097152
+  pub count-small : getD ns 6 0 < numberLimit
   count-small = small-at (numbers-canonical 7 s ns (drop to s) head-reads .small) 6 (omega arith)
 
   file-cells : decodeFile s ≡ withCells (planOf ns) (decodeRising (getD ns 6 0) (drop to s))

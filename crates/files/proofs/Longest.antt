@@ -22,7 +22,8 @@ use Rattle.grid.proofs.Levels.{level-before, level-from}
 use Rattle.grid.proofs.Totals.{cells-closed}
 use Rattle.mesh.specs.Mesh.{refined, tableOf, labels, check}
 use Rattle.mesh.proofs.Bridge.{Good, is-mesh, check-good, good-table, good-check, refined-tableOf}
-use Rattle.codec.specs.Numbers.{encodeNumber, encodeNumbers, encodeBehind, encodeRising, Behind, last, next, Rising, empty, first}
+use Rattle.codec.specs.Numbers.{encodeNumber, encodeNumbers, encodeBehind, encodeRising}
+use Rattle.codec.specs.Fitting.{numberLimit, Behind, last, next, Rising, empty, first}
 use Rattle.codec.proofs.Numbers.{short}
 use Rattle.codec.proofs.Groups.{bytes-one, bytes-two}
 use Rattle.listing.specs.Judged.{lastOf}
@@ -66,7 +67,7 @@ rising-short empty h = omega arith
 rising-short (first {c} {cs} d hs) h =
     omega (arith, length-append (encodeNumber c) (encodeBehind c cs), number-short c, behind-short hs, h (λ e. omega arith))
 
-cells-short : (table : List ℕ) (n : ℕ) → n ≤ 2097152 → length (refinedBytes table n) ≤ n
+cells-short : (table : List ℕ) (n : ℕ) → n ≤ numberLimit → length (refinedBytes table n) ≤ n
 unfolding refinedBytes
 cells-short table n h = let (r, l) = refined-rising table n h in rising-short r l
 

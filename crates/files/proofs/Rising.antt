@@ -7,7 +7,7 @@ use lib.Dec.{T, eqb, eqb→eq, eqb-refl, ltb, ltb→lt, lt→ltb}
 use Rattle.facts.specs.Numbers.{elem, all, listed, rising}
 use Rattle.facts.proofs.Tests.{and-i, and-l, and-r, or-l, or-r, or-e}
 use Rattle.facts.proofs.Numbers.{all-e, all-i, listed→, →listed, listed-rising}
-use Rattle.codec.specs.Numbers.{Behind, last, next, Rising, empty, first}
+use Rattle.codec.specs.Fitting.{Behind, last, next, Rising, empty, first}
 
 -- ---- two rising lists with the same numbers
 

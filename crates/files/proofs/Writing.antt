@@ -21,7 +21,8 @@ use Rattle.grid.specs.Range.{InRange}
 use Rattle.grid.specs.Bounds.{mostCells}
 use Rattle.mesh.specs.Mesh.{refined, isMesh, check}
 use Rattle.mesh.proofs.Bridge.{check-good, is-mesh}
-use Rattle.codec.specs.Numbers.{encodeNumbers, Small}
+use Rattle.codec.specs.Numbers.{encodeNumbers}
+use Rattle.codec.specs.Fitting.{Small}
 use Rattle.listing.specs.declared.Measured.{Measured}
 use Rattle.listing.specs.Cells.{refinedBelow, refinedBytes, Measures}
 use Rattle.files.specs.declared.WriteAnswer.{WriteAnswer}

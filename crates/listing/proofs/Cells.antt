@@ -9,7 +9,8 @@ use lib.Dec.{eqb}
 use lib.ListN.{length, getD, length-append}
 use borrow.Author.Tests.{eq-eqb, ne-eqb, eqb-true, eqb-false}
 use Rattle.facts.proofs.Turns.{listed-none, listed-yes, listed-no}
-use Rattle.codec.specs.Numbers.{encodeNumber, encodeBehind, encodeRising, Behind, last, next, Rising, empty, first}
+use Rattle.codec.specs.Numbers.{encodeNumber, encodeBehind, encodeRising}
+use Rattle.codec.specs.Fitting.{numberLimit, Behind, last, next, Rising, empty, first}
 use Rattle.facts.specs.Writing.{Writes}
 use Rattle.listing.specs.Judged.{lastOf}
 use Rattle.facts.proofs.Writing.{writes-none, writes-more, writes-length}
@@ -33,12 +34,12 @@ unfolding lastOf encodeRising encodeBehind
 rising-snoc [] x = let e : x - 0 ≡ x = omega arith in rw e (append-nil _)
 rising-snoc (c ∷ cs) x = ap (λ (t : List ℕ). encodeNumber c ++ t) (behind-snoc c cs x) ∙ sym (append-assoc (encodeNumber c) _ _)
 
-behind-more : {p : ℕ} {cs : List ℕ} (x : ℕ) → Behind p cs → lastOf p cs < x → x < 2097152 → Behind p (cs ++ (x ∷ []))
+behind-more : {p : ℕ} {cs : List ℕ} (x : ℕ) → Behind p cs → lastOf p cs < x → x < numberLimit → Behind p (cs ++ (x ∷ []))
 unfolding lastOf
 behind-more x last h b = next h (omega arith) last
 behind-more x (next l d hs) h b = next l d (behind-more x hs h b)
 
-rising-more : {cs : List ℕ} (x : ℕ) → Rising cs → ((length cs ≡ 0 → ⊥) → lastOf 0 cs < x) → x < 2097152 → Rising (cs ++ (x ∷ []))
+rising-more : {cs : List ℕ} (x : ℕ) → Rising cs → ((length cs ≡ 0 → ⊥) → lastOf 0 cs < x) → x < numberLimit → Rising (cs ++ (x ∷ []))
 unfolding lastOf
 rising-more x empty h b = first b last
 rising-more x (first d hs) h b = first d (behind-more x hs (h (λ e. omega arith)) b)
@@ -96,7 +97,7 @@ module _ (table : List ℕ) where
   grown i (suc d) = let e : i + suc d ≡ i + d + 1 = omega arith in rw e (omega (arith, grow (i + d), grown i d))
 
   -- they rise
-  pub refined-rising : (n : ℕ) → n ≤ 2097152 → Rising (refinedBelow table n) × ((length (refinedBelow table n) ≡ 0 → ⊥) → lastOf 0 (refinedBelow table n) < n)
+  pub refined-rising : (n : ℕ) → n ≤ numberLimit → Rising (refinedBelow table n) × ((length (refinedBelow table n) ≡ 0 → ⊥) → lastOf 0 (refinedBelow table n) < n)
   refined-rising zero h = rw refined-none (empty, λ z. absurd (z refl))
   refined-rising (suc i) h = go (eqb (getD table i 0) 2) refl (refined-rising i (omega arith))
     where

@@ -9,7 +9,8 @@ use Rattle.facts.specs.Numbers.{all}
 use Rattle.facts.proofs.Tests.{and-i, and-l, and-r}
 use lib.ListN.{length, drop}
 use borrow.Author.Tests.{ne-eqb, eq-eqb}
-use Rattle.codec.specs.Numbers.{Decoded, bad, got, Many, badMany, gotMany, decodeNumber, decodeBehind, decodeRising, front, onward, Behind, last, next, Rising, empty, first}
+use Rattle.codec.specs.Numbers.{Decoded, bad, got, Many, badMany, gotMany, decodeNumber, decodeBehind, decodeRising, front, onward}
+use Rattle.codec.specs.Fitting.{Behind, last, next, Rising, empty, first}
 use Rattle.listing.specs.declared.Listed.{Listed}
 use Rattle.listing.specs.declared.Listed.the-variants.{Cells, NoCells}
 use Rattle.listing.specs.declared.End.{End}

@@ -4,6 +4,7 @@ use codec::Step;
 ghost use mathlib.Core.Path.{_≡_};
 ghost use Prim.Native.Nat.{_+_, _≤_, _<_};
 ghost use lib.ListN.{length, drop};
+ghost use Rattle.codec.specs.Fitting.{numberLimit};
 ghost use Rattle.facts.specs.Writing.{Writes};
 ghost use Rattle.codec.specs.Numbers.{decodeRising};
 ghost use Rattle.listing.specs.Judged.{ReadsCells, Markable};
@@ -30,7 +31,7 @@ pub struct Measured {
 // So many cells at a place: the first, then differences that are not 0.
 pub fn read_cells(s: &[u8], from: usize, count: u32) -> Listed
     requires { ⌜ from ≤ length (now s) ⌝ }
-    requires { ⌜ count < 2097152 ⌝ }
+    requires { ⌜ count < numberLimit ⌝ }
     ensures { λ r. ⌜ ReadsCells (now (s .entry)) from count r ⌝ }
 {
     if count == 0 {
@@ -84,7 +85,7 @@ pub fn mark_cells(s: &[u8], first: usize, count: u32, table: &mut [u8])
 
 // The refined cells of a table, counted and measured.
 pub fn measure(table: &[u8]) -> Measured
-    requires { ⌜ length (now table) ≤ 2097152 ⌝ }
+    requires { ⌜ length (now table) ≤ numberLimit ⌝ }
     ensures { λ r. ⌜ Measures (now (table .entry)) r ⌝ }
 {
     let mut count: u32 = 0;
@@ -104,7 +105,7 @@ pub fn measure(table: &[u8]) -> Measured
 
 // The refined cells of a table put at a place; the place behind them.
 pub fn write_cells(table: &[u8], out: &mut [u8], from: usize) -> usize
-    requires { ⌜ length (now table) ≤ 2097152 ⌝ }
+    requires { ⌜ length (now table) ≤ numberLimit ⌝ }
     requires { ⌜ from + length (refinedBytes (now table) (length (now table))) ≤ length (now out) ⌝ }
     ensures { λ r. ⌜ Writes (now (out .entry)) from (refinedBytes (now (table .entry)) (length (now (table .entry)))) r (now (out .exit)) ⌝ }
 {

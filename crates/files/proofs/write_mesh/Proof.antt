@@ -4,7 +4,7 @@ use Prim.Native.Nat.{_+_, _≤_}
 use native.Mathlib.Omega.{arith}
 use lib.ListN.{length, take}
 use lib.Seq.{length-take-le}
-use Rattle.codec.specs.Numbers.{Small}
+use Rattle.codec.specs.Fitting.{Small}
 use Rattle.codec.proofs.Lists.{numbers-short}
 use Rattle.files.specs.File.{headNumbers, fileOf}
 use Rattle.files.proofs.Writing.{Part, coarser-fits, coarse, small-head, file-length, too-few, wrote-parts}

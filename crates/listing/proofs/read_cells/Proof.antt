@@ -4,6 +4,7 @@ use Prim.Native.Nat.{_+_, _-_, _*_, _≤_, _<_}
 use native.Mathlib.Omega.{arith}
 use borrow.Author.Needs.{needs}
 use lib.ListN.{length, drop}
+use Rattle.codec.specs.Fitting.{numberLimit}
 use Rattle.codec.specs.Steps.{Found}
 use Rattle.listing.specs.Judged.{judgeBehind}
 use Rattle.codec.proofs.Steps.{found, missing}
@@ -17,7 +18,7 @@ use Rattle.codec.proofs.read.Reads as read-reads
 abbrev Inv-loop : tie.InvT-loop
 Inv-loop s from count cell last₀ at₀ left₀ last at left =
     (judgeBehind left₀ last₀ (drop at₀ s) ≡ judgeBehind left last (drop at s)) × (at₀ ≤ at) × (at ≤ length s)
-    × (last + 2097152 * left < 2097152 * count)
+    × (last + numberLimit * left < numberLimit * count)
 
 abbrev μ-loop : tie.MeasureT-loop
 μ-loop s from count cell last₀ at₀ left₀ last at left = left
