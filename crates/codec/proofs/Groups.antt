@@ -4,12 +4,12 @@ use mathlib.Core.List.{List, [], _∷_, append-assoc}
 use Prim.Native.Nat.{ℕ, zero, suc, _+_, _-_, _*_, _/_, _%_, _<_, _≤_}
 use native.Mathlib.Numerals.{add-one}
 use native.Mathlib.Omega.{arith}
-use lib.ListN.{length, getD, take, drop, set, drop-of-length-le}
+use lib.ListN.{length, take, drop, set, drop-of-length-le}
 use lib.Seq.{drop-cons, sets, sets-eq}
 use borrow.Author.Tests.{lt-ltb, le-ltb, ne-eqb, eq-eqb}
 use Rattle.codec.specs.Fitting.{numberLimit}
 use Rattle.codec.specs.Numbers.{Decoded, bad, got, above, decodeGroups, decodeNumber, encodeGroups, encodeNumber}
-use Rattle.codec.specs.Steps.{Found}
+use Rattle.codec.specs.Steps.{ByteAt, Found}
 use Rattle.facts.specs.Writing.{writtenAt, Writes}
 
 -- ---- one group
@@ -23,17 +23,17 @@ cut-none : (s : List ℕ) (at : ℕ) → decodeGroups 0 (drop at s) ≡ bad
 unfolding decodeGroups
 cut-none s at = refl
 
-module _ (k : ℕ) (s : List ℕ) (at x : ℕ) (h : at < length s) (e : x ≡ getD s at 0) where
+module _ (k : ℕ) {s : List ℕ} {at x : ℕ} (b : ByteAt s at x) where
   here : drop at s ≡ x ∷ drop (at + 1) s
-  here = rw (e, add-one) (drop-cons s at 0 h)
+  here = rw (b .is, add-one) (drop-cons s at 0 (b .inside))
 
   group-last : x < 128 → decodeGroups (suc k) (drop at s) ≡ got x (drop (at + 1) s)
   unfolding decodeGroups
   group-last l = ap (decodeGroups (suc k)) here ∙ rw (lt-ltb x 128 l) refl
 
-  group-more : 128 ≤ x → x < 256 → decodeGroups (suc k) (drop at s) ≡ above (x - 128) (decodeGroups k (drop (at + 1) s))
+  group-more : 128 ≤ x → decodeGroups (suc k) (drop at s) ≡ above (x - 128) (decodeGroups k (drop (at + 1) s))
   unfolding decodeGroups
-  group-more l m = ap (decodeGroups (suc k)) here ∙ rw (le-ltb x 128 l, lt-ltb x 256 m) refl
+  group-more l = ap (decodeGroups (suc k)) here ∙ rw (le-ltb x 128 l, lt-ltb x 256 (b .small)) refl
 
 above-bad : (low : ℕ) (r : Decoded) → r ≡ bad → above low r ≡ bad
 unfolding above
@@ -53,57 +53,53 @@ pub read-none : (s : List ℕ) (at : ℕ) → length s ≤ at → decodeNumber (
 unfolding decodeNumber
 read-none s at h = cut 3 s at h
 
-module _ (s : List ℕ) (at x : ℕ) (h : at < length s) (e : x ≡ getD s at 0) where
+module _ {s : List ℕ} {at x : ℕ} (b : ByteAt s at x) where
   pub read-one : x < 128 → Found s at x (at + 1)
   unfolding decodeNumber
-  read-one l = record { reads = group-last 2 s at x h e l; forward = omega arith; inside = omega arith; small = omega arith }
+  read-one l = record { reads = group-last 2 b l; inside = omega (arith, b .inside); small = omega arith }
 
-  module _ (l : 128 ≤ x) (m : x < 256) where
+  module _ (l : 128 ≤ x) where
     pub read-cut : length s ≤ at + 1 → decodeNumber (drop at s) ≡ bad
     unfolding decodeNumber
-    read-cut g = group-more 2 s at x h e l m ∙ above-bad (x - 128) _ (cut 2 s (at + 1) g)
+    read-cut g = group-more 2 b l ∙ above-bad (x - 128) _ (cut 2 s (at + 1) g)
 
-    module _ (y : ℕ) (h₂ : at + 1 < length s) (e₂ : y ≡ getD s (at + 1) 0) where
+    module _ {y : ℕ} (b₂ : ByteAt s (at + 1) y) where
       pub read-long : y ≡ 0 → decodeNumber (drop at s) ≡ bad
       unfolding decodeNumber
-      read-long z = group-more 2 s at x h e l m ∙ above-zero (x - 128) y _ _ (group-last 1 s (at + 1) y h₂ e₂ (omega arith)) z
+      read-long z = group-more 2 b l ∙ above-zero (x - 128) y _ _ (group-last 1 b₂ (omega arith)) z
 
       pub read-two : (y ≡ 0 → ⊥) → y < 128 → Found s at ((x - 128) + 128 * y) (at + 1 + 1)
       unfolding decodeNumber
       read-two z g = record {
-        reads = group-more 2 s at x h e l m ∙ above-got (x - 128) y _ _ (group-last 1 s (at + 1) y h₂ e₂ g) z;
-        forward = omega arith;
-        inside = omega arith;
-        small = omega arith;
+        reads = group-more 2 b l ∙ above-got (x - 128) y _ _ (group-last 1 b₂ g) z;
+        inside = omega (arith, b₂ .inside);
+        small = omega (arith, b .small);
       }
 
-      module _ (l₂ : 128 ≤ y) (m₂ : y < 256) where
+      module _ (l₂ : 128 ≤ y) where
         pub read-cut-2 : length s ≤ at + 1 + 1 → decodeNumber (drop at s) ≡ bad
         unfolding decodeNumber
-        read-cut-2 g = group-more 2 s at x h e l m ∙ above-bad (x - 128) _ (group-more 1 s (at + 1) y h₂ e₂ l₂ m₂ ∙ above-bad (y - 128) _ (cut 1 s (at + 1 + 1) g))
+        read-cut-2 g = group-more 2 b l ∙ above-bad (x - 128) _ (group-more 1 b₂ l₂ ∙ above-bad (y - 128) _ (cut 1 s (at + 1 + 1) g))
 
-        module _ (w : ℕ) (h₃ : at + 1 + 1 < length s) (e₃ : w ≡ getD s (at + 1 + 1) 0) where
+        module _ {w : ℕ} (b₃ : ByteAt s (at + 1 + 1) w) where
           pub read-long-2 : w ≡ 0 → decodeNumber (drop at s) ≡ bad
           unfolding decodeNumber
-          read-long-2 z = group-more 2 s at x h e l m ∙ above-bad (x - 128) _ (group-more 1 s (at + 1) y h₂ e₂ l₂ m₂
-              ∙ above-zero (y - 128) w _ _ (group-last 0 s (at + 1 + 1) w h₃ e₃ (omega arith)) z)
+          read-long-2 z = group-more 2 b l ∙ above-bad (x - 128) _ (group-more 1 b₂ l₂ ∙ above-zero (y - 128) w _ _ (group-last 0 b₃ (omega arith)) z)
 
           pub read-three : (w ≡ 0 → ⊥) → w < 128 → Found s at ((x - 128) + 128 * ((y - 128) + 128 * w)) (at + 1 + 1 + 1)
           unfolding decodeNumber
           read-three z g =
               let p : ((y - 128) + 128 * w ≡ 0 → ⊥) = λ q. omega arith in
               record {
-                reads = group-more 2 s at x h e l m ∙ above-got (x - 128) ((y - 128) + 128 * w) _ _ (group-more 1 s (at + 1) y h₂ e₂ l₂ m₂
-                    ∙ above-got (y - 128) w _ _ (group-last 0 s (at + 1 + 1) w h₃ e₃ g) z) p;
-                forward = omega arith;
-                inside = omega arith;
-                small = omega arith;
+                reads = group-more 2 b l ∙ above-got (x - 128) ((y - 128) + 128 * w) _ _ (group-more 1 b₂ l₂ ∙ above-got (y - 128) w _ _ (group-last 0 b₃ g) z) p;
+                inside = omega (arith, b₃ .inside);
+                small = omega (arith, b .small, b₂ .small);
               }
 
-          pub read-four : 128 ≤ w → w < 256 → decodeNumber (drop at s) ≡ bad
+          pub read-four : 128 ≤ w → decodeNumber (drop at s) ≡ bad
           unfolding decodeNumber
-          read-four g f = group-more 2 s at x h e l m ∙ above-bad (x - 128) _ (group-more 1 s (at + 1) y h₂ e₂ l₂ m₂
-              ∙ above-bad (y - 128) _ (group-more 0 s (at + 1 + 1) w h₃ e₃ g f ∙ above-bad (w - 128) _ (cut-none s (at + 1 + 1 + 1))))
+          read-four g = group-more 2 b l ∙ above-bad (x - 128) _ (group-more 1 b₂ l₂
+              ∙ above-bad (y - 128) _ (group-more 0 b₃ g ∙ above-bad (w - 128) _ (cut-none s (at + 1 + 1 + 1))))
 
 -- ---- the bytes of a number
 

@@ -2,7 +2,7 @@
 use mathlib.Core.Path.{_≡_}
 use mathlib.Core.List.{List}
 use Prim.Native.Nat.{ℕ, _≤_, _<_}
-use lib.ListN.{length, drop}
+use lib.ListN.{length, getD, drop}
 use Rattle.codec.specs.Fitting.{numberLimit}
 use Rattle.codec.specs.Numbers.{bad, got, decodeNumber, badMany, gotMany, decodeNumbers}
 use Rattle.codec.specs.declared.Step.{Step}
@@ -10,10 +10,15 @@ use Rattle.codec.specs.declared.Step.the-variants.{Number, Bad}
 use Rattle.codec.specs.declared.Reached.{Reached}
 use Rattle.codec.specs.declared.Reached.the-variants.{Place, Nowhere}
 
+-- x is the byte at a place of s
+pub record ByteAt (s : List ℕ) (at x : ℕ) : Type 0 where
+  pub is : x ≡ getD s at 0
+  pub inside : at < length s
+  pub small : x < 256
+
 -- a number that stands in the bytes s from a place up to another
 pub record Found (s : List ℕ) (at n to : ℕ) : Type 0 where
   pub reads : decodeNumber (drop at s) ≡ got n (drop to s)
-  pub forward : at < to
   pub inside : to ≤ length s
   pub small : n < numberLimit
 

@@ -5,7 +5,7 @@ ghost use lib.ListN.{length};
 ghost use Rattle.facts.specs.Writing.{Writes};
 ghost use Rattle.codec.specs.Numbers.{encodeNumber, encodeNumbers};
 ghost use Rattle.codec.specs.Fitting.{numberLimit, Small};
-ghost use Rattle.codec.specs.Steps.{ReadsAt, ReadsAll};
+ghost use Rattle.codec.specs.Steps.{ByteAt, ReadsAt, ReadsAll};
 
 // A place in the bytes.
 pub struct Cursor {
@@ -24,10 +24,12 @@ pub enum Reached {
     Nowhere,
 }
 
-fn wide(x: u8) -> u32
-    ensures { λ r. ⌜ r ≡ x ⌝ }
+// The byte at a place, wide enough to be summed.
+fn byte_at(s: &[u8], at: usize) -> u32
+    requires { ⌜ at < length (now s) ⌝ }
+    ensures { λ r. ⌜ ByteAt (now (s .entry)) at r ⌝ }
 {
-    x as u32
+    s[at] as u32
 }
 
 // The number at a place.
@@ -38,7 +40,7 @@ pub fn read(s: &[u8], c: Cursor) -> Step
     if s.len() <= at {
         return Step::Bad;
     }
-    let low = wide(s[at]);
+    let low = byte_at(s, at);
     let at2 = at + 1;
     if low < 128 {
         return Step::Number(low, Cursor { at: at2 });
@@ -46,7 +48,7 @@ pub fn read(s: &[u8], c: Cursor) -> Step
     if s.len() <= at2 {
         return Step::Bad;
     }
-    let mid = wide(s[at2]);
+    let mid = byte_at(s, at2);
     let at3 = at2 + 1;
     if mid == 0 {
         return Step::Bad;
@@ -57,7 +59,7 @@ pub fn read(s: &[u8], c: Cursor) -> Step
     if s.len() <= at3 {
         return Step::Bad;
     }
-    let high = wide(s[at3]);
+    let high = byte_at(s, at3);
     let at4 = at3 + 1;
     if high == 0 {
         return Step::Bad;

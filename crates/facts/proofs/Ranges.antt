@@ -47,11 +47,6 @@ from-more a m n b p e q f = T-true _ (from-i a (m + n) p (λ k l u. cases (ltb k
     (λ t. from-e a m p (true-T _ e) k l (omega (arith, ltb→lt k b t)))
     (λ t. from-e b n p (true-T _ f) k (nltb→le k b t) (omega arith))))
 
--- a part does not pass
-pub from-stop : (a N b n : ℕ) (p : ℕ → Bool) → a ≤ b → b + n ≤ a + N → everyFrom b n p ≡ false → everyFrom a N p ≡ false
-from-stop a N b n p l u e = T-false (everyFrom a N p) (λ t.
-    rw e at (from-i b n p (λ k v w. from-e a N p t k (omega arith) (omega arith))))
-
 pub from-same : (a n : ℕ) (p q : ℕ → Bool) → ((k : ℕ) → a ≤ k → k < a + n → p k ≡ q k) → everyFrom a n p ≡ everyFrom a n q
 unfolding everyFrom
 from-same a n p q h = every-same n _ _ (λ k l. h (a + k) (omega arith) (omega arith))

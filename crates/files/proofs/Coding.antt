@@ -10,7 +10,8 @@ use Rattle.grid.specs.Range.{InRange}
 use Rattle.codec.specs.Numbers.{Many, badMany, gotMany, encodeNumbers, decodeNumbers, encodeRising, decodeRising}
 use Rattle.codec.specs.Fitting.{numberLimit, Small, none, more, Rising}
 use Rattle.codec.proofs.Lists.{numbers-round, rising-round, numbers-canonical, rising-canonical}
-use Rattle.files.specs.File.{headNumbers, encodeFile, badFile, gotFile, planOf, withCells, withHead, decodeFile}
+use Rattle.grid.specs.Plan.{planOf}
+use Rattle.files.specs.File.{headNumbers, encodeFile, badFile, gotFile, withCells, withHead, decodeFile}
 
 -- bytes that are not read give nothing
 pub no-file : {C : Type 0} {p : Plan} {cells rest : List ℕ} → badFile ≡ gotFile p cells rest → C

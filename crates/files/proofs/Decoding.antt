@@ -11,10 +11,12 @@ use Rattle.codec.proofs.Lists.{numbers-canonical, small-at}
 use Rattle.listing.specs.declared.End.{End}
 use Rattle.listing.specs.Judged.{CellsFound}
 use Rattle.listing.proofs.Judging.{ends-good}
-use Rattle.files.specs.declared.Heading.{Heading}
+use Rattle.files.specs.declared.Outline.{Outline}
 use Rattle.files.specs.declared.Judged.{Judged}
 use Rattle.files.specs.declared.Judged.the-variants.{Good, Refused}
-use Rattle.files.specs.File.{badFile, planOf, withCells, withHead, decodeFile}
+use Rattle.grid.specs.declared.Plan.{Plan}
+use Rattle.grid.specs.Plan.{planOf}
+use Rattle.files.specs.File.{badFile, withCells, withHead, decodeFile}
 use Rattle.files.specs.Steps.{numbersOf, cellsOf, GoodFile, JudgesFile}
 
 pub file-no-head : (s : List ℕ) → decodeNumbers 7 s ≡ badMany → decodeFile s ≡ badFile
@@ -36,15 +38,15 @@ module _ {s ns : List ℕ} {to : ℕ} (seven : length ns ≡ 7) (f : AllFound s 
   unfolding withCells
   file-no-cells e = file-cells ∙ rw e refl
 
-  pub file-good : {e : End} → CellsFound s to (getD ns 6 0) e → (h : Heading)
-      → h ≡ record { plan = planOf ns; count = getD ns 6 0; first = to; end = e .at; last = e .last } → GoodFile s h
+  pub file-good : {e : End} {q : Plan} → CellsFound s to (getD ns 6 0) e → q ≡ planOf ns
+      → GoodFile s (record { plan = q; count = getD ns 6 0; first = to; end = e .at; last = e .last })
   unfolding withCells cellsOf numbersOf
-  file-good {e} k h q = rw q (ends-good 0 (e .last) (decodeRising (getD ns 6 0) (drop to s)) (drop (e .at) s) (k .reads) (λ cs m l.
+  file-good {e} k p = rw p (ends-good 0 (e .last) (decodeRising (getD ns 6 0) (drop to s)) (drop (e .at) s) (k .reads) (λ cs m l.
       record { file = file-cells ∙ rw m refl; cells = k .reads; inside = k .inside }))
 
 -- ---- what an answer of `judge` says
 
-pub judged-good : (s : List ℕ) (r : Judged) (h : Heading) → JudgesFile s r → r ≡ Good h → GoodFile s h
+pub judged-good : (s : List ℕ) (r : Judged) (h : Outline) → JudgesFile s r → r ≡ Good h → GoodFile s h
 judged-good s r h e q = rw q at e
 
 pub judged-bad : (s : List ℕ) (r : Judged) → JudgesFile s r → r ≡ Refused → decodeFile s ≡ badFile

@@ -23,7 +23,7 @@ use Rattle.listing.specs.Judged.{lastOf}
 use Rattle.listing.specs.Cells.{marked, markedBy}
 use Rattle.listing.proofs.Judging.{ends-good, last-all, all-last}
 use Rattle.listing.proofs.Tables.{marked-yes, marked-no}
-use Rattle.files.specs.declared.Heading.{Heading}
+use Rattle.files.specs.declared.Outline.{Outline}
 use Rattle.files.specs.declared.ReadAnswer.{ReadAnswer}
 use Rattle.files.specs.File.{badFile, decodeFile, rebuilt, refusal13, readRefusal, noPlan, answeredPlan, ReadOutcome, readFile, readMesh}
 use Rattle.files.specs.Steps.{numbersOf, cellsOf, GoodFile, Clear, tableRefusal}
@@ -89,7 +89,7 @@ not-early p table whole = go (isMesh p table) (isAdmissible p table) whole
 
 -- ---- the rebuilt table
 
-module _ (s : List ℕ) (h : Heading) (g : GoodFile s h) where
+module _ (s : List ℕ) (h : Outline) (g : GoodFile s h) where
   -- the listed cells, all below t where the last is
   cells-below : (t : ℕ) → h .last < t → T (all (λ c. ltb c t) (cellsOf s h))
   unfolding cellsOf numbersOf

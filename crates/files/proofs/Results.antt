@@ -1,21 +1,22 @@
 -- What Req 01 asks of reading and writing, proved of `readMesh` and `writeMesh`. Assumes nothing.
 use mathlib.Core.Path.{_≡_, refl, sym, ap, _∙_}
-use mathlib.Core.Bool.{Bool, true, false, cond}
-use mathlib.Core.List.{List, [], _++_}
+use mathlib.Core.Bool.{Bool, true, false, not, _&&_, cond}
+use mathlib.Core.List.{List, [], _∷_, _++_}
 use mathlib.Core.Logic.{_≢_}
 use Prim.Native.Nat.{ℕ, zero, suc, _≤_}
 use native.Mathlib.Omega.{arith}
-use lib.Dec.{ltb, eqb, eqb·suc-zero}
+use lib.Dec.{T, ltb, eqb, eqb→eq, eqb·suc-zero}
 use lib.ListN.{length, drop, length-append, length-drop}
 use lib.Seq.{take-append-seam, drop-append-seam}
 use borrow.Author.Tests.{ltb-false, le-ltb, ne-eqb}
+use Rattle.facts.specs.Numbers.{elem, all}
+use Rattle.facts.proofs.Tests.{or-e, or-r}
 use Rattle.grid.specs.declared.Plan.{Plan}
-use Rattle.grid.specs.Plan.{cellTotal, functionTotal}
-use Rattle.mesh.specs.Mesh.{labels, refusal3, check}
+use Rattle.grid.specs.Plan.{inRange, tooLarge, cellTotal, functionTotal}
+use Rattle.mesh.specs.Mesh.{isMesh, isAdmissible, labels, refusal3, check}
 use Rattle.mesh.proofs.Bridge.{check-good, check-passed, chain}
-use Rattle.files.specs.File.{File, badFile, gotFile, decodeFile, fileOf, rebuilt, readRefusal, noPlan, answeredPlan, ReadOutcome, readFile, readMesh, WriteOutcome, unwritten, writeText, writeMesh}
+use Rattle.files.specs.File.{File, badFile, gotFile, decodeFile, fileOf, rebuilt, refusal13, readRefusal, noPlan, answeredPlan, ReadOutcome, readFile, readMesh, WriteOutcome, unwritten, writeText, writeMesh}
 use Rattle.files.specs.Demands.{Written, Unwritten, Rebuilt, Refused, Files}
-use Rattle.files.proofs.Coding.{no-file}
 use Rattle.files.proofs.Longest.{file-short}
 use Rattle.files.proofs.Meshes.{same-lengths, file-read, same-table, passes13, unsized, rebuilt-checked, rebuilt-only}
 
@@ -75,25 +76,48 @@ answering n p cs fs = record { answer = record { number = n; plan = p }; cells =
 abbrev giving : Plan → List ℕ → ReadOutcome
 giving p table = answering 0 p table (labels p table)
 
+-- refusals 1 to 3 by their tests
+abbrev early : Bool → Bool → Bool → ℕ
+early a b c = cond (not a) 1 (cond b 2 (cond (not c) 3 0))
+
+-- the numbers that a file which can be read gets
+numbered : (p : Plan) (cells rest cs fs : List ℕ) → T (elem (readRefusal p cells rest cs fs) (0 ∷ 1 ∷ 2 ∷ 3 ∷ 4 ∷ 5 ∷ 13 ∷ []))
+unfolding readRefusal refusal3 refusal13 elem
+numbered p cells rest cs fs =
+    go (inRange p) (tooLarge p) (eqb (length cs) (cellTotal p) && eqb (length fs) (functionTotal p))
+    (all (λ c. ltb c (cellTotal p)) cells) (isMesh p (rebuilt p cells)) (isAdmissible p (rebuilt p cells)) (eqb (length rest) 0)
+  where
+    go : (a b c d e f g : Bool)
+        → T (elem (cond (eqb (early a b c) 0) (cond (not d) 4 (cond (not e) 4 (cond (not f) 5 (cond (not g) 13 0)))) (early a b c)) (0 ∷ 1 ∷ 2 ∷ 3 ∷ 4 ∷ 5 ∷ 13 ∷ []))
+    go false b c d e f g = tt
+    go true true c d e f g = tt
+    go true false false d e f g = tt
+    go true false true false e f g = tt
+    go true false true true false f g = tt
+    go true false true true true false g = tt
+    go true false true true true true false = tt
+    go true false true true true true true = tt
+
 module _ (n : ℕ) (p : Plan) where
-  answered : n ≢ 1 → n ≢ 2 → answeredPlan n p ≡ p
-  unfolding answeredPlan
-  answered a b = rw (ne-eqb n 1 a, ne-eqb n 2 b) refl
+  -- the plan with 3, 4, 5 and 13
+  answered : T (elem n (3 ∷ 4 ∷ 5 ∷ 13 ∷ [])) → answeredPlan n p ≡ p
+  unfolding answeredPlan elem
+  answered t = rw (ne-eqb n 1 (λ e. rw e at t), ne-eqb n 2 (λ e. rw e at t)) refl
 
-  answered-one : n ≡ 1 → answeredPlan n p ≡ noPlan
-  unfolding answeredPlan
-  answered-one e = rw e refl
-
-  answered-two : n ≡ 2 → answeredPlan n p ≡ noPlan
-  unfolding answeredPlan
-  answered-two e = rw e refl
+  -- none with 1 and 2; 12 is none of these numbers
+  unanswered : T (elem n (0 ∷ 1 ∷ 2 ∷ 3 ∷ 4 ∷ 5 ∷ 13 ∷ [])) → T (elem n (12 ∷ 1 ∷ 2 ∷ [])) → answeredPlan n p ≡ noPlan
+  unfolding answeredPlan elem
+  unanswered m t =
+      or-e (eqb n 12) _ t (λ e. absurd (let q : n ≡ 12 = eqb→eq n 12 e in rw q at m))
+      (λ u. or-e (eqb n 1) _ u (λ e. let q : n ≡ 1 = eqb→eq n 1 e in rw q refl)
+      (λ v. or-e (eqb n 2) _ v (λ e. let q : n ≡ 2 = eqb→eq n 2 e in rw q refl) (λ w. absurd w)))
 
 module _ (s cs fs : List ℕ) where
   -- bytes that cannot be read, a refusal of what they give, or a mesh
   data Read (o : ReadOutcome) : Type 0 where
     unread : decodeFile s ≡ badFile → o ≡ answering 12 noPlan cs fs → Read o
     refused-as : (p : Plan) (cells rest : List ℕ) (n : ℕ) → decodeFile s ≡ gotFile p cells rest
-        → o ≡ answering (suc n) (answeredPlan (suc n) p) cs fs → Read o
+        → readRefusal p cells rest cs fs ≡ suc n → o ≡ answering (suc n) (answeredPlan (suc n) p) cs fs → Read o
     accepted : (p : Plan) (cells rest : List ℕ) → decodeFile s ≡ gotFile p cells rest → readRefusal p cells rest cs fs ≡ 0
         → o ≡ giving p (rebuilt p cells) → Read o
 
@@ -104,7 +128,7 @@ module _ (s cs fs : List ℕ) where
       judge : (p : Plan) (cells rest : List ℕ) → decodeFile s ≡ gotFile p cells rest → (n : ℕ) → readRefusal p cells rest cs fs ≡ n
           → Read (cond (eqb n 0) (giving p (rebuilt p cells)) (answering n (answeredPlan n p) cs fs))
       judge p cells rest d zero e = accepted p cells rest d e refl
-      judge p cells rest d (suc n) e = rw (eqb·suc-zero n) (refused-as p cells rest n d refl)
+      judge p cells rest d (suc n) e = rw (eqb·suc-zero n) (refused-as p cells rest n d e refl)
 
       go : (f : File) → decodeFile s ≡ f → Read (readFile f cs fs)
       go badFile d = unread d refl
@@ -113,29 +137,24 @@ module _ (s cs fs : List ℕ) where
   module _ (o : ReadOutcome) where
     rebuilt-of : Read o → o .answer .number ≡ 0 → Rebuilt s o
     rebuilt-of (unread d e) z = absurd (let w : ⊥ = omega (arith, ap (λ o. o .answer .number) e) in w)
-    rebuilt-of (refused-as p cells rest n d e) z = absurd (let w : ⊥ = omega (arith, ap (λ o. o .answer .number) e) in w)
+    rebuilt-of (refused-as p cells rest n d r e) z = absurd (let w : ⊥ = omega (arith, ap (λ o. o .answer .number) e) in w)
     rebuilt-of (accepted p cells rest d r e) z = rw e (record {
       checked = rebuilt-checked p cells rest cs fs r;
       only = rebuilt-only p cells rest cs fs r s d;
     })
 
     refused-of : Read o → o .answer .number ≢ 0 → Refused s cs fs o
-    refused-of (unread d e) z = rw e (record {
-      cells = refl;
-      functions = refl;
-      plan = λ p cells rest g a b. no-file (sym d ∙ g);
-      zeros1 = λ a. refl;
-      zeros2 = λ a. refl;
-      zeros12 = λ a. (refl, refl);
-    })
-    refused-of (refused-as p cells rest n d e) z = rw e (record {
-      cells = refl;
-      functions = refl;
-      plan = λ q cells′ rest′ g a b. let w : p ≡ q = cc in answered (suc n) p a b ∙ w;
-      zeros1 = answered-one (suc n) p;
-      zeros2 = answered-two (suc n) p;
-      zeros12 = λ a. no-file (sym a ∙ d);
-    })
+    unfolding elem
+    refused-of (unread d e) z = rw e (record { cells = refl; functions = refl; number = tt; plan = λ t. absurd t; zeros = λ t. refl })
+    refused-of (refused-as p cells rest n d r e) z =
+        let m : T (elem (suc n) (0 ∷ 1 ∷ 2 ∷ 3 ∷ 4 ∷ 5 ∷ 13 ∷ [])) = rw r at (numbered p cells rest cs fs) in
+        rw e (record {
+          cells = refl;
+          functions = refl;
+          number = or-e (eqb (suc n) 0) _ m (λ t. absurd (rw (eqb·suc-zero n) at t)) (λ t. or-r (eqb (suc n) 12) _ t);
+          plan = λ t. (cells, (rest, d ∙ ap (λ (q : Plan). gotFile q cells rest) (sym (answered (suc n) p t))));
+          zeros = unanswered (suc n) p m;
+        })
     refused-of (accepted p cells rest d r e) z = absurd (z (ap (λ o. o .answer .number) e))
 
 -- ---- a mesh and its file

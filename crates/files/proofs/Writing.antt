@@ -21,13 +21,13 @@ use Rattle.grid.specs.Range.{InRange}
 use Rattle.grid.specs.Bounds.{mostCells}
 use Rattle.mesh.specs.Mesh.{refined, isMesh, check}
 use Rattle.mesh.proofs.Bridge.{check-good, is-mesh}
+use Rattle.nesting.specs.Table.{MeshTable}
 use Rattle.codec.specs.Numbers.{encodeNumbers}
 use Rattle.codec.specs.Fitting.{Small}
 use Rattle.listing.specs.declared.Measured.{Measured}
 use Rattle.listing.specs.Cells.{refinedBelow, refinedBytes, Measures}
 use Rattle.files.specs.declared.WriteAnswer.{WriteAnswer}
 use Rattle.files.specs.File.{headNumbers, encodeFile, fileOf, WriteOutcome, unwritten, writeText, writeMesh}
-use Rattle.files.specs.Steps.{MeshRoom}
 use Rattle.files.proofs.Coarse.{coarser, coarser-le, listed-coarser}
 use Rattle.files.proofs.Coding.{head-small}
 
@@ -39,25 +39,25 @@ pub record Part (p : Plan) (cells part : List ℕ) : Type 0 where
   pub lists : refinedBelow part (length part) ≡ listed (cellTotal p) (refined cells)
   pub small : length part ≤ mostCells
 
-module _ (p : Plan) (cells : List ℕ) (k : MeshRoom p cells) where
+module _ (p : Plan) (cells : List ℕ) (k : MeshTable p cells) where
   pub coarser-fits : coarser p ≤ length cells
-  coarser-fits = omega (arith, coarser-le p, k .room .size)
+  coarser-fits = omega (arith, coarser-le p, k .sized .size)
 
   same-cells : listed (coarser p) (refined (take (coarser p) cells)) ≡ listed (cellTotal p) (refined cells)
   unfolding refined
   same-cells =
       listed-same (coarser p) _ _ (λ c i. ap (λ b. eqb b 2) (getD-take (coarser p) cells c 0 i))
-      ∙ sym (listed-coarser p cells (k .room .range) (true-T _ (k .mesh)))
+      ∙ sym (listed-coarser p cells (k .sized .range) (true-T _ (k .mesh)))
 
   -- they are such a part
-  pub coarse : (n : ℕ) → n ≡ coarser p → Part p cells (take n cells)
+  pub coarse : cellTotal p ≤ mostCells → (n : ℕ) → n ≡ coarser p → Part p cells (take n cells)
   unfolding refinedBelow
-  coarse n e =
+  coarse few n e =
       let size = length-take-le (coarser p) cells coarser-fits in
       rw e (record {
-        range = k .room .range;
+        range = k .sized .range;
         lists = rw size same-cells;
-        small = omega (arith, size, coarser-fits, k .room .size, k .room .small);
+        small = omega (arith, size, coarser-fits, k .sized .size, few);
       })
 
 -- ---- the parts of a file
@@ -107,10 +107,10 @@ module _ (p : Plan) (cs fs file : List ℕ) (n : ℕ) (e : n ≡ check p cs fs) 
   unfolding writeMesh unwritten
   unchecked z r q = rw (← e, ne-eqb n 0 z, q) refl
 
-  pub room : n ≡ 0 → MeshRoom p cs
+  pub room : n ≡ 0 → MeshTable p cs × (cellTotal p ≤ mostCells)
   room z =
       let g = check-good p cs fs (sym e ∙ z) .0 in
-      record { room = record { range = g .range; small = g .small; size = g .sized }; mesh = T-true (isMesh p cs) (is-mesh p cs g) }
+      (record { sized = record { range = g .range; size = g .sized }; mesh = T-true (isMesh p cs) (is-mesh p cs g) }, g .small)
 
   pub checked : n ≡ 0 → (o : WriteOutcome) → o ≡ writeText (fileOf p cs) file → o ≡ writeMesh p cs fs file
   unfolding writeMesh

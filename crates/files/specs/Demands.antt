@@ -1,14 +1,16 @@
 -- What is claimed of reading and writing, in Req 01's words; proofs/Results.antt proves it of `readMesh` and `writeMesh`. Definitions only.
 use mathlib.Core.Path.{_≡_}
-use mathlib.Core.List.{List, [], _++_}
+use mathlib.Core.List.{List, [], _∷_, _++_}
 use mathlib.Core.Logic.{_≢_}
 use Prim.Native.Nat.{ℕ, _≤_}
+use lib.Dec.{T}
 use lib.ListN.{length, take, drop}
+use Rattle.facts.specs.Numbers.{elem}
 use Rattle.grid.specs.declared.Plan.{Plan}
 use Rattle.grid.specs.Plan.{cellTotal, functionTotal}
 use Rattle.mesh.specs.Mesh.{check}
 use Rattle.files.specs.Bounds.{mostFileBytes}
-use Rattle.files.specs.File.{badFile, gotFile, decodeFile, fileOf, noPlan, ReadOutcome, readMesh, WriteOutcome, writeMesh}
+use Rattle.files.specs.File.{gotFile, decodeFile, fileOf, noPlan, ReadOutcome, readMesh, WriteOutcome, writeMesh}
 
 -- ---- writing
 
@@ -32,14 +34,17 @@ pub record Rebuilt (s : List ℕ) (o : ReadOutcome) : Type 0 where
   pub checked : check (o .answer .plan) (o .cells) (o .functions) ≡ 0
   pub only : s ≡ fileOf (o .answer .plan) (o .cells)
 
--- a refused one left both tables; "Reading answers the plan too, also with refusals 3, 4, 5 and 13 ..; with the others it is all zeros"
+-- a refused one left both tables
 pub record Refused (s cs fs : List ℕ) (o : ReadOutcome) : Type 0 where
   pub cells : o .cells ≡ cs
   pub functions : o .functions ≡ fs
-  pub plan : (p : Plan) (cells rest : List ℕ) → decodeFile s ≡ gotFile p cells rest → o .answer .number ≢ 1 → o .answer .number ≢ 2 → o .answer .plan ≡ p
-  pub zeros1 : o .answer .number ≡ 1 → o .answer .plan ≡ noPlan
-  pub zeros2 : o .answer .number ≡ 2 → o .answer .plan ≡ noPlan
-  pub zeros12 : decodeFile s ≡ badFile → (o .answer .number ≡ 12) × (o .answer .plan ≡ noPlan)
+  -- "12 .., then 1 to 5 in their order .., then 13": no other number
+  pub number : T (elem (o .answer .number) (12 ∷ 1 ∷ 2 ∷ 3 ∷ 4 ∷ 5 ∷ 13 ∷ []))
+  -- "Reading answers the plan too, also with refusals 3, 4, 5 and 13": that of the file
+  pub plan : T (elem (o .answer .number) (3 ∷ 4 ∷ 5 ∷ 13 ∷ []))
+      → ((cells : List ℕ) × ((rest : List ℕ) × (decodeFile s ≡ gotFile (o .answer .plan) cells rest)))
+  -- "with the others it is all zeros"
+  pub zeros : T (elem (o .answer .number) (12 ∷ 1 ∷ 2 ∷ [])) → o .answer .plan ≡ noPlan
 
 -- ---- a mesh and its file
 

@@ -7,7 +7,7 @@ use lib.Dec.{ltb, eqb}
 use lib.ListN.{length, getD, drop}
 use Rattle.facts.specs.Numbers.{elem, all, listed}
 use Rattle.grid.specs.declared.Plan.{Plan}
-use Rattle.grid.specs.Plan.{cellTotal}
+use Rattle.grid.specs.Plan.{planOf, cellTotal}
 use Rattle.mesh.specs.Mesh.{refined, isMesh, isAdmissible, tableOf, labels, refusal3, check}
 use Rattle.codec.specs.Numbers.{Many, badMany, gotMany, encodeNumbers, encodeRising, decodeNumbers, decodeRising}
 use Rattle.files.specs.declared.ReadAnswer.{ReadAnswer}
@@ -32,17 +32,6 @@ fileOf p table = encodeFile p (listed (cellTotal p) (refined table))
 pub data File : Type 0 where
   badFile : File
   gotFile : Plan → List ℕ → List ℕ → File
-
--- the first six numbers of a head
-abbrev pub planOf : List ℕ → Plan
-planOf ns = record {
-  columns = getD ns 0 0;
-  rows = getD ns 1 0;
-  levels = getD ns 2 0;
-  «degree_across» = getD ns 3 0;
-  «degree_up» = getD ns 4 0;
-  class = getD ns 5 0;
-}
 
 -- the cells behind the head
 unfoldable pub withCells : Plan → Many → File

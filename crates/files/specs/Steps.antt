@@ -1,18 +1,15 @@
 -- What the contracts of the parts cite. Definitions only.
 use mathlib.Core.Path.{_≡_}
-use mathlib.Core.Bool.{Bool, true, not, cond}
+use mathlib.Core.Bool.{Bool, not, cond}
 use mathlib.Core.List.{List, []}
 use Prim.Native.Nat.{ℕ, _≤_}
 use lib.ListN.{length, getD, drop}
 use Rattle.grid.specs.declared.Plan.{Plan}
-use Rattle.grid.specs.Plan.{cellTotal}
-use Rattle.grid.specs.Bounds.{mostCells}
-use Rattle.grid.specs.Range.{InRange}
 use Rattle.mesh.specs.Mesh.{isMesh, isAdmissible}
 use Rattle.outcomes.specs.Contracts.{Lent}
 use Rattle.codec.specs.Numbers.{Many, badMany, gotMany, decodeRising}
 use Rattle.listing.specs.Judged.{ends, endsOf}
-use Rattle.files.specs.declared.Heading.{Heading}
+use Rattle.files.specs.declared.Outline.{Outline}
 use Rattle.files.specs.declared.Judged.{Judged}
 use Rattle.files.specs.declared.Judged.the-variants.{Good, Refused}
 use Rattle.files.specs.declared.ReadAnswer.{ReadAnswer}
@@ -34,10 +31,10 @@ numbersOf badMany = []
 numbersOf (gotMany ns s) = ns
 
 -- the cells that a file lists
-unfoldable pub cellsOf : List ℕ → Heading → List ℕ
+unfoldable pub cellsOf : List ℕ → Outline → List ℕ
 cellsOf s h = numbersOf (decodeRising (h .count) (drop (h .first) s))
 
-pub record GoodFile (s : List ℕ) (h : Heading) : Type 0 where
+pub record GoodFile (s : List ℕ) (h : Outline) : Type 0 where
   pub file : decodeFile s ≡ gotFile (h .plan) (cellsOf s h) (drop (h .end) s)
   -- the last cell is `last`, 0 where there is none, and the bytes from `end` on are left
   pub cells : endsOf 0 (decodeRising (h .count) (drop (h .first) s)) ≡ ends (h .last) (drop (h .end) s)
@@ -56,16 +53,3 @@ Clear table = (i : ℕ) → getD table i 0 ≡ 0
 -- refusals 4, 5 and 13 by the rebuilt table, and by whether the bytes end with the last number
 unfoldable pub tableRefusal : Plan → List ℕ → Bool → ℕ
 tableRefusal p table whole = cond (not (isMesh p table)) 4 (cond (not (isAdmissible p table)) 5 (cond (not whole) 13 0))
-
--- ---- writing
-
--- a table of a plan that passed refusals 1 and 2
-pub record CellRoom (p : Plan) (cells : List ℕ) : Type 0 where
-  pub range : InRange p
-  pub small : cellTotal p ≤ mostCells
-  pub size : length cells ≡ cellTotal p
-
--- and its bytes are a mesh
-pub record MeshRoom (p : Plan) (cells : List ℕ) : Type 0 where
-  pub room : CellRoom p cells
-  pub mesh : isMesh p cells ≡ true

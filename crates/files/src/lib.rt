@@ -5,11 +5,14 @@ use grid::MOST_CELLS;
 use grid::Plan;
 use listing::Listed;
 ghost use mathlib.Core.Path.{_≡_};
-ghost use Prim.Native.Nat.{_<_};
+ghost use Prim.Native.Nat.{_≤_, _<_};
 ghost use lib.ListN.{length};
+ghost use Rattle.grid.specs.Bounds.{mostCells};
+ghost use Rattle.grid.specs.Plan.{cellTotal};
 ghost use Rattle.mesh.specs.Mesh.{refusal3};
+ghost use Rattle.nesting.specs.Table.{CellTable, MeshTable};
 ghost use Rattle.files.specs.File.{fileOf, rebuilt, noPlan, answeredPlan, readMesh, writeText, writeMesh};
-ghost use Rattle.files.specs.Steps.{leftByRead, leftByWrite, cellsOf, GoodFile, JudgesFile, Clear, tableRefusal, CellRoom, MeshRoom};
+ghost use Rattle.files.specs.Steps.{leftByRead, leftByWrite, cellsOf, GoodFile, JudgesFile, Clear, tableRefusal};
 
 // What reading answers: a refusal or 0, and the plan, all zeros with refusals 1, 2 and 12.
 #[repr(C)]
@@ -26,7 +29,7 @@ pub struct WriteAnswer {
 }
 
 // A file that can be read: its plan, how many cells it lists, where their numbers begin and end, and the last of them.
-struct Heading {
+struct Outline {
     plan: Plan,
     count: u32,
     first: usize,
@@ -36,7 +39,7 @@ struct Heading {
 
 // Bytes that can be read, or refusal 12.
 enum Judged {
-    Good(Heading),
+    Good(Outline),
     Refused,
 }
 
@@ -53,15 +56,8 @@ fn judge(s: &[u8]) -> Judged
     let Listed::Cells(e) = listing::read_cells(s, first, count) else {
         return Judged::Refused;
     };
-    let plan = Plan {
-        columns: head[0],
-        rows: head[1],
-        levels: head[2],
-        degree_across: head[3],
-        degree_up: head[4],
-        class: head[5],
-    };
-    Judged::Good(Heading {
+    let plan = grid::plan_of(&head);
+    Judged::Good(Outline {
         plan,
         count,
         first,
@@ -98,20 +94,20 @@ fn refuse(number: u32, plan: Plan) -> ReadAnswer
 }
 
 // The listed cells refined in a table of zeros, and the other cells as they follow from these.
-fn rebuild(file: &[u8], heading: Heading, table: &mut [u8])
-    requires { ⌜ GoodFile (now file) heading ⌝ }
-    requires { ⌜ heading .last < length (now table) ⌝ }
-    requires { ⌜ CellRoom (heading .plan) (now table) ⌝ }
+fn rebuild(file: &[u8], outline: Outline, table: &mut [u8])
+    requires { ⌜ GoodFile (now file) outline ⌝ }
+    requires { ⌜ outline .last < length (now table) ⌝ }
+    requires { ⌜ CellTable (outline .plan) (now table) ⌝ }
     requires { ⌜ Clear (now table) ⌝ }
-    ensures { λ _. ⌜ now (table .exit) ≡ rebuilt (heading .plan) (cellsOf (now (file .entry)) heading) ⌝ }
+    ensures { λ _. ⌜ now (table .exit) ≡ rebuilt (outline .plan) (cellsOf (now (file .entry)) outline) ⌝ }
 {
-    listing::mark_cells(file, heading.first, heading.count, table);
-    nesting::complete(heading.plan, table);
+    listing::mark_cells(file, outline.first, outline.count, table);
+    nesting::complete(outline.plan, table);
 }
 
 // Refusals 4 and 5 of a rebuilt table, and 13.
 fn table_refusal(plan: Plan, table: &[u8], whole: bool) -> u32
-    requires { ⌜ CellRoom plan (now table) ⌝ }
+    requires { ⌜ (CellTable plan (now table)) × (cellTotal plan ≤ mostCells) ⌝ }
     ensures { λ r. ⌜ r ≡ tableRefusal plan (now (table .entry)) whole ⌝ }
 {
     if nesting::is_mesh(plan, table) {
@@ -127,20 +123,20 @@ fn table_refusal(plan: Plan, table: &[u8], whole: bool) -> u32
 }
 
 // Reading, when the file is judged and the lent tables fit: the mesh is rebuilt beside them and taken over once nothing refuses it.
-fn restore(file: &[u8], heading: Heading, cells: &mut [u8], functions: &mut [u8]) -> ReadAnswer
-    requires { ⌜ GoodFile (now file) heading ⌝ }
-    requires { ⌜ refusal3 (heading .plan) (now cells) (now functions) ≡ 0 ⌝ }
+fn restore(file: &[u8], outline: Outline, cells: &mut [u8], functions: &mut [u8]) -> ReadAnswer
+    requires { ⌜ GoodFile (now file) outline ⌝ }
+    requires { ⌜ refusal3 (outline .plan) (now cells) (now functions) ≡ 0 ⌝ }
     ensures { λ r. ⌜ leftByRead r cells functions ≡ readMesh (now (file .entry)) (now (cells .entry)) (now (functions .entry)) ⌝ }
 {
-    let plan = heading.plan;
+    let plan = outline.plan;
     let total = plan.cell_total() as usize;
-    if heading.last >= total as u64 {
+    if outline.last >= total as u64 {
         return ReadAnswer { number: 4, plan };
     }
     let mut room = [0u8; MOST_CELLS];
     let table = &mut room[..total];
-    rebuild(file, heading, table);
-    let number = table_refusal(plan, table, heading.end == file.len());
+    rebuild(file, outline, table);
+    let number = table_refusal(plan, table, outline.end == file.len());
     if number == 0 {
         changes::copy_bytes(cells, table);
         labels::write_labels(plan, cells, functions);
@@ -152,18 +148,18 @@ fn restore(file: &[u8], heading: Heading, cells: &mut [u8], functions: &mut [u8]
 pub fn read(file: &[u8], cells: &mut [u8], functions: &mut [u8]) -> ReadAnswer
     ensures { λ r. ⌜ leftByRead r cells functions ≡ readMesh (now (file .entry)) (now (cells .entry)) (now (functions .entry)) ⌝ }
 {
-    let Judged::Good(heading) = judge(file) else {
+    let Judged::Good(outline) = judge(file) else {
         return ReadAnswer {
             number: 12,
             plan: no_plan(),
         };
     };
-    let plan = heading.plan;
+    let plan = outline.plan;
     let early = tables::refusal(plan, cells, functions);
     if early != 0 {
         return refuse(early, plan);
     }
-    restore(file, heading, cells, functions)
+    restore(file, outline, cells, functions)
 }
 
 // A refusal answers its number, with length 0.
@@ -176,7 +172,7 @@ fn unwritten(number: u32) -> WriteAnswer
 // Writing, when the tables are checked: the whole length is known before the first byte is written. No cell of the last level is
 // refined, so that level, most of the table, is not read.
 fn write_mesh(plan: Plan, cells: &[u8], file: &mut [u8]) -> WriteAnswer
-    requires { ⌜ MeshRoom plan (now cells) ⌝ }
+    requires { ⌜ (MeshTable plan (now cells)) × (cellTotal plan ≤ mostCells) ⌝ }
     ensures { λ r. ⌜ leftByWrite r file ≡ writeText (fileOf plan (now (cells .entry))) (now (file .entry)) ⌝ }
 {
     let inner = plan.cell_offset(plan.levels - 1) as usize;

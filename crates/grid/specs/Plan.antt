@@ -1,7 +1,9 @@
 -- Document 01, "The plan": ranges, grids, numbering, supports, children and neighbourhoods. Definitions only.
 use mathlib.Core.Bool.{Bool, not, _&&_, _||_}
+use mathlib.Core.List.{List}
 use Prim.Native.Nat.{ℕ, pred, suc, min, _+_, _-_, _*_, _/_, _^_}
 use lib.Dec.{leb, ltb, eqb}
+use lib.ListN.{getD}
 use Rattle.hierarchy.specs.Hierarchy.{Hierarchy}
 use Rattle.grid.specs.declared.Plan.{Plan}
 use Rattle.grid.specs.declared.Place.{Place}
@@ -10,6 +12,17 @@ use Rattle.grid.specs.Numbering
 use Rattle.grid.specs.Bounds.{mostCells}
 
 -- ---- the six numbers
+
+-- a plan of them, in document 01's order: A B L p q m
+abbrev pub planOf : List ℕ → Plan
+planOf ns = record {
+  columns = getD ns 0 0;
+  rows = getD ns 1 0;
+  levels = getD ns 2 0;
+  «degree_across» = getD ns 3 0;
+  «degree_up» = getD ns 4 0;
+  class = getD ns 5 0;
+}
 
 -- x is one of lo to hi
 unfoldable pub between : ℕ → ℕ → ℕ → Bool

@@ -1,11 +1,12 @@
 // A plan's grids: cells and functions of every level, their numbers and places, supports, parents and neighbourhoods.
 ghost use mathlib.Core.Path.{_≡_};
 ghost use Prim.Native.Nat.{_+_, _-_, _*_, _≤_, _<_};
+ghost use lib.ListN.{length};
 ghost use Rattle.grid.specs.Numbering.{Inside, offset, number, place};
 ghost use Rattle.grid.specs.Range.{InRange, Beyond, HasNeighbourhood};
 ghost use Rattle.grid.specs.Spans.{supportSpan, aroundSpan, supportOf, childrenOf, around, ancestorOf, neighbourhood};
 ghost use Rattle.grid.specs.Side.{SideIn, functions, firstOver, firsts};
-ghost use Rattle.grid.specs.Plan.{between, inRange, ratio, grown, widened, columnsAt, rowsAt, acrossAt, upAt, functionColumnsAt, functionRowsAt, cellOffset, functionOffset, cellTotal, functionTotal, tooLarge, cellPlace, cellNumber, functionPlace, functionNumber, CellInside, FunctionInside, cellLevel, above, parent, ancestor};
+ghost use Rattle.grid.specs.Plan.{planOf, between, inRange, ratio, grown, widened, columnsAt, rowsAt, acrossAt, upAt, functionColumnsAt, functionRowsAt, cellOffset, functionOffset, cellTotal, functionTotal, tooLarge, cellPlace, cellNumber, functionPlace, functionNumber, CellInside, FunctionInside, cellLevel, above, parent, ancestor};
 
 // The most cells that a plan may have, the most functions of such a plan, and the largest table of neighbourhoods: what lent tables need.
 pub const MOST_CELLS: usize = 21845;
@@ -25,6 +26,21 @@ pub struct Plan {
     pub degree_up: u32,
     // the admissible class; 0: no condition
     pub class: u32,
+}
+
+// The plan of its six numbers, in that order.
+pub fn plan_of(numbers: &[u32]) -> Plan
+    requires { ⌜ 6 ≤ length (now numbers) ⌝ }
+    ensures { λ r. ⌜ r ≡ planOf (now (numbers .entry)) ⌝ }
+{
+    Plan {
+        columns: numbers[0],
+        rows: numbers[1],
+        levels: numbers[2],
+        degree_across: numbers[3],
+        degree_up: numbers[4],
+        class: numbers[5],
+    }
 }
 
 // A cell's number and a function's number: one is never taken for the other.

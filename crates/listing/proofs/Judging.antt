@@ -68,7 +68,7 @@ cells-none count left s h e = rw (h, e) refl
 
 pub no-cells : (s : List ℕ) (at : ℕ) (e : End) → at ≤ length s → e .last ≡ 0 → e .at ≡ at → CellsFound s at 0 e
 unfolding decodeRising endsOf lastOf
-no-cells s at e h l a = record { reads = rw (l, a) refl; forward = omega arith; inside = omega arith }
+no-cells s at e h l a = record { reads = rw (l, a) refl; inside = omega arith }
 
 -- one difference more
 pub judge-bad : (left p : ℕ) (s : List ℕ) → 0 < left → decodeNumber s ≡ bad → judgeBehind left p s ≡ badEnds

@@ -35,7 +35,6 @@ judgeBehind (suc k) p s = onwardEnds (decodeNumber s) (λ d r. cond (eqb d 0) ba
 -- so many cells stand in the bytes s from a place on; `last` is the last of them, 0 where there is none
 pub record CellsFound (s : List ℕ) (at count : ℕ) (e : End) : Type 0 where
   pub reads : endsOf 0 (decodeRising count (drop at s)) ≡ ends (e .last) (drop (e .at) s)
-  pub forward : at ≤ e .at
   pub inside : e .at ≤ length s
 
 abbrev pub ReadsCells : List ℕ → ℕ → ℕ → Listed → Type 0

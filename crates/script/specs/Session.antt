@@ -4,9 +4,9 @@ use mathlib.Core.Bool.{cond}
 use mathlib.Core.List.{List, [], _∷_, _++_}
 use Prim.Native.Nat.{ℕ}
 use lib.Dec.{eqb, ltb}
-use lib.ListN.{getD, take, replicate}
+use lib.ListN.{take, replicate}
 use Rattle.grid.specs.declared.Plan.{Plan}
-use Rattle.grid.specs.Plan.{cellTotal, functionTotal}
+use Rattle.grid.specs.Plan.{planOf, cellTotal, functionTotal}
 use Rattle.mesh.specs.Mesh.{Opened, openMesh}
 use Rattle.outcomes.specs.Calls.{Direction, refine, coarsen, By, cells, functions, Outcome, outcome}
 use Rattle.lines.specs.declared.Kind.{Kind}
@@ -33,17 +33,6 @@ abbrev pub blank : ℕ → List ℕ
 blank n = replicate n 0
 
 -- ---- "`wall` with the plan"
-
--- its six numbers, in document 01's order: A B L p q m
-abbrev pub planOf : List ℕ → Plan
-planOf ns = record {
-  columns = getD ns 0 0;
-  rows = getD ns 1 0;
-  levels = getD ns 2 0;
-  «degree_across» = getD ns 3 0;
-  «degree_up» = getD ns 4 0;
-  class = getD ns 5 0;
-}
 
 -- "A refused or `large` wall keeps the earlier one"; "An allowed wall above 4,096 cells prints `large`"
 abbrev pub settled : State → Plan → Opened → Reply

@@ -11,7 +11,7 @@ ghost use Rattle.outcomes.specs.Contracts.{Meets};
 ghost use Rattle.calls.specs.Parts as parts;
 ghost use Rattle.lines.specs.declared.Kind.the-variants.{Wall};
 ghost use Rattle.lines.specs.Writing.{answer as answer·line, question as question·line, large as large·line};
-ghost use Rattle.script.specs.Session.{planOf, opening, calling, obey as obey·kind, stepOf};
+ghost use Rattle.script.specs.Session.{opening, calling, obey as obey·kind, stepOf};
 ghost use Rattle.script.specs.Steps.{held, HandSized, directionOf, byOf, Said, Answered, Replied};
 ghost use Rattle.script.specs.Bounds.{answerBytes, wallCells, wallFunctions};
 use calls::By;
@@ -64,21 +64,6 @@ fn say_answer(out: &mut [u8], number: u32, cells: &[u32], functions: &[u32]) -> 
     ensures { λ r. ⌜ Said (answer·line number (now (cells .entry)) (now (functions .entry))) r (now (out .exit)) ⌝ }
 {
     lines::write_answer(out, number, cells, functions)
-}
-
-// The plan of a line that has six numbers.
-fn plan_of(numbers: &[u32]) -> Plan
-    requires { ⌜ 6 ≤ length (now numbers) ⌝ }
-    ensures { λ r. ⌜ r ≡ planOf (now (numbers .entry)) ⌝ }
-{
-    Plan {
-        columns: numbers[0],
-        rows: numbers[1],
-        levels: numbers[2],
-        degree_across: numbers[3],
-        degree_up: numbers[4],
-        class: numbers[5],
-    }
 }
 
 // The functions of a wall that is not large.
@@ -299,7 +284,7 @@ fn obey(
             Done { hand, count }
         }
         Kind::Wall => {
-            let plan = plan_of(numbers);
+            let plan = grid::plan_of(numbers);
             open(hand, plan, cells, functions, &numbers[..0], out)
         }
         _ => change(

@@ -1,5 +1,5 @@
 -- `judge` meets its contract: the head, then the cells. Assumes nothing.
-use mathlib.Core.Path.{_≡_, refl}
+use mathlib.Core.Path.{_≡_}
 use lib.ListN.{length}
 use Rattle.codec.specs.Steps.{AllFound}
 use Rattle.codec.proofs.Steps.{all-found, all-missing}
@@ -55,29 +55,17 @@ returns-2 c =
     let h = c .before .before .before .before in
     file-no-cells (seven (c .before .before .before .before .before .before .before)) (headed h) (cells-missing _ _ _ (c .before .before .read-cells .result) (c .before .before .read-cells .ensures) (c .enum-told2 .given .1))
 
-array-read-t14 : tie.Need-array-read-t14
-array-read-t14 c = search needs
+slice-aggregate-plan-of : tie.Need-slice-aggregate-plan-of
+slice-aggregate-plan-of c = search needs
 
-array-read-t20 : tie.Need-array-read-t20
-array-read-t20 c = search needs
-
-array-read-t23 : tie.Need-array-read-t23
-array-read-t23 c = search needs
-
-array-read-t26 : tie.Need-array-read-t26
-array-read-t26 c = search needs
-
-array-read-t29 : tie.Need-array-read-t29
-array-read-t29 c = search needs
-
-array-read-t32 : tie.Need-array-read-t32
-array-read-t32 c = search needs
+plan-of-requires : tie.Need-plan-of-requires
+plan-of-requires c κs = search needs
 
 returns-3 : tie.Need-returns-3
 returns-3 c =
-    let h = c .before .before .before .before .before in
-    let g = cells-found _ _ _ (c .before .before .before .read-cells .result) (c .before .e .given .0 .0) (c .before .before .before .read-cells .ensures) (c .before .e .given .1) in
-    file-good (seven (c .before .before .before .before .before .before .before .before)) (headed h) g _ refl
+    let r = c .before .before .before .before .before .read-cells in
+    let e = c .before .before .before .e .given in
+    file-good (seven (c .before .before .before .before .before .before .before .before .before .before)) (headed (c .before .before .before .before .before .before .before)) (cells-found _ _ _ (r .result) (e .0 .0) (r .ensures) (e .1)) (c .plan-of .ensures)
 
 pub judge-spec : {M : Type 1} → statement M
 judge-spec =
@@ -93,10 +81,6 @@ judge-spec =
     enum-known-e
     enum-told-2
     returns-2
-    array-read-t14
-    array-read-t20
-    array-read-t23
-    array-read-t26
-    array-read-t29
-    array-read-t32
+    slice-aggregate-plan-of
+    plan-of-requires
     returns-3)

@@ -17,8 +17,8 @@ use Rattle.tables.proofs.refusal.Reads as refusal-reads
 judge-requires : tie.Need-judge-requires
 judge-requires c κs = search needs
 
-enum-known-heading : tie.Need-enum-known-heading
-enum-known-heading c = search needs
+enum-known-outline : tie.Need-enum-known-outline
+enum-known-outline c = search needs
 
 enum-told : tie.Need-enum-told
 enum-told c = search needs
@@ -33,10 +33,10 @@ returns c =
     read-bad (a .file .now) (a .cells .now) (a .functions .now) (c .no-plan .result) (judged-bad (a .file .now) (j .result) (j .ensures) (c .before .enum-told .given .1)) (c .no-plan .ensures)
 
 -- a file that can be read
-good : (c : tie.After-heading) → GoodFile (c .before .before .before .before .before .before .args .file .now) (c .heading .given .0 .0)
+good : (c : tie.After-outline) → GoodFile (c .before .before .before .before .before .before .args .file .now) (c .outline .given .0 .0)
 good c =
     let j = c .before .before .judge in
-    judged-good _ (j .result) (c .heading .given .0 .0) (j .ensures) (c .heading .given .1)
+    judged-good _ (j .result) (c .outline .given .0 .0) (j .ensures) (c .outline .given .1)
 
 refusal-requires : tie.Need-refusal-requires
 refusal-requires c κs = search needs
@@ -54,7 +54,7 @@ returns-2 : tie.Need-returns-2
 returns-2 c =
     let a = c .before .before .before .before .before .before .before .before .before .before .before .before .before .args in
     let h = c .before .before .before .before .before .before .before in
-    read-early (a .file .now) (h .heading .given .0 .0) (good h) (a .cells .now) (a .functions .now) _ (c .refuse .result) (c .before .before .refusal .ensures) (c .before .if1 .taken) (c .refuse .ensures)
+    read-early (a .file .now) (h .outline .given .0 .0) (good h) (a .cells .now) (a .functions .now) _ (c .refuse .result) (c .before .before .refusal .ensures) (c .before .if1 .taken) (c .refuse .ensures)
 
 restore-requires : tie.Need-restore-requires
 restore-requires c κs =
@@ -74,7 +74,7 @@ read-spec =
     tie.close
     (tie.spec
     judge-requires
-    enum-known-heading
+    enum-known-outline
     enum-told
     no-plan-requires
     returns

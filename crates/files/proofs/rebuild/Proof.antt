@@ -23,7 +23,7 @@ returns c =
     let s = c .before .before .before .before .before .before .before .before .before .before in
     let a = s .args in
     let m = c .before .before .before .before .before .before .mark-cells in
-    c .before .before .complete .ensures ∙ rebuilt-is (a .file .now) (a .heading) (s .pre .0) (a .heading .plan) (a .table .now) _ (s .pre .1 .0) (s .pre .1 .1 .1) (m .ensures)
+    c .before .before .complete .ensures ∙ rebuilt-is (a .file .now) (a .outline) (s .pre .0) (a .outline .plan) (a .table .now) _ (s .pre .1 .0) (s .pre .1 .1 .1) (m .ensures)
 
 pub rebuild-spec : {M : Type 1} → statement M
 rebuild-spec = tie.close (tie.spec mark-cells-requires complete-requires same-length returns)

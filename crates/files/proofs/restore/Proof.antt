@@ -24,8 +24,8 @@ use Rattle.grid.proofs.Plan.cell_total.Reads as cell-total-reads
 use Rattle.labels.proofs.write_labels.Reads as write-labels-reads
 
 -- what refusals 1 to 3 leave
-fits : (c : tie.Start) → Passed (c .args .heading .plan) (c .args .cells .now) (c .args .functions .now)
-fits c = passed (c .args .heading .plan) (c .args .cells .now) (c .args .functions .now) (c .pre .1)
+fits : (c : tie.Start) → Passed (c .args .outline .plan) (c .args .cells .now) (c .args .functions .now)
+fits c = passed (c .args .outline .plan) (c .args .cells .now) (c .args .functions .now) (c .pre .1)
 
 cell-total-requires : tie.Need-cell-total-requires
 cell-total-requires c κs = fits (c .before .before .before .before) .range
@@ -37,7 +37,7 @@ returns : tie.Need-returns
 returns c =
     let s = c .before .before .before .before .before .before .before in
     let a = s .args in
-    read-beyond (a .file .now) (a .heading) (s .pre .0) (a .cells .now) (a .functions .now) (s .pre .1) (omega (arith, c .before .before .cell-total .ensures, c .if1 .taken))
+    read-beyond (a .file .now) (a .outline) (s .pre .0) (a .cells .now) (a .functions .now) (s .pre .1) (omega (arith, c .before .before .cell-total .ensures, c .if1 .taken))
 
 array-borrow-prefix-room : tie.Need-array-borrow-prefix-room
 array-borrow-prefix-room c = omega (arith, c .before .before .cell-total .ensures, fits (c .before .before .before .before .before .before .before) .small)
@@ -50,34 +50,34 @@ rebuild-requires c κs =
     let s = c .before .before .before .before .before .before .before .before .before in
     let t = c .before .before .before .before .cell-total in
     let l = part-length mostCells (t .result) (t .ensures) (fits s .small) in
-    (s .pre .0, (omega (arith, c .before .before .if1 .left, t .ensures, l), (record { range = fits s .range; small = fits s .small; size = l }, clear mostCells (t .result))))
+    (s .pre .0, (omega (arith, c .before .before .if1 .left, t .ensures, l), (record { range = fits s .range; size = l }, clear mostCells (t .result))))
 
 table-refusal-requires : tie.Need-table-refusal-requires
 table-refusal-requires c κs =
     let s = c .before .before .before .before .before .before .before .before .before .before .before .before .before .before in
-    record { range = fits s .range; small = fits s .small; size = ap length (c .before .before .before .before .rebuild .ensures) ∙ rebuilt-size (s .args .heading .plan) _ }
+    (record { range = fits s .range; size = ap length (c .before .before .before .before .rebuild .ensures) ∙ rebuilt-size (s .args .outline .plan) _ }, fits s .small)
 
 -- the rebuilt table decides
 decided : (c : tie.After-table-refusal) → let a = c .before .before .before .before .before .before .before .before .before .before .before .before .before .before .before .args in
-    c .table-refusal .result ≡ tableRefusal (a .heading .plan) (rebuilt (a .heading .plan) (cellsOf (a .file .now) (a .heading))) (eqb (a .heading .end) (length (a .file .now)))
+    c .table-refusal .result ≡ tableRefusal (a .outline .plan) (rebuilt (a .outline .plan) (cellsOf (a .file .now) (a .outline))) (eqb (a .outline .end) (length (a .file .now)))
 decided c =
     let a = c .before .before .before .before .before .before .before .before .before .before .before .before .before .before .before .args in
-    c .table-refusal .ensures ∙ ap (λ (t : List ℕ). tableRefusal (a .heading .plan) t (eqb (a .heading .end) (length (a .file .now)))) (c .before .before .before .before .before .rebuild .ensures)
+    c .table-refusal .ensures ∙ ap (λ (t : List ℕ). tableRefusal (a .outline .plan) t (eqb (a .outline .end) (length (a .file .now)))) (c .before .before .before .before .before .rebuild .ensures)
 
-inside : (c : tie.After-table-refusal) → c .before .before .before .before .before .before .before .before .before .before .before .before .before .before .before .args .heading .last < cellTotal (c .before .before .before .before .before .before .before .before .before .before .before .before .before .before .before .args .heading .plan)
+inside : (c : tie.After-table-refusal) → c .before .before .before .before .before .before .before .before .before .before .before .before .before .before .before .args .outline .last < cellTotal (c .before .before .before .before .before .before .before .before .before .before .before .before .before .before .before .args .outline .plan)
 inside c = omega (arith, c .before .before .before .before .before .before .before .before .if1 .left, c .before .before .before .before .before .before .before .before .before .before .cell-total .ensures)
 
 copy-bytes-requires : tie.Need-copy-bytes-requires
 copy-bytes-requires c κs =
     let s = c .before .before .before .before .before .before .before .before .before .before .before .before .before .before .before .before .before .before in
-    fits s .cells ∙ sym (ap length (c .before .before .before .before .before .before .before .before .rebuild .ensures) ∙ rebuilt-size (s .args .heading .plan) _)
+    fits s .cells ∙ sym (ap length (c .before .before .before .before .before .before .before .before .rebuild .ensures) ∙ rebuilt-size (s .args .outline .plan) _)
 
 write-labels-requires : tie.Need-write-labels-requires
 write-labels-requires c κs =
     let s = c .before .before .before .before .before .before .before .before .before .before .before .before .before .before .before .before .before .before .before .before .before .before .before .before in
     let a = s .args in
     let t = c .before .before .before .before .before .before .before .before .before in (
-      mesh-table (a .file .now) (a .heading) (s .pre .0) (a .cells .now) (a .functions .now) (s .pre .1) (inside t) _ _ refl (decided t) (c .before .before .before .before .before .before .before .before .if2 .taken) _
+      mesh-table (a .file .now) (a .outline) (s .pre .0) (a .cells .now) (a .functions .now) (s .pre .1) (inside t) _ _ refl (decided t) (c .before .before .before .before .before .before .before .before .if2 .taken) _
           (c .before .before .before .before .before .copy-bytes .ensures ∙ c .before .before .before .before .before .before .before .before .before .before .before .before .before .before .rebuild .ensures),
       (fits s .functions, fits s .small),
     )
@@ -93,7 +93,7 @@ returns-2 c =
     let s = c .before .before .before .before .before .before .before .before .before .before .before .before .before .before .before .before .before .before .before .before .before .before .before .before .before .before .before in
     let a = s .args in
     let t = c .before .before .before .before .before .before .before .before .before .before .before .before in
-    read-done (a .file .now) (a .heading) (s .pre .0) (a .cells .now) (a .functions .now) (s .pre .1) (inside t) _ _ refl (decided t) (c .before .before .before .before .before .before .before .before .before .before .before .if2 .taken) _ _
+    read-done (a .file .now) (a .outline) (s .pre .0) (a .cells .now) (a .functions .now) (s .pre .1) (inside t) _ _ refl (decided t) (c .before .before .before .before .before .before .before .before .before .before .before .if2 .taken) _ _
     (c .before .before .before .before .before .before .before .before .copy-bytes .ensures ∙ c .before .before .before .before .before .before .before .before .before .before .before .before .before .before .before .before .before .rebuild .ensures) (c .before .before .write-labels .ensures)
 
 returns-3 : tie.Need-returns-3
@@ -101,7 +101,7 @@ returns-3 c =
     let s = c .before .before .before .before .before .before .before .before .before .before .before .before .before .before .before .before .before in
     let a = s .args in
     let t = c .before .before in
-    read-refused (a .file .now) (a .heading) (s .pre .0) (a .cells .now) (a .functions .now) (s .pre .1) (inside t) _ _ refl (decided t) (c .before .if2 .left)
+    read-refused (a .file .now) (a .outline) (s .pre .0) (a .cells .now) (a .functions .now) (s .pre .1) (inside t) _ _ refl (decided t) (c .before .if2 .left)
 
 pub restore-spec : {M : Type 1} → statement M
 restore-spec =

@@ -15,7 +15,7 @@ is-mesh-requires c κs = search needs
 is-admissible-requires : tie.Need-is-admissible-requires
 is-admissible-requires c κs =
     let s = c .before .before .before in
-    (record { sized = record { range = s .pre .range; size = s .pre .size }; mesh = sym (c .before .is-mesh .ensures) ∙ c .if1 .taken }, s .pre .small)
+    (record { sized = s .pre .0; mesh = sym (c .before .is-mesh .ensures) ∙ c .if1 .taken }, s .pre .1)
 
 returns : tie.Need-returns
 returns c = with-none _ _ _ (sym (c .before .before .before .before .is-mesh .ensures) ∙ c .before .before .before .if1 .taken) (sym (c .before .before .is-admissible .ensures) ∙ c .before .if2 .taken) (c .if3 .taken)

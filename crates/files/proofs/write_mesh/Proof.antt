@@ -32,11 +32,11 @@ cast-inner c = search needs
 slice-aggregate-coarse : tie.Need-slice-aggregate-coarse
 slice-aggregate-coarse c =
     let s = c .before .before .before .before .before in
-    sym (length-take-le (c .before .cell-offset .result) (s .args .cells .now) (omega (arith, coarser-fits (s .args .plan) (s .args .cells .now) (s .pre), c .before .cell-offset .ensures)))
+    sym (length-take-le (c .before .cell-offset .result) (s .args .cells .now) (omega (arith, coarser-fits (s .args .plan) (s .args .cells .now) (s .pre .0), c .before .cell-offset .ensures)))
 
 -- what is read of the table has all refined cells
 part : (c : tie.After-cell-offset) → let a = c .before .before .before .before .args in Part (a .plan) (a .cells .now) (take (c .cell-offset .result) (a .cells .now))
-part c = let s = c .before .before .before .before in coarse (s .args .plan) (s .args .cells .now) (s .pre) (c .cell-offset .result) (c .cell-offset .ensures)
+part c = let s = c .before .before .before .before in coarse (s .args .plan) (s .args .cells .now) (s .pre .0) (s .pre .1) (c .cell-offset .result) (c .cell-offset .ensures)
 
 measure-requires : tie.Need-measure-requires
 measure-requires c κs = omega (arith, part (c .before) .small)

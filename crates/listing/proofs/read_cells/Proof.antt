@@ -17,7 +17,7 @@ use Rattle.codec.proofs.read.Reads as read-reads
 
 abbrev Inv-loop : tie.InvT-loop
 Inv-loop s from count cell last₀ at₀ left₀ last at left =
-    (judgeBehind left₀ last₀ (drop at₀ s) ≡ judgeBehind left last (drop at s)) × (at₀ ≤ at) × (at ≤ length s)
+    (judgeBehind left₀ last₀ (drop at₀ s) ≡ judgeBehind left last (drop at s)) × (at ≤ length s)
     × (last + numberLimit * left < numberLimit * count)
 
 abbrev μ-loop : tie.MeasureT-loop
@@ -72,7 +72,7 @@ sub-left c =
 loop-holds : tie.Need-loop-holds Inv-loop μ-loop
 loop-holds c =
     let f = begun c in
-    (refl, omega arith, f .inside, omega (arith, f .small))
+    (refl, f .inside, omega (arith, f .small))
 
 read-requires-2 : tie.Need-read-requires-2 Inv-loop μ-loop
 read-requires-2 c κs =
@@ -125,7 +125,7 @@ loop-again c =
     let a = c .before .before .before .before .before .before .before .before .before .before .before .before .before .args in
     let l = c .before .before .before .before .before .before .loop in
     let g = more (c .before) in
-    (l .inv .0 ∙ judge-more g (l .left) (l .last) (omega arith) (c .if2 .left), omega (arith, g .forward), g .inside, omega (arith, g .small))
+    (l .inv .0 ∙ judge-more g (l .left) (l .last) (omega arith) (c .if2 .left), g .inside, omega (arith, g .small))
 
 returns-5 : tie.Need-returns-5 Inv-loop μ-loop
 returns-5 c =
@@ -134,8 +134,7 @@ returns-5 c =
     let f = begun (c .before .before) in
     record {
       reads = cells-begin (a .count) (a .count - 1) (omega arith) f ∙ l .inv .0 ∙ judge-end (l .left) (l .last) _ (c .loop-test .left);
-      forward = omega (arith, f .forward);
-      inside = l .inv .2;
+      inside = l .inv .1;
     }
 
 pub read-cells-spec : {M : Type 1} → statement M
