@@ -47,7 +47,7 @@ module _ (p : Plan) (range : InRange p) (cells : List ℕ) (mesh : T (isMesh p c
     pub cell-place : (k : ℕ) → k < p .levels → cellPlace p (cell k) ≡ cellOver p k y x
     cell-place k b = cell-place-number p range _ (over-in p k b y x pt)
 
-    cell-level : (k : ℕ) → k < p .levels → cellLevel p (cell k) ≡ k
+    pub cell-level : (k : ℕ) → k < p .levels → cellLevel p (cell k) ≡ k
     unfolding cellOver
     cell-level k b = ap (λ (c : Place). c .level) (cell-place k b)
 
@@ -71,10 +71,10 @@ module _ (p : Plan) (range : InRange p) (cells : List ℕ) (mesh : T (isMesh p c
     pub region-shrinks : (k : ℕ) → k < p .levels → T (inRegion p cells (suc k) y x) → T (inRegion p cells k y x)
     region-shrinks k b t = rw (region-present k b) (refined-present cells (cell k) (rw (region-refined k) at t))
 
-    pub region-within : (n k : ℕ) → n ≤ k → k < p .levels → T (inRegion p cells (suc k) y x) → T (inRegion p cells (suc n) y x)
+    pub region-within : (n k : ℕ) → n ≤ k → k ≤ p .levels → T (inRegion p cells k y x) → T (inRegion p cells n y x)
     region-within n zero l b t = let e : n ≡ 0 = omega arith in rw e t
     region-within n (suc k) l b t = ⊎-elim (λ e. rw e t)
-        (λ h. region-within n k (le-of-suc-le-suc h) (omega arith) (region-shrinks (suc k) b t)) (eq-or-lt-of-le l)
+        (λ h. region-within n k (le-of-suc-le-suc h) (omega arith) (region-shrinks k b t)) (eq-or-lt-of-le l)
 
     -- Ω_L = ∅
     pub region-empty : (k : ℕ) → suc k ≡ p .levels → ¬ T (inRegion p cells (suc k) y x)
@@ -105,7 +105,7 @@ module _ (p : Plan) (range : InRange p) (cells : List ℕ) (mesh : T (isMesh p c
         every-i _ _ (λ y l. every-i _ _ (λ x m. implies-i (inSupport p f y x) _ (h y x (record { row< = l; column< = m }))))
 
     pub inside-within : (n k : ℕ) → n ≤ k → k < p .levels → T (insideRegion p cells f (suc k)) → T (insideRegion p cells f (suc n))
-    inside-within n k l m t = inside-i (suc n) (λ y x pt s. region-within y x pt n k l m (inside-e (suc k) t y x pt s))
+    inside-within n k l m t = inside-i (suc n) (λ y x pt s. region-within y x pt (suc n) (suc k) (omega arith) m (inside-e (suc k) t y x pt s))
 
     -- no support lies in an empty region
     pub never-inside : (k : ℕ) → ((y x : ℕ) → Point p y x → ¬ T (inRegion p cells k y x)) → ¬ T (insideRegion p cells f k)

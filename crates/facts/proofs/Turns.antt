@@ -3,7 +3,7 @@
 use mathlib.Core.Path.{_≡_, refl, sym, ap, subst, _∙_}
 use mathlib.Core.Bool.{Bool, true, false, _||_, cond, or-false}
 use mathlib.Core.List.{List, [], _∷_, _++_, append-nil}
-use Prim.Native.Nat.{ℕ, zero, suc, _+_, _-_, _≤_, _<_}
+use Prim.Native.Nat.{ℕ, zero, suc, min, _+_, _-_, _≤_, _<_}
 use native.Mathlib.Nat.{le-of-eq, le-trans, le-of-suc-le-suc, not-suc-le-zero, add-zero, add-sub-of-le}
 use native.Mathlib.Numerals.{add-one}
 use native.Mathlib.Omega.{arith}
@@ -12,7 +12,7 @@ use lib.ListN.{length, getD, take, drop, set, length-append, length-set, drop-of
 use lib.Seq.{take-suc, take-suc-set, take-all, drop-cons, set-at, append-snoc, getD-set-same, getD-set-other}
 use borrow.Author.Tests.{eq-eqb, ne-eqb}
 use Rattle.facts.specs.Numbers.{elem, listed, tabulate, first}
-use Rattle.facts.proofs.Tests.{cases, differ, or-l, or-r, T-true}
+use Rattle.facts.proofs.Tests.{cases, differ, or-l, or-r, T-true, true-T}
 use Rattle.facts.proofs.Numbers.{elem-append, length-tabulate, getD-tabulate, tabulate-is}
 
 -- ---- a copy from the front
@@ -83,13 +83,17 @@ module _ (p : ℕ → Bool) where
   pub listed-le : (i m : ℕ) → i ≤ m → length (listed i p) ≤ length (listed m p)
   listed-le i m h = subst (λ (j : ℕ). length (listed i p) ≤ length (listed j p)) (add-sub-of-le h) (up i (m - i))
 
-  pub listed-short : (n : ℕ) → length (listed n p) ≤ n
-  listed-short zero = le-of-eq (ap length listed-none)
-  listed-short (suc n) = go (p n) refl (listed-short n)
+  -- where all that pass lie from lo to below hi, there are no more of them than that
+  pub listed-between : (lo hi n : ℕ) → ((i : ℕ) → i < n → T (p i) → (lo ≤ i) × (i < hi)) → length (listed n p) ≤ min n hi - lo
+  listed-between lo hi zero h = omega (arith, ap length listed-none)
+  listed-between lo hi (suc n) h = rw add-one at (go (p n) refl (listed-between lo hi n (λ i l. h i (omega arith))))
     where
-      go : (b : Bool) → p n ≡ b → length (listed n p) ≤ n → length (listed (suc n) p) ≤ suc n
-      go true e h = rw add-one at (let z : length (listed (n + 1) p) ≤ n + 1 = omega (arith, listed-longer n e) in z)
-      go false e h = rw add-one at (let z : length (listed (n + 1) p) ≤ n + 1 = omega (arith, ap length (listed-no n e)) in z)
+      go : (b : Bool) → p n ≡ b → length (listed n p) ≤ min n hi - lo → length (listed (n + 1) p) ≤ min (n + 1) hi - lo
+      go true e r = let (from, to) = h n (omega arith) (true-T (p n) e) in omega (arith, listed-longer n e)
+      go false e r = omega (arith, ap length (listed-no n e))
+
+  pub listed-short : (n : ℕ) → length (listed n p) ≤ n
+  listed-short n = omega (arith, listed-between 0 n n (λ i l t. (omega arith, l)))
 
   -- one more number is written behind those that are there
   pub listed-write : (ls ls₀ : List ℕ) (n i : ℕ) → n ≡ length (listed i p) → ls ≡ listed i p ++ drop n ls₀ → n < length ls₀

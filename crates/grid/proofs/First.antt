@@ -3,23 +3,27 @@
 -- have a cell at its first functions' place are read by these laws alone. Assumes nothing.
 use Prim.Native.Nat.{ℕ, _+_, _<_, _≤_}
 use native.Mathlib.Omega.{arith}
-use mathlib.Core.Path.{_≡_}
+use mathlib.Core.Path.{_≡_, sym, _∙_}
 use lib.Dec.{T}
 use Rattle.grid.specs.declared.Plan.{Plan}
 use Rattle.grid.specs.declared.Place.{Place}
 use Rattle.grid.specs.declared.Side.{Side}
-use Rattle.grid.specs.Plan.{cellTotal, cellPlace, cellLevel, functionPlace, acrossAt, upAt, supported, near}
+use Rattle.grid.specs.Plan.{cellTotal, cellPlace, cellNumber, cellLevel, functionPlace, CellInside, acrossAt, upAt, supported, near}
 use Rattle.grid.specs.Range.{InRange, HasNeighbourhood}
 use Rattle.grid.specs.Spans.{ancestorOf}
 use Rattle.grid.specs.Side.{firstOver}
 use Rattle.grid.proofs.Direction.{Apart}
-use Rattle.grid.proofs.Laws.{near-places, near-of}
-use Rattle.grid.proofs.Spans.{supported-places, supported-of}
+use Rattle.grid.proofs.Laws.{cell-inside, cell-number-lt, cell-place-number, near-places, near-of}
+use Rattle.grid.proofs.Spans.{supported-places, supported-of, ancestor-in}
 
 -- function i is over column x
 pub record Over (s : Side) (i x : ℕ) : Type 0 where
   pub from : firstOver s x ≤ i
   pub to : i ≤ firstOver s x + s .degree
+
+-- columns under one function have first functions at most the degree apart
+common : (s : Side) (i x z : ℕ) → Over s i x → Over s i z → Apart (s .degree) (firstOver s x) (firstOver s z)
+common s i x z a b = record { right = omega (arith, a .from, b .to); left = omega (arith, b .from, a .to) }
 
 -- a function at f is over the cell at c
 pub record Under (p : Plan) (f c : Place) : Type 0 where
@@ -66,3 +70,18 @@ module _ (p : Plan) (range : InRange p) where
     around-near b h a =
         let e = a .level in
         near-of p range q c b (record { graded = h .class≢; levels = omega (arith, h .level≥, h .class≢); columns = a .columns; rows = a .rows })
+
+  -- a function over both a cell and the ancestor of q makes that cell near q: neighbourhoods are wide enough for supports
+  pub near-of-common : (f q c : ℕ) → q < cellTotal p → c < cellTotal p → HasNeighbourhood p (cellLevel p q)
+      → T (supported p f (cellNumber p (ancestorOf p (cellPlace p q)))) → T (supported p f c) → T (near p q c)
+  near-of-common f q c i j has t u =
+      let a : Place = ancestorOf p (cellPlace p q) in
+      let b : CellInside p a = ancestor-in p (cellPlace p q) has (cell-inside p range q i) in
+      let n : Under p (functionPlace p f) a = rw (cell-place-number p range a b) at (supported-under f (cellNumber p a) (cell-number-lt p range a b) t) in
+      let m : Under p (functionPlace p f) (cellPlace p c) = supported-under f c j u in
+      let e : a .level ≡ cellLevel p c = sym (n .level) ∙ m .level in
+      around-near q c j has (record {
+        level = e;
+        columns = common _ _ _ _ (m .columns) (rw e at (n .columns));
+        rows = common _ _ _ _ (m .rows) (rw e at (n .rows));
+      })

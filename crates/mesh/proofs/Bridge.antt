@@ -9,7 +9,7 @@ use lib.Dec.{T, eqb, eqb→eq, leb, leb→le, le→leb, ltb, ltb→lt, nltb→le
 use lib.ListN.{length, getD, List·getD-eq-default}
 use Rattle.facts.specs.Bounded.{implies, some, every}
 use Rattle.facts.proofs.Tests.{and-i, and-l, and-r, or-l, or-r, or-e, not-i, not-e, cases, same, positive, differ, eqb-of, T-true, T-false, implies-i, implies-e}
-use Rattle.facts.proofs.Bounded.{every-i, every-e, some-e}
+use Rattle.facts.proofs.Bounded.{every-i, every-e, some-i, some-e}
 use Rattle.facts.proofs.Numbers.{length-tabulate, getD-tabulate, tabulate-is}
 use Rattle.hierarchy.specs.Hierarchy.{Cells}
 use Rattle.hierarchy.proofs.Sets as sets
@@ -435,7 +435,12 @@ module _ (p : Plan) (cs : List ℕ) (f : ℕ) where
   pub deactivated-i : ((c : ℕ) → c < cellTotal p → T (supported p f c) → T (refined cs c)) → T (eqb (labelOf p cs f) 2)
   deactivated-i h = subst T (sym deactivated-is) (every-i (cellTotal p) _ (λ c i. implies-i (supported p f c) (refined cs c) (h c i)))
 
--- they only grow with the refined cells
+  -- and passive where one of them is absent
+  pub passive-i : (c : ℕ) → c < cellTotal p → T (supported p f c) → T (absent cs c) → labelOf p cs f ≡ 0
+  unfolding labelOf
+  passive-i c i s a = rw (T-true some-absent (some-i (cellTotal p) (λ c. supported p f c && absent cs c) c i (and-i (supported p f c) (absent cs c) s a))) refl
+
+-- deactivated functions only grow with the refined cells
 pub deactivated-grow : (p : Plan) (old new : List ℕ) → ((c : ℕ) → c < cellTotal p → T (refined old c) → T (refined new c))
     → (f : ℕ) → f < functionTotal p → T (deactivated (labels p old) f) → T (deactivated (labels p new) f)
 unfolding refined

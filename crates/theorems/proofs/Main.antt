@@ -2,6 +2,7 @@
 use mathlib.Core.Path.{_≡_}
 use mathlib.Core.List.{List}
 use Prim.Native.Nat.{ℕ, _-_, _*_, _^_, _<_}
+use native.Mathlib.Omega.{arith}
 use lib.Dec.{eqb, eqb→eq}
 use lib.ListN.{getD}
 use Rattle.facts.proofs.Tests.{cases, not-e, eqb-of, T-true, T-false}
@@ -17,6 +18,7 @@ use Rattle.outcomes.proofs.UndoByCells.{undone-by-cells}
 use Rattle.outcomes.proofs.UndoByFunctions.{undone-by-functions}
 use Rattle.basis.specs.Basis.{Published}
 use Rattle.basis.proofs.Published.{checked-published}
+use Rattle.basis.proofs.FewLevels.{few-levels}
 use Rattle.theorems.specs.Main.{Main}
 use Rattle.theorems.proofs.Repeats.{call-repeats, call-reordered}
 
@@ -43,6 +45,7 @@ main = record {
   undoneByFunctions = undone-by-functions;
   area = count-area;
   opened = opened-checked;
+  fewLevels = λ p cs fs checked classed. few-levels p cs fs checked (omega (arith, classed));
   repeats = call-repeats;
   reordered = call-reordered;
 }

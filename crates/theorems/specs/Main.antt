@@ -1,4 +1,4 @@
--- The final theorems on one page, in the order of the mission's demands, with its words and those of document 01. proofs/Main.antt
+-- The final theorems on one page, in the order of the mission's demands, with its words and those of documents 01 and 02. proofs/Main.antt
 -- proves the record `Main`. They are about the definitions that the contracts of the exported calls cite: each call's answer, tables and
 -- lists equal `outcome` (crate outcomes, specs/Calls.antt), and open, check and count equal `openMesh`, `check` and `count` (crate mesh).
 use mathlib.Core.Path.{_≡_}
@@ -16,6 +16,7 @@ use Rattle.outcomes.specs.Calls.{Direction, By, cells, functions, Outcome, refu
 use Rattle.outcomes.specs.Demands.{Accepted, Refused}
 use Rattle.outcomes.specs.Runs.{Tables, LentLists, Call, log, backwards, LongEnough, Undone, covered, RefinesByFunctions}
 use Rattle.basis.specs.Basis.{Published}
+use Rattle.basis.specs.Levels.{FewLevels}
 
 -- ---- marks that repeat
 
@@ -70,6 +71,9 @@ pub record Main : Type 0 where
   -- Demand 3 begins with a "wall that check passes": one that was opened is such a wall, for every plan that open does not refuse
   pub opened : (p : Plan) (cs fs : List ℕ) → openMesh p cs fs .number ≡ 0
       → check p (openMesh p cs fs .cells) (openMesh p cs fs .functions) ≡ 0
+  -- Document 02, Req 02: "For a graded wall, show that the active functions over an active cell of level k all have levels from k-m+1
+  -- to k". Graded: check passes, with a class other than 0; so it is after every accepted call (`acceptedCall`, `.checked`)
+  pub fewLevels : (p : Plan) (cs fs : List ℕ) → check p cs fs ≡ 0 → p .class ≢ 0 → FewLevels p cs fs
   -- Document 01: "Marks may repeat; repeats mean one mark": each mark once, where it stands first, has the same outcome
   pub repeats : (d : Direction) (by : By) (p : Plan) (cs fs marks cl fl : List ℕ)
       → outcome d by p cs fs (once marks) cl fl ≡ outcome d by p cs fs marks cl fl
