@@ -19,20 +19,15 @@ use Rattle.grid.specs.Spans.{nearLevel, ancestorOf}
 use Rattle.grid.proofs.Laws.{cell-inside, function-inside}
 use Rattle.grid.proofs.First.{near-of-common}
 use Rattle.mesh.specs.Mesh.{absent, active, refined, isMesh, labelOf, check}
-use Rattle.mesh.proofs.Bridge.{Good, check-good, getD-labels, is-mesh, deactivated-i, passive-i}
+use Rattle.mesh.proofs.Bridge.{Good, check-good, getD-labels, is-mesh, apart-bytes, deactivated-i, passive-i}
 use Rattle.basis.specs.Basis.{finest, cellOver, inSupport, inRegion}
 use Rattle.basis.specs.Levels.{inCell, over, within, levelsOver, FewLevels}
 use Rattle.basis.proofs.Points.{Point, over-ancestor}
 use Rattle.basis.proofs.Regions.{cell-lt, cell-place, cell-level, region-present, region-refined, region-within}
 
--- a byte 1 is neither 0 nor 2
 active-present : (cells : List ℕ) (c : ℕ) → T (active cells c) → T (not (absent cells c))
 unfolding active absent
 active-present cells c t = rw (eqb→eq (getD cells c 0) 1 t) tt
-
-active-unrefined : (cells : List ℕ) (c : ℕ) → T (active cells c) → ¬ T (refined cells c)
-unfolding active refined
-active-unrefined cells c t r = omega (arith, eqb→eq (getD cells c 0) 1 t, eqb→eq (getD cells c 0) 2 r)
 
 -- a point that the support of f and the cell c have in common
 record Common (p : Plan) (f c : ℕ) : Type 0 where
@@ -57,8 +52,8 @@ common p f c t =
 
 -- ---- the label of a function over an active cell, where its level is another
 
-module _ (p : Plan) (cells : List ℕ) (G : Good p cells) (graded : 0 < p .class) (c f : ℕ) (i : c < cellTotal p) (j : f < functionTotal p)
-    (a : T (active cells c)) (o : Common p f c) where
+module _ (p : Plan) (cells : List ℕ) (G : Good p cells) (c f : ℕ) (i : c < cellTotal p) (j : f < functionTotal p) (a : T (active cells c))
+    (o : Common p f c) where
   abbrev range : InRange p
   range = G .range
 
@@ -96,7 +91,7 @@ module _ (p : Plan) (cells : List ℕ) (G : Good p cells) (graded : 0 < p .class
   here = rw (region-present p range cells mesh y x (o .point) k k-lt, o .in-cell) (active-present cells c a)
 
   no-further : ¬ T (inRegion p cells (suc k) y x)
-  no-further t = active-unrefined cells c a (rw (region-refined p range cells mesh y x (o .point) k, o .in-cell) at t)
+  no-further t = apart-bytes p cells G c a (rw (region-refined p range cells mesh y x (o .point) k, o .in-cell) at t)
 
   -- a finer function has no cell there
   finer-passive : k < own → labelOf p cells f ≡ 0
@@ -106,7 +101,7 @@ module _ (p : Plan) (cells : List ℕ) (G : Good p cells) (graded : 0 < p .class
       (rw (region-present p range cells mesh y x (o .point) own own-lt) n)))))
 
   -- q is the cell at the point whose neighbourhood is on the level of f. It is refined, and so are the cells near it, f's among them
-  module _ (h : own + p .class ≤ k) where
+  module _ (graded : 0 < p .class) (h : own + p .class ≤ k) where
     abbrev level : ℕ
     level = own + p .class - 1
 
@@ -152,10 +147,10 @@ module _ (p : Plan) (cells functions : List ℕ) (checked : check p cells functi
 
   module _ (c f : ℕ) (i : c < cellTotal p) (j : f < functionTotal p) (a : T (active cells c)) (t : T (over p f c)) where
     finer : cellLevel p c < functionLevel p f → getD functions f 0 ≡ 0
-    finer l = label f j ∙ finer-passive p cells good graded c f i j a (common p f c t) l
+    finer l = label f j ∙ finer-passive p cells good c f i j a (common p f c t) l
 
     coarser : functionLevel p f + p .class ≤ cellLevel p c → getD functions f 0 ≡ 2
-    coarser l = label f j ∙ coarser-deactivated p cells good graded c f i j a (common p f c t) l
+    coarser l = label f j ∙ coarser-deactivated p cells good c f i j a (common p f c t) graded l
 
     module _ (b : T (active functions f)) where
       one : getD functions f 0 ≡ 1

@@ -228,7 +228,7 @@ module _ (p : Plan) (cs : List ℕ) (G : Good p cs) where
   present-of c i = rw (byte-of c i) (byte-zero (refined cs c) (rooted p (refined cs) c) (rooted-of c i))
 
   -- "joinable" by the bytes of the children and of the set
-  apart-bytes : (c : ℕ) → T (active cs c) → T (refined cs c) → ⊥
+  pub apart-bytes : (c : ℕ) → T (active cs c) → T (refined cs c) → ⊥
   unfolding active refined
   apart-bytes c a r = omega (arith, eqb→eq (getD cs c 0) 1 a, eqb→eq (getD cs c 0) 2 r)
 

@@ -222,6 +222,7 @@ impl Tables {
             Ok(opened) => {
                 assert_eq!(number, 0, "{}", said());
                 (self.cells, self.functions) = opened;
+                self.expect_few_levels(&said);
             }
         }
         cells.expect(&self.cells, "cell table", &said);
@@ -311,6 +312,9 @@ impl Tables {
         functions.expect(&new_functions, "function table", &said);
         lent_file.expect(file, "file", &said);
         *self = Tables { plan, cells: new_cells, functions: new_functions };
+        if number == 0 {
+            self.expect_few_levels(&|| format!("read of {plan:?}"));
+        }
         number
     }
 
@@ -403,6 +407,7 @@ impl Tables {
                 };
                 assert_eq!(answer, accepted, "{}", said());
                 (self.cells, self.functions) = (change.cells, change.functions);
+                self.expect_few_levels(&said);
                 Outcome { number: 0, cells: change.cell_list, functions: change.function_list }
             }
         };
@@ -423,6 +428,28 @@ impl Tables {
         let cell_list = vec![0xdead_beef; self.cells.len()];
         let function_list = vec![0xfeed_f00d; self.functions.len()];
         self.call(kind, marks, &cell_list, &function_list)
+    }
+
+    /// Over each active cell of level k, with a class m other than 0, the active functions have levels
+    /// from k-m+1 to k, at most m of them; those of finer levels are passive and those of coarser ones
+    /// deactivated. For tables that check passes; `said` tells what left them.
+    fn expect_few_levels(&self, said: &dyn Fn() -> String) {
+        let class = self.plan.class;
+        if class == 0 {
+            return;
+        }
+        for over in model::over_active_cells(self.plan, &self.cells, &self.functions) {
+            let levels_with = |label: u8| {
+                let levels = over.levels[label as usize];
+                (0..self.plan.levels).filter(move |level| levels >> level & 1 == 1)
+            };
+            let k = over.cell.level;
+            let few = levels_with(model::ACTIVE).all(|l| k < l + class && l <= k)
+                && levels_with(model::ACTIVE).count() <= class as usize
+                && levels_with(model::PASSIVE).all(|l| k < l + class)
+                && levels_with(model::DEACTIVATED).all(|l| l <= k);
+            assert!(few, "{over:?} after {}", said());
+        }
     }
 
     /// The marks that the call takes, in rising order. For tables that check passes.

@@ -10,13 +10,7 @@ use std::collections::{BTreeMap, BTreeSet};
 type Region = BTreeSet<(u32, u32)>;
 
 fn region(plan: Plan, cells: impl Iterator<Item = Cell>) -> Region {
-    cells
-        .flat_map(|cell| {
-            let scale = 1 << (plan.levels - 1 - cell.level);
-            let part = move |x: u32| x * scale..(x + 1) * scale;
-            part(cell.row).flat_map(move |row| part(cell.column).map(move |column| (row, column)))
-        })
-        .collect()
+    cells.flat_map(|cell| plan.points(cell)).collect()
 }
 
 fn published_labels(tables: &Tables) -> Vec<u8> {

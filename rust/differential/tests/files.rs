@@ -6,7 +6,7 @@ use differential::{plan, random_plan, random_refined, Kind, Random, Tables};
 use model::file::{number, NO_PLAN};
 use model::{Cell, Plan};
 use std::collections::BTreeSet;
-use wallmirror::{Mesh, ReadRefusal, Refusal, MAX_CELLS, MAX_FUNCTIONS, MAX_FILE_BYTES};
+use wallmirror::{Mesh, ReadRefusal, Refusal, MAX_CELLS, MAX_FILE_BYTES, MAX_FUNCTIONS};
 
 const W0: [u32; 6] = [3, 1, 3, 1, 1, 0];
 const W2: [u32; 6] = [3, 1, 3, 1, 1, 2];

@@ -190,6 +190,14 @@ impl Plan {
             .collect()
     }
 
+    /// The points of a cell. Regions of whole cells of any levels are compared by points: these are
+    /// the cells of the last level's grid, as row and column.
+    pub fn points(self, cell: Cell) -> impl Iterator<Item = (u32, u32)> {
+        let scale = 2u32.pow(self.levels - 1 - cell.level);
+        let part = move |x: u32| x * scale..(x + 1) * scale;
+        part(cell.row).flat_map(move |row| part(cell.column).map(move |column| (row, column)))
+    }
+
     fn ancestor(self, cell: Cell, levels_up: u32) -> Cell {
         (0..levels_up).fold(cell, |cell, _| self.parent(cell).expect("a level above"))
     }
@@ -309,6 +317,37 @@ pub fn smallest(plan: Plan, base: BTreeSet<Cell>) -> BTreeSet<Cell> {
         }
         refined.extend(missing);
     }
+}
+
+/// An active cell and the levels of the functions over it, those whose support has a point of the
+/// cell: `levels[label]` has bit k set where a function of level k with that label is over it.
+#[derive(Clone, Copy, Debug, PartialEq, Eq)]
+pub struct Over {
+    pub cell: Cell,
+    pub levels: [u8; 3],
+}
+
+/// What is over each active cell. For tables that check passes.
+pub fn over_active_cells(plan: Plan, cells: &[u8], functions: &[u8]) -> Vec<Over> {
+    let (rows, columns) = (plan.height(plan.levels - 1), plan.width(plan.levels - 1));
+    let at = |(row, column): (u32, u32)| (row * columns + column) as usize;
+    let mut over_point = vec![[0u8; 3]; (rows * columns) as usize];
+    for (function, &label) in plan.functions().zip(functions) {
+        for point in plan.support(function).flat_map(|cell| plan.points(cell)) {
+            over_point[at(point)][label as usize] |= 1 << function.level;
+        }
+    }
+    let mut over = Vec::new();
+    for (cell, _) in plan.cells().zip(cells).filter(|(_, &byte)| byte == ACTIVE) {
+        let mut levels = [0; 3];
+        for point in plan.points(cell) {
+            for (all, one) in levels.iter_mut().zip(over_point[at(point)]) {
+                *all |= one;
+            }
+        }
+        over.push(Over { cell, levels });
+    }
+    over
 }
 
 // ---- The calls ----
