@@ -23,6 +23,7 @@ bench: all
 pictures:
 	docs/crates.sh > docs/crates.svg
 	docs/mesh.sh > docs/mesh.svg
+	docs/levels.sh > docs/levels.svg
 
 install: all
 	install -d "$(DESTDIR)$(PREFIX)/include" "$(DESTDIR)$(PREFIX)/lib"

@@ -32,6 +32,11 @@
  * row by at most degree_up, from those of its ancestor there. A mesh is admissible where the
  * neighbourhood of every refined cell is refined. In class 0 every mesh is.
  *
+ * Levels over a cell. A function is over a cell where its support and the cell have a point in
+ * common, whatever their levels. In class m, not 0, the active functions over an active cell of
+ * level k all have levels from k - m + 1 to k: who draws or sums them has at most m levels to look
+ * at. Functions of finer levels are passive there, those of coarser ones deactivated.
+ *
  * Undo. Keep the lists of each call, cut to the answered lengths. To take a run of calls back, give
  * the kept cell lists from the last call to the first, as marks, each to the opposite call by
  * cells: wallmirror_coarsen_cells for either refining call, wallmirror_refine_cells for either
