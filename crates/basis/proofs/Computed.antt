@@ -35,7 +35,7 @@ pub worked :
     seen (small 2) (0 ∷ 1 ∷ 3 ∷ []) 15
     ∷ seen (small 2) (0 ∷ 1 ∷ 3 ∷ []) 2
     -- class 3, degrees 2 and 1: of all three
-    ∷ seen (3 ∷ 1 ∷ 4 ∷ 2 ∷ 1 ∷ 3 ∷ []) (0 ∷ 1 ∷ 2 ∷ 3 ∷ 15 ∷ []) 63
+    ∷ seen (1 ∷ 1 ∷ 4 ∷ 2 ∷ 1 ∷ 3 ∷ []) (0 ∷ 1 ∷ 5 ∷ []) 21
     -- W0 with cells 0 and 3 refined, which check takes for class 0 and refuses for class 2: one of level 0 is over cell 15 too
     ∷ seen (small 0) (0 ∷ 3 ∷ []) 15
     ∷ seen (small 2) (0 ∷ 3 ∷ []) 15

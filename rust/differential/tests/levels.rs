@@ -36,9 +36,9 @@ fn worked() {
     assert_eq!(after_p7.check(), 0);
     assert_eq!(levels_over(&after_p7, 15), [1, 2]);
     assert_eq!(levels_over(&after_p7, 2), [0]);
-    let class_3 = refined([3, 1, 4, 2, 1, 3], &[0, 1, 2, 3, 15]);
+    let class_3 = refined([1, 1, 4, 2, 1, 3], &[0, 1, 5]);
     assert_eq!(class_3.check(), 0);
-    assert_eq!(levels_over(&class_3, 63), [1, 2, 3]);
+    assert_eq!(levels_over(&class_3, 21), [1, 2, 3]);
     let mut class_0 = refined([3, 1, 3, 1, 1, 0], &[0, 3]);
     assert_eq!(class_0.check(), 0);
     assert_eq!(levels_over(&class_0, 15), [0, 1, 2]);
