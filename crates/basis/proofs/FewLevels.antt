@@ -6,22 +6,22 @@ use mathlib.Core.Bool.{Bool, not, _&&_}
 use mathlib.Core.List.{List}
 use mathlib.Core.Logic.{_≢_}
 use mathlib.Core.Path.{_≡_, sym, ap, subst, _∙_}
-use lib.Dec.{T, leb, eqb, eqb→eq, le→leb}
+use lib.Dec.{T, eqb, eqb→eq}
 use lib.ListN.{length, getD}
 use Rattle.facts.specs.Bounded.{some}
-use Rattle.facts.proofs.Tests.{and-i, and-l, and-r, cases}
+use Rattle.facts.proofs.Tests.{and-l, and-r, cases}
 use Rattle.facts.proofs.Bounded.{some-e}
 use Rattle.facts.proofs.Turns.{listed-between}
 use Rattle.grid.specs.declared.Plan.{Plan}
-use Rattle.grid.specs.Plan.{between, columnsAt, rowsAt, cellTotal, functionTotal, cellPlace, cellNumber, cellLevel, functionLevel, supported}
+use Rattle.grid.specs.Plan.{columnsAt, rowsAt, cellTotal, functionTotal, cellPlace, cellNumber, cellLevel, functionLevel, supported}
 use Rattle.grid.specs.Range.{InRange, HasNeighbourhood}
 use Rattle.grid.specs.Spans.{nearLevel, ancestorOf}
-use Rattle.grid.proofs.Laws.{cell-inside, function-inside}
+use Rattle.grid.proofs.Laws.{between-i, cell-inside, function-inside}
 use Rattle.grid.proofs.First.{near-of-common}
 use Rattle.mesh.specs.Mesh.{absent, active, refined, isMesh, labelOf, check}
 use Rattle.mesh.proofs.Bridge.{Good, check-good, getD-labels, is-mesh, apart-bytes, deactivated-i, passive-i}
 use Rattle.basis.specs.Basis.{finest, cellOver, inSupport, inRegion}
-use Rattle.basis.specs.Levels.{inCell, over, within, levelsOver, FewLevels}
+use Rattle.basis.specs.Levels.{inCell, over, within, levelsOver, OverActive, FewLevels}
 use Rattle.basis.proofs.Points.{Point, over-ancestor}
 use Rattle.basis.proofs.Regions.{cell-lt, cell-place, cell-level, region-present, region-refined, region-within}
 
@@ -52,13 +52,15 @@ common p f c t =
 
 -- ---- the label of a function over an active cell, where its level is another
 
-module _ (p : Plan) (cells : List ℕ) (G : Good p cells) (c f : ℕ) (i : c < cellTotal p) (j : f < functionTotal p) (a : T (active cells c))
-    (o : Common p f c) where
+module _ (p : Plan) (cells : List ℕ) (G : Good p cells) (c f : ℕ) (h : OverActive p cells c f) where
   abbrev range : InRange p
   range = G .range
 
   abbrev mesh : T (isMesh p cells)
   mesh = is-mesh p cells G
+
+  abbrev o : Common p f c
+  o = common p f c (h .is-over)
 
   abbrev y : ℕ
   y = o .row
@@ -73,10 +75,10 @@ module _ (p : Plan) (cells : List ℕ) (G : Good p cells) (c f : ℕ) (i : c < c
   own = functionLevel p f
 
   k-lt : k < p .levels
-  k-lt = cell-inside p range c i .level<
+  k-lt = cell-inside p range c (h .cell<) .level<
 
   own-lt : own < p .levels
-  own-lt = function-inside p range f j .level<
+  own-lt = function-inside p range f (h .function<) .level<
 
   -- the cell of a level at the point
   abbrev cell : ℕ → ℕ
@@ -88,10 +90,10 @@ module _ (p : Plan) (cells : List ℕ) (G : Good p cells) (c f : ℕ) (i : c < c
 
   -- the point lies in Ω_k and not in Ω_(k+1)
   here : T (inRegion p cells k y x)
-  here = rw (region-present p range cells mesh y x (o .point) k k-lt, o .in-cell) (active-present cells c a)
+  here = rw (region-present p range cells mesh y x (o .point) k k-lt, o .in-cell) (active-present cells c (h .is-active))
 
   no-further : ¬ T (inRegion p cells (suc k) y x)
-  no-further t = apart-bytes p cells G c a (rw (region-refined p range cells mesh y x (o .point) k, o .in-cell) at t)
+  no-further t = apart-bytes p cells G c (h .is-active) (rw (region-refined p range cells mesh y x (o .point) k, o .in-cell) at t)
 
   -- a finer function has no cell there
   finer-passive : k < own → labelOf p cells f ≡ 0
@@ -101,12 +103,12 @@ module _ (p : Plan) (cells : List ℕ) (G : Good p cells) (c f : ℕ) (i : c < c
       (rw (region-present p range cells mesh y x (o .point) own own-lt) n)))))
 
   -- q is the cell at the point whose neighbourhood is on the level of f. It is refined, and so are the cells near it, f's among them
-  module _ (graded : 0 < p .class) (h : own + p .class ≤ k) where
+  module _ (graded : 0 < p .class) (below : own + p .class ≤ k) where
     abbrev level : ℕ
     level = own + p .class - 1
 
     level-lt : level < p .levels
-    level-lt = omega (arith, h, k-lt)
+    level-lt = omega (arith, below, k-lt)
 
     abbrev q : ℕ
     q = cell level
@@ -116,7 +118,7 @@ module _ (p : Plan) (cells : List ℕ) (G : Good p cells) (c f : ℕ) (i : c < c
 
     q-refined : T (refined cells q)
     q-refined = rw (region-refined p range cells mesh y x (o .point) level) at
-        (region-within p range cells mesh y x (o .point) (suc level) k (omega (arith, h)) (omega (arith, k-lt)) here)
+        (region-within p range cells mesh y x (o .point) (suc level) k (omega (arith, below)) (omega (arith, k-lt)) here)
 
     has : HasNeighbourhood p level
     has = record { class≢ = omega (arith, graded); level≥ = omega arith }
@@ -145,12 +147,12 @@ module _ (p : Plan) (cells functions : List ℕ) (checked : check p cells functi
   label : (f : ℕ) → f < functionTotal p → getD functions f 0 ≡ labelOf p cells f
   label f j = ap (λ (fs : List ℕ). getD fs f 0) (check-good p cells functions checked .1) ∙ getD-labels p cells f j
 
-  module _ (c f : ℕ) (i : c < cellTotal p) (j : f < functionTotal p) (a : T (active cells c)) (t : T (over p f c)) where
+  module _ (c f : ℕ) (h : OverActive p cells c f) where
     finer : cellLevel p c < functionLevel p f → getD functions f 0 ≡ 0
-    finer l = label f j ∙ finer-passive p cells good c f i j a (common p f c t) l
+    finer l = label f (h .function<) ∙ finer-passive p cells good c f h l
 
     coarser : functionLevel p f + p .class ≤ cellLevel p c → getD functions f 0 ≡ 2
-    coarser l = label f j ∙ coarser-deactivated p cells good c f i j a (common p f c t) graded l
+    coarser l = label f (h .function<) ∙ coarser-deactivated p cells good c f h graded l
 
     module _ (b : T (active functions f)) where
       one : getD functions f 0 ≡ 1
@@ -164,10 +166,8 @@ module _ (p : Plan) (cells functions : List ℕ) (checked : check p cells functi
       to = let n : ¬ (cellLevel p c < functionLevel p f) = λ l. omega (arith, one, finer l) in omega (arith, n)
 
       is-within : T (within (p .class) (cellLevel p c) (functionLevel p f))
-      unfolding within between
-      is-within = and-i (leb (cellLevel p c + 1 - p .class) (functionLevel p f)) (leb (functionLevel p f) (cellLevel p c))
-          (le→leb (cellLevel p c + 1 - p .class) (functionLevel p f) (omega (arith, from)))
-          (le→leb (functionLevel p f) (cellLevel p c) to)
+      unfolding within
+      is-within = between-i (cellLevel p c + 1 - p .class) (cellLevel p c) (functionLevel p f) (omega (arith, from)) to
 
   module _ (c : ℕ) (i : c < cellTotal p) (a : T (active cells c)) where
     abbrev colour : ℕ → Bool
@@ -179,8 +179,8 @@ module _ (p : Plan) (cells functions : List ℕ) (checked : check p cells functi
         let e : functionLevel p f ≡ l = eqb→eq (functionLevel p f) l (and-l (eqb (functionLevel p f) l) _ u) in
         let v : T (active functions f && over p f c) = and-r (eqb (functionLevel p f) l) _ u in
         let b : T (active functions f) = and-l (active functions f) _ v in
-        let o : T (over p f c) = and-r (active functions f) _ v in
-        (omega (arith, e, from c f i j a o b), omega (arith, e, to c f i j a o b))
+        let h : OverActive p cells c f = record { cell< = i; function< = j; is-active = a; is-over = and-r (active functions f) _ v } in
+        (omega (arith, e, from c f h b), omega (arith, e, to c f h b))
 
     enough : length (levelsOver p functions c) ≤ p .class
     unfolding levelsOver

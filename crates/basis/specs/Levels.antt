@@ -30,15 +30,19 @@ unfoldable pub levelsOver : Plan → List ℕ → ℕ → List ℕ
 levelsOver p functions c =
     listed (p .levels) (λ l. some (functionTotal p) (λ f. eqb (functionLevel p f) l && (active functions f && over p f c)))
 
+-- f is a function over c, an active cell
+pub record OverActive (p : Plan) (cells : List ℕ) (c f : ℕ) : Type 0 where
+  pub cell< : c < cellTotal p
+  pub function< : f < functionTotal p
+  pub is-active : T (active cells c)
+  pub is-over : T (over p f c)
+
 -- What Req 02 claims of a graded wall: of tables that check passes with a class m other than 0
 pub record FewLevels (p : Plan) (cells functions : List ℕ) : Type 0 where
   -- "the active functions over an active cell of level k all have levels from k-m+1 to k"
-  pub levels : (c f : ℕ) → c < cellTotal p → f < functionTotal p → T (active cells c) → T (over p f c) → T (active functions f)
-      → T (within (p .class) (cellLevel p c) (functionLevel p f))
-  -- "and have m pens": each active cell takes no more
+  pub levels : (c f : ℕ) → OverActive p cells c f → T (active functions f) → T (within (p .class) (cellLevel p c) (functionLevel p f))
+  -- "and have m pens": no active cell takes more
   pub pens : (c : ℕ) → c < cellTotal p → T (active cells c) → length (levelsOver p functions c) ≤ p .class
-  -- of the functions over the cell that have other levels, the finer ones are all passive and the coarser ones all deactivated
-  pub finer : (c f : ℕ) → c < cellTotal p → f < functionTotal p → T (active cells c) → T (over p f c)
-      → cellLevel p c < functionLevel p f → getD functions f 0 ≡ 0
-  pub coarser : (c f : ℕ) → c < cellTotal p → f < functionTotal p → T (active cells c) → T (over p f c)
-      → functionLevel p f + p .class ≤ cellLevel p c → getD functions f 0 ≡ 2
+  -- and of the functions over it that have other levels, the finer ones are all passive, the coarser ones all deactivated
+  pub finer : (c f : ℕ) → OverActive p cells c f → cellLevel p c < functionLevel p f → getD functions f 0 ≡ 0
+  pub coarser : (c f : ℕ) → OverActive p cells c f → functionLevel p f + p .class ≤ cellLevel p c → getD functions f 0 ≡ 2

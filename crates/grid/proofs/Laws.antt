@@ -28,7 +28,7 @@ between-high : (lo hi x : ℕ) → T (between lo hi x) → x ≤ hi
 unfolding between
 between-high lo hi x t = leb→le x hi (and-r (leb lo x) (leb x hi) t)
 
-between-i : (lo hi x : ℕ) → lo ≤ x → x ≤ hi → T (between lo hi x)
+pub between-i : (lo hi x : ℕ) → lo ≤ x → x ≤ hi → T (between lo hi x)
 unfolding between
 between-i lo hi x a b = and-i (leb lo x) (leb x hi) (le→leb lo x a) (le→leb x hi b)
 
