@@ -34,8 +34,10 @@
  *
  * Levels over a cell. A function is over a cell where its support and the cell have a point in
  * common, whatever their levels. In class m, not 0, the active functions over an active cell of
- * level k all have levels from k - m + 1 to k: who draws or sums them has at most m levels to look
- * at. Functions of finer levels are passive there, those of coarser ones deactivated.
+ * level k all have levels from k - m + 1 to k. Functions of finer levels are passive there, those
+ * of coarser ones deactivated. So who draws or sums the functions over a cell has at most m levels
+ * to look at, and on each the functions over the cell's ancestor there: degree_across + 1 of them
+ * across, from the ancestor's column on, and degree_up + 1 up, from its row on.
  *
  * Undo. Keep the lists of each call, cut to the answered lengths. To take a run of calls back, give
  * the kept cell lists from the last call to the first, as marks, each to the opposite call by

@@ -59,6 +59,48 @@
 //! the degree up, from those of its ancestor there. A mesh is admissible where the neighbourhood of
 //! every refined cell is refined. In class 0 every mesh is.
 //!
+//! # Levels over a cell
+//!
+//! A function is over a cell where its support and the cell have a point in common, whatever their
+//! levels. In class m, not 0, the active functions over an active cell of level k all have levels
+//! from k - m + 1 to k. Functions of finer levels are passive there, those of coarser ones
+//! deactivated. So who draws or sums the functions over a cell has at most m levels to look at, and
+//! on each the functions over the cell's ancestor there: `degree_across` + 1 of them across, from
+//! the ancestor's column on, and `degree_up` + 1 up, from its row on.
+//!
+//! ```
+//! # use wallmirror::{open, refine_cells, Cell, Function, Plan};
+//! let plan = Plan { columns: 3, rows: 1, levels: 3, degree_across: 1, degree_up: 1, class: 2 };
+//! # let (mut cells, mut functions) = (vec![0; 63], vec![0; 94]);
+//! # let (mut cell_list, mut function_list) = ([Cell(0); 63], [Function(0); 94]);
+//! # open(plan, &mut cells, &mut functions)?;
+//! # for mark in [Cell(0), Cell(3)] {
+//! #     let (cell_list, function_list) = (&mut cell_list, &mut function_list);
+//! #     refine_cells(plan, &mut cells, &mut functions, &[mark], cell_list, function_list)?;
+//! # }
+//! // Cells 0, 1 and 3 are refined. Cell 15 is active, the first of level 2.
+//! let (k, row, column) = (2, 0, 0);
+//! let across = |level| (plan.columns << level) + plan.degree_across;
+//! let up = |level| (plan.rows << level) + plan.degree_up;
+//! let mut active = vec![];
+//! for level in (k + 1u32).saturating_sub(plan.class)..=k {
+//!     let first: u32 = (0..level).map(|level| up(level) * across(level)).sum();
+//!     let (row, column) = (row >> (k - level), column >> (k - level));
+//!     for i in row..=row + plan.degree_up {
+//!         for j in column..=column + plan.degree_across {
+//!             let function = first + i * across(level) + j;
+//!             if functions[function as usize] == 1 {
+//!                 active.push((level, Function(function)));
+//!             }
+//!         }
+//!     }
+//! }
+//! let on_level = |level| active.iter().filter(|f| f.0 == level).map(|f| f.1).collect::<Vec<_>>();
+//! assert_eq!(on_level(1), [Function(9), Function(15), Function(16)]);
+//! assert_eq!(on_level(2), [Function(29), Function(30), Function(42), Function(43)]);
+//! # Ok::<(), wallmirror::Refusal>(())
+//! ```
+//!
 //! # Undo
 //!
 //! A run of calls is undone by its own cell lists, given from the last to the first, each to the
