@@ -23,11 +23,7 @@ use Rattle.mesh.proofs.Bridge.{Good, check-good, getD-labels, is-mesh, apart-by
 use Rattle.basis.specs.Basis.{finest, cellOver, inSupport, inRegion}
 use Rattle.basis.specs.Levels.{inCell, over, within, levelsOver, OverActive, FewLevels}
 use Rattle.basis.proofs.Points.{Point, over-ancestor}
-use Rattle.basis.proofs.Regions.{cell-lt, cell-place, cell-level, region-present, region-refined, region-within}
-
-active-present : (cells : List ℕ) (c : ℕ) → T (active cells c) → T (not (absent cells c))
-unfolding active absent
-active-present cells c t = rw (eqb→eq (getD cells c 0) 1 t) tt
+use Rattle.basis.proofs.Regions.{byte-present, cell-lt, cell-place, cell-level, region-present, region-refined, region-within}
 
 -- a point that the support of f and the cell c have in common
 record Common (p : Plan) (f c : ℕ) : Type 0 where
@@ -90,7 +86,8 @@ module _ (p : Plan) (cells : List ℕ) (G : Good p cells) (c f : ℕ) (h : OverA
 
   -- the point lies in Ω_k and not in Ω_(k+1)
   here : T (inRegion p cells k y x)
-  here = rw (region-present p range cells mesh y x (o .point) k k-lt, o .in-cell) (active-present cells c (h .is-active))
+  unfolding active
+  here = rw (region-present p range cells mesh y x (o .point) k k-lt, o .in-cell) (byte-present cells c 0 (h .is-active))
 
   no-further : ¬ T (inRegion p cells (suc k) y x)
   no-further t = apart-bytes p cells G c (h .is-active) (rw (region-refined p range cells mesh y x (o .point) k, o .in-cell) at t)

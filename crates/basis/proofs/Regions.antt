@@ -7,7 +7,7 @@ use mathlib.Core.Bool.{Bool, not}
 use mathlib.Core.List.{List}
 use mathlib.Core.Logic.{⊎-elim}
 use mathlib.Core.Path.{_≡_, refl, ap, sym}
-use lib.Dec.{T, eqb→eq}
+use lib.Dec.{T, eqb, eqb→eq, eqb·suc-zero}
 use lib.ListN.{getD}
 use Rattle.facts.specs.Bounded.{implies, every}
 use Rattle.facts.proofs.Tests.{implies-i, implies-e, T-true}
@@ -23,9 +23,10 @@ use Rattle.mesh.proofs.Bridge.{mesh-fits}
 use Rattle.basis.specs.Basis.{finest, cellOver, inSupport, inRegion, insideRegion}
 use Rattle.basis.proofs.Points.{Point, over-in, over-above, point-of}
 
-refined-present : (cells : List ℕ) (c : ℕ) → T (refined cells c) → T (not (absent cells c))
-unfolding refined absent
-refined-present cells c t = rw (eqb→eq (getD cells c 0) 2 t) tt
+-- a cell whose byte is not 0 is present
+pub byte-present : (cells : List ℕ) (c b : ℕ) → T (eqb (getD cells c 0) (suc b)) → T (not (absent cells c))
+unfolding absent
+byte-present cells c b t = rw (eqb→eq (getD cells c 0) (suc b) t, eqb·suc-zero b) tt
 
 module _ (p : Plan) (range : InRange p) (cells : List ℕ) (mesh : T (isMesh p cells)) where
   -- a cell is there just where its parent is refined
@@ -69,7 +70,8 @@ module _ (p : Plan) (range : InRange p) (cells : List ℕ) (mesh : T (isMesh p c
 
     -- Ω_(k+1) ⊂ Ω_k
     pub region-shrinks : (k : ℕ) → k < p .levels → T (inRegion p cells (suc k) y x) → T (inRegion p cells k y x)
-    region-shrinks k b t = rw (region-present k b) (refined-present cells (cell k) (rw (region-refined k) at t))
+    unfolding refined
+    region-shrinks k b t = rw (region-present k b) (byte-present cells (cell k) 1 (rw (region-refined k) at t))
 
     pub region-within : (n k : ℕ) → n ≤ k → k ≤ p .levels → T (inRegion p cells k y x) → T (inRegion p cells n y x)
     region-within n zero l b t = let e : n ≡ 0 = omega arith in rw e t

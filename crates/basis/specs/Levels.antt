@@ -1,4 +1,4 @@
--- Document 02, Req 02: from how many levels come the active functions over a cell. Definitions only.
+-- Document 02, Req 02: the levels of the active functions over a cell, and that they are few. Definitions only.
 use mathlib.Core.Bool.{Bool, _&&_}
 use mathlib.Core.List.{List}
 use mathlib.Core.Path.{_≡_}

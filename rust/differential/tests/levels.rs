@@ -46,15 +46,17 @@ fn worked() {
     assert_eq!(class_0.check(), 5);
 }
 
-/// Class by class, all m levels from k-m+1 to k occur, and the first of them is not 0. (With class 8
-/// there is no such mesh: eight levels have one cell on level 0, whose functions are all deactivated
-/// once it is refined.)
+/// Class by class, all m levels from k-m+1 to k occur, and the first of them is not 0. In class 8 there
+/// are seven at most: eight levels leave one cell on level 0, whose functions are all deactivated once
+/// it is refined.
 #[test]
 fn the_bound_is_reached() {
     for class in 2..=7 {
         let (tables, cell) = towards_the_first_cell([1, 1, class + 1, 1, 1, class]);
         assert_eq!(levels_over(&tables, cell), (1..=class).collect::<Vec<_>>());
     }
+    let (tables, cell) = towards_the_first_cell([1, 1, 8, 1, 1, 8]);
+    assert_eq!(levels_over(&tables, cell), [1, 2, 3, 4, 5, 6, 7]);
     for degree in 1..=4 {
         let (tables, cell) = towards_the_first_cell([16, 16, 4, degree, degree, 2]);
         assert_eq!(levels_over(&tables, cell), [2, 3]);
