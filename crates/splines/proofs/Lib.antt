@@ -1,0 +1,10 @@
+pub mod Knots
+pub mod Recursion
+pub mod Three
+pub mod Local
+pub mod Cells
+pub mod Halves
+pub mod Opened
+pub mod Values
+pub mod Sides
+pub mod Located

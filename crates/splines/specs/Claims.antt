@@ -1,0 +1,28 @@
+-- What is claimed of the values at a point of a side. Definitions only.
+use mathlib.Core.Path.{_≡_}
+use mathlib.Core.Bool.{not}
+use Prim.Native.Nat.{ℕ, _*_, _≤_, _<_}
+use lib.Dec.{T}
+use Rattle.facts.specs.Bounded.{sum}
+use Rattle.grid.specs.declared.Side.{Side}
+use Rattle.grid.specs.Plan.{covers}
+use Rattle.grid.specs.Side.{functions}
+use Rattle.splines.specs.Knots.{knotOn}
+use Rattle.splines.specs.Values.{scale, cellOf, value, valueOn}
+
+-- degree 1 or 2, h parts to a cell, x a point up to the far edge
+pub record OnSide (s : Side) (h x : ℕ) : Type 0 where
+  pub cells≥ : 1 ≤ s .cells
+  pub degree≥ : 1 ≤ s .degree
+  pub degree≤ : s .degree ≤ 2
+  pub parts≥ : 1 ≤ h
+  pub point≤ : x ≤ s .cells * h
+
+pub record Values (s : Side) (h x : ℕ) : Type 0 where
+  -- values in common parts are the recursion's, with nothing rounded away
+  pub whole : (i : ℕ) → valueOn s h i x * scale h (s .degree) ≡ value h (s .cells) (s .degree) (knotOn s) i x * (2 * h * h)
+  -- none is above 1, and together they make 1
+  pub most : (i : ℕ) → i < functions s → valueOn s h i x ≤ 2 * h * h
+  pub one : sum (functions s) (λ i. valueOn s h i x) ≡ 2 * h * h
+  -- a function is 0 where it does not cover the point's cell
+  pub outside : (i : ℕ) → i < functions s → T (not (covers (s .cells) (s .degree) i (cellOf h (s .cells) x))) → valueOn s h i x ≡ 0

@@ -1,0 +1,5 @@
+pub mod Knots
+pub mod Values
+pub mod Local
+pub mod Claims
+pub mod Room
