@@ -72,8 +72,8 @@ module _ (s : Side) (h x : ℕ) (on : OnSide s h x) where
   abbrev v : ℕ
   v = suc c * h - x
 
-  pub inside : c < s .cells
-  inside = cell-inside h (s .cells) x (on .cells≥)
+  pub within : c < s .cells
+  within = cell-inside h (s .cells) x (on .cells≥)
 
   -- the first function over the point's cell
   abbrev f : ℕ
@@ -81,7 +81,7 @@ module _ (s : Side) (h x : ℕ) (on : OnSide s h x) where
 
   over-first : sum (suc c) (timesOn s) ≡ f + (p + 1)
   unfolding firstOver
-  over-first = knots-to p (s .cells) c inside
+  over-first = knots-to p (s .cells) c within
 
   all : functions s + (p + 1) ≡ sum (suc (s .cells)) (timesOn s)
   unfolding functions
@@ -102,7 +102,7 @@ module _ (s : Side) (h x : ℕ) (on : OnSide s h x) where
   -- the last function over the cell is one of the side's
   pub over-last : f + p < functions s
   unfolding functions firstOver
-  over-last = omega (arith, inside)
+  over-last = omega (arith, within)
 
   third-0 : p ≡ 1 → third p l r h u v ≡ 0
   third-0 e = rw (T-true (eqb p 1) (eqb-of p 1 e))
@@ -139,7 +139,7 @@ module _ (s : Side) (h x : ℕ) (on : OnSide s h x) where
 
   over-covers : (i : ℕ) → Over s i c → T (covers (s .cells) p i c)
   unfolding firstOver
-  over-covers i o = covers-test (s .cells) p i c inside (record { from = o .to; to = o .from })
+  over-covers i o = covers-test (s .cells) p i c within (record { from = o .to; to = o .from })
 
   pub values : Values s h x
   values = record {

@@ -5,6 +5,7 @@ use calls::Direction;
 use files::ReadAnswer;
 use files::WriteAnswer;
 use grid::Plan;
+use heights::HeightAnswer;
 use mesh::Count;
 use outcomes::Answer;
 ghost use mathlib.Core.Path.{_≡_};
@@ -13,6 +14,7 @@ ghost use Rattle.outcomes.specs.Calls.{refineCells, refineFunctions, coarsenCel
 ghost use Rattle.outcomes.specs.Contracts.{Meets};
 ghost use Rattle.files.specs.File.{readMesh, writeMesh};
 ghost use Rattle.files.specs.Steps.{leftByRead, leftByWrite};
+ghost use Rattle.heights.specs.Heights.{answer, flattened};
 
 #[no_mangle]
 pub extern "C" fn wallmirror_open(plan: Plan, cells: &mut [u8], functions: &mut [u8]) -> u32
@@ -150,4 +152,18 @@ pub extern "C" fn wallmirror_write(
     ensures { λ r. ⌜ leftByWrite r file ≡ writeMesh plan (now (cells .entry)) (now (functions .entry)) (now (file .entry)) ⌝ }
 {
     files::write(plan, cells, functions, file)
+}
+
+#[no_mangle]
+pub extern "C" fn wallmirror_height(
+    plan: Plan,
+    cells: &[u8],
+    functions: &[u8],
+    heights: &[i32],
+    across: u32,
+    up: u32,
+) -> HeightAnswer
+    ensures { λ r. ⌜ r ≡ flattened (answer plan (now (cells .entry)) (now (functions .entry)) (now (heights .entry)) across up) ⌝ }
+{
+    heights::flatten(heights::answer(plan, cells, functions, heights, across, up))
 }
