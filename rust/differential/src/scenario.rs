@@ -47,6 +47,17 @@ pub fn all() -> Vec<Scenario> {
     ]
 }
 
+/// The same for plans whose surface has heights: degrees 1 and 2, and at most four levels.
+pub fn with_heights() -> Vec<Scenario> {
+    vec![
+        wholly([16, 16, 4, 2, 2, 0]),
+        wholly([16, 16, 4, 1, 1, 2]),
+        wholly([16, 1, 4, 2, 1, 0]),
+        cornered([16, 16, 4, 2, 2, 2]),
+        nearly_empty([16, 16, 4, 2, 2, 2]),
+    ]
+}
+
 /// All cells refined, and the mesh before its last level was.
 fn wholly(numbers: [u32; 6]) -> Scenario {
     steps("wholly refined", numbers, numbers[2] - 1, |tables, _| tables.markable(Kind::RefineCells))
