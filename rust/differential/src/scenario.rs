@@ -64,7 +64,7 @@ fn wholly(numbers: [u32; 6]) -> Scenario {
 }
 
 /// The cell at one corner refined down to the last level, and the mesh before the last step.
-fn cornered(numbers: [u32; 6]) -> Scenario {
+pub fn cornered(numbers: [u32; 6]) -> Scenario {
     steps("refined towards a corner", numbers, numbers[2] - 1, |tables, level| {
         vec![tables.plan.cell_number(model::Cell { level, row: 0, column: 0 }) as u32]
     })

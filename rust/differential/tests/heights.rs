@@ -620,7 +620,7 @@ fn points_beyond() {
         for levels in 1..=4 {
             let tables = Tables::opened(plan([columns, rows, levels, 2, 1, 0]));
             let heights = vec![-9; tables.functions.len()];
-            let (far_across, far_up) = (8 * columns << (levels - 1), 8 * rows << (levels - 1));
+            let [far_across, far_up] = [columns, rows].map(|cells| 8 * (cells << (levels - 1)));
             assert_eq!((far_across, far_up), far_edges(tables.plan));
             let with = |far: u32| [0, far, far + 1, far + 8, 2 * far + 1, 1 << 31, u32::MAX];
             for across in with(far_across) {

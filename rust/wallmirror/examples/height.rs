@@ -29,8 +29,8 @@ fn print_heights() -> Result<(), Refusal> {
     heights[function_at(plan, 1, 4, 4)] = 24 * 16; // on level 1 in sixteenths
 
     // Points are counted in eighths of a cell of the last level.
-    let (far_across, far_up) =
-        (8 * plan.columns << (plan.levels - 1), 8 * plan.rows << (plan.levels - 1));
+    let last = plan.levels - 1;
+    let (far_across, far_up) = (8 * (plan.columns << last), 8 * (plan.rows << last));
     println!("across  height in mm");
     for across in (0..=far_across).step_by(4) {
         println!("{across:>6}  {:>12.4}", mesh.height(&heights, across, far_up / 2)?);
