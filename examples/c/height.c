@@ -33,8 +33,8 @@ int main(void)
     static const uint32_t marks[4] = {5, 6, 9, 10}; /* the four cells in the middle */
     size_t t = wallmirror_cells_len(plan), f = wallmirror_functions_len(plan);
     /* Points are counted in eighths of a cell of the last level. */
-    uint32_t far_across = 8 * plan.columns << (plan.levels - 1);
-    uint32_t far_up = 8 * plan.rows << (plan.levels - 1);
+    uint32_t far_across = 8 * (plan.columns << (plan.levels - 1));
+    uint32_t far_up = 8 * (plan.rows << (plan.levels - 1));
     uint32_t number, across;
 
     number = wallmirror_open(plan, cells, t, functions, f);
