@@ -138,8 +138,8 @@
 //! # Files
 //!
 //! [`Mesh::to_file`] makes bytes of a mesh, to be kept where one likes, and [`Mesh::from_file`]
-//! makes the mesh of them; [`write`] and [`read`] are the same with lent slices. A file is a list of
-//! numbers: the six of the plan, how many cells are refined, the first refined cell if there is
+//! makes the mesh of them; [`write()`] and [`read`] are the same with lent slices. A file is a list
+//! of numbers: the six of the plan, how many cells are refined, the first refined cell if there is
 //! one, then for each further one, in rising order, its difference from the one before. A number is
 //! written in groups of seven bits, one to a byte, the lowest first, with the high bit set in all
 //! but the last; in as few groups as it needs, and at most three. So one mesh has one file, the
@@ -361,7 +361,7 @@ pub enum Refusal {
     MarkOfWrongKind = 8,
     /// A mark to refine is of the last level. Coarsening never gives this.
     MarkOfLastLevel = 9,
-    /// The cell list has fewer entries than cells change. Of [`write`]: the lent bytes are fewer
+    /// The cell list has fewer entries than cells change. Of [`write()`]: the lent bytes are fewer
     /// than the file has.
     CellListTooShort = 10,
     /// The function list has fewer entries than functions change.
