@@ -286,7 +286,7 @@ fn measure_points() -> [f64; 2] {
     rises
 }
 
-/// Nanoseconds of check and height, of the library and of C: the least of many rounds of many calls.
+/// Nanoseconds of check and height, of the library and of C: the least of many rounds of calls.
 fn time_small(mut buffers: Buffers) -> [[f64; 2]; 2] {
     const CALLS: usize = 200;
     let mut least = [[Duration::MAX; 2]; 2];

@@ -357,7 +357,7 @@ fn points_in_steps(plan: Plan, step: u32) -> Vec<(u32, u32)> {
     places(far_up).flat_map(|up| places(far_across).map(move |across| (across, up))).collect()
 }
 
-/// The four corners, then points of edges, of grid lines, of the finest active cell, and any others.
+/// The four corners, then points of edges, of grid lines, of the finest active cell, and others.
 fn random_points(random: &mut Random, tables: &Tables, many: usize) -> Vec<(u32, u32)> {
     let plan = tables.plan;
     let (far_across, far_up) = far_edges(plan);

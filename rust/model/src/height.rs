@@ -1,8 +1,9 @@
 //! The height of the surface at a point: the sum over the active functions of height times B-spline
 //! value, over open uniform knots.
 //!
-//! All numbers are exact fractions. The B-splines are the textbook's: the recursion of Cox and de Boor
-//! over the knots as a list, where 0/0 is 0. Every active function is in the sum, near the point or not.
+//! All numbers are exact fractions. The B-splines are the textbook's: the recursion of Cox and de
+//! Boor over the knots as a list, where 0/0 is 0. Every active function is in the sum, near the point
+//! or not.
 
 use crate::{check, Function, Plan, ACTIVE};
 use std::ops::{Add, Div, Mul, Sub};
@@ -31,8 +32,8 @@ impl Fraction {
         Fraction { numerator: numerator / divisor, denominator: denominator / divisor }
     }
 
-    /// The number of type f64 that is just this fraction. That there is one is seen here: the fraction
-    /// is an odd number, or 0, times a power of two, and 53 bits hold the odd number.
+    /// The f64 that is just this fraction. That there is one is seen here: the fraction is an odd
+    /// number, or 0, times a power of two, and 53 bits hold the odd number.
     pub fn to_f64(self) -> f64 {
         assert!(self.denominator.count_ones() == 1, "{self:?} is not dyadic");
         if self.numerator == 0 {

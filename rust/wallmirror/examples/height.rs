@@ -1,5 +1,5 @@
-//! A hold on a bulge: a mesh is refined where the hold goes, a function of each level gets a height,
-//! and the heights of the surface are printed along a line through both.
+//! A hold on a bulge: a mesh is refined where the hold goes, a function of each level gets a
+//! height, and the heights of the surface are printed along a line through both.
 
 use std::process::ExitCode;
 use wallmirror::{open, refine_cells, Cell, Function, Mesh, Plan, Refusal};
