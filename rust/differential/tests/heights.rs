@@ -817,13 +817,15 @@ fn damage(random: &mut Random, mesh: &Tables, lent: &mut Lent) {
 fn damaged_in_several_ways() {
     let mut random = Random::new(805);
     let mut seen = Seen::default();
+    let mut without = BTreeMap::<(u32, u32, u32), u32>::new();
     for turn in 0..9000 {
         let degrees = match turn % 3 {
             0 => (random.below(4) as u32 + 1, random.below(4) as u32 + 1),
             _ => random.pick(&DEGREES),
         };
-        let class = random.pick(&[0, 0, 2, 3]);
-        let plan = random_plan(&mut random, degrees, class, 150);
+        let class = random.pick(&[0, 0, 0, 2, 3, 8]);
+        let most = random.pick(&[90, 150, 150, 150, 400, 1400]);
+        let plan = random_plan(&mut random, degrees, class, most);
         let mesh = Tables::with_refined(plan, &random_refined(&mut random, plan));
         let fill = random.pick(&Fill::ALL);
         let heights = random_heights(&mut random, &mesh, fill);
@@ -833,10 +835,18 @@ fn damaged_in_several_ways() {
             damage(&mut random, &mesh, &mut lent);
         }
         let (across, up) = lent.point;
-        seen.count(lent.tables.height(&lent.heights, across, up));
+        let answered = lent.tables.height(&lent.heights, across, up);
+        seen.count(answered);
+        if answered == Err(14) {
+            *without.entry((plan.levels, degrees.0, degrees.1)).or_default() += 1;
+        }
     }
     seen.expect(&OF_HEIGHT);
     assert!(seen.0.iter().all(|&often| often == 0 || often > 20), "{seen:?}");
+    // 14 for the levels alone, for a degree across alone and for one up alone.
+    assert!((5..=6).all(|levels| without.contains_key(&(levels, 2, 2))), "{without:?}");
+    assert!((1..=4).all(|levels| without.contains_key(&(levels, 3, 1))), "{without:?}");
+    assert!((1..=4).all(|levels| without.contains_key(&(levels, 2, 4))), "{without:?}");
 }
 
 /// The answer is a whole number of units of 2^-(10+4L) mm, fewer than 2^53 of them, with heights as
