@@ -8,9 +8,9 @@
  * In the words of the scope document a mesh is a wall, refining and coarsening are splitting and
  * joining, admissible of class m is graded, and reactivable is joinable.
  *
- * Every call takes any plan, tables, marks and file whatever and returns. What it cannot serve it
- * refuses with a number (WallmirrorRefusal), and then all that was lent holds the bytes it held
- * before.
+ * Every call takes any plan, tables, marks, file, heights and point whatever and returns. What it
+ * cannot serve it refuses with a number (WallmirrorRefusal), and then all that was lent holds the
+ * bytes it held before.
  *
  * Cells. Level k has columns * 2^k columns and rows * 2^k rows of cells. They are numbered from 0,
  * level by level, row by row. The cell at column c, row r has four children one level down, at
@@ -66,11 +66,30 @@
  * refused: with 3 and the plan, or with 12, 1 or 2, where no tables will do. Then make the tables
  * of the lengths that wallmirror_cells_len and wallmirror_functions_len give, and read again.
  *
- * Pointers. Each table, file, mark list and output list is a pointer and its number of entries. A
- * null pointer with length 0 is taken as an empty slice. With any other length the pointer must be
- * aligned for its type and lead to that many entries, readable, and writable where it is not const.
- * The tables, lists and file of one call must not overlap each other. So the cell list of an
- * earlier call may serve as marks, but not as the cell list of the same call too.
+ * Heights. The active functions carry a surface: its height at a point is the sum, over all active
+ * functions, of the function's height times its value there. The value is that of a B-spline across
+ * times that of one up. Their knots are the grid lines of the function's level, each inner one once
+ * and the two ends degree + 1 times each. The heights of the functions are whole numbers, one for
+ * each function of each level, in the order of their numbers; on level k the unit is 16^-k mm.
+ * Whatever stands there for a function that is not active is ignored. A point is two whole numbers,
+ * across and up, in eighths of a cell of the last level: 0 to 8 * columns * 2^(levels - 1) across
+ * and 0 to 8 * rows * 2^(levels - 1) up. The far edges are included; the last function has the
+ * value 1 there.
+ *
+ * With degrees 1 and 2 and at most four levels the height in mm is a multiple of
+ * 2^-(10 + 4 * levels), and the double that wallmirror_height answers is the sum itself, with no
+ * bit rounded away. Other plans are refused with 14, after what wallmirror_check refuses and after
+ * 3 for the number of heights; then follows 15, for the point and for the heights of active
+ * functions. In the example above, with three levels, let cell 0 be refined, which makes function 9
+ * of level 1 active. At the point 16, 0 function 1 has the value 1/2 and function 9 the value 1.
+ * With heights 10 and 8 for these, and 0 for the others, the surface is 5 + 8/16 = 5.5 mm high
+ * there.
+ *
+ * Pointers. Each table, file, list of heights, mark list and output list is a pointer and its
+ * number of entries. A null pointer with length 0 is taken as an empty slice. With any other length
+ * the pointer must be aligned for its type and lead to that many entries, readable, and writable
+ * where it is not const. The tables, lists and file of one call must not overlap each other. So the
+ * cell list of an earlier call may serve as marks, but not as the cell list of the same call too.
  *
  * Limits.
  *   columns, rows                 1 to 16
@@ -81,6 +100,8 @@
  *   functions of such a plan      at most WALLMIRROR_MAX_FUNCTIONS
  *   marks of a call               any number; their values are 32 bits
  *   file of a mesh                at most WALLMIRROR_MAX_FILE_BYTES bytes
+ *   plan of wallmirror_height     degrees 1 and 2, at most four levels
+ *   height of an active function  at most WALLMIRROR_MAX_HEIGHT_MM mm either way
  *   stack of a call               at most WALLMIRROR_STACK_BYTES
  */
 #ifndef WALLMIRROR_H
@@ -95,9 +116,9 @@ extern "C" {
 
 /* Of this header. */
 #define WALLMIRROR_VERSION_MAJOR 0
-#define WALLMIRROR_VERSION_MINOR 3
+#define WALLMIRROR_VERSION_MINOR 4
 #define WALLMIRROR_VERSION_PATCH 0
-#define WALLMIRROR_VERSION "0.3.0"
+#define WALLMIRROR_VERSION "0.4.0"
 
 /* The most cells a mesh may have on all levels together, and the most functions such a mesh has:
  * buffers of these sizes serve every plan. */
@@ -106,6 +127,10 @@ extern "C" {
 
 /* The most bytes that the file of a mesh has: a buffer of this size serves every mesh. */
 #define WALLMIRROR_MAX_FILE_BYTES 5469
+
+/* The greatest height of an active function in mm, either way. It is met exactly: on level k the
+ * heights go from -65536 * 16^k to 65536 * 16^k. */
+#define WALLMIRROR_MAX_HEIGHT_MM 65536
 
 /* The most stack that any call takes, in bytes: what a thread must have left when it calls. */
 #define WALLMIRROR_STACK_BYTES 131072
@@ -136,14 +161,16 @@ enum WallmirrorFunction {
 };
 
 /* The number that every call answers. Where several apply, the first of this order is given:
- * 12; 1 to 6; then the marks in list order, each tried for 7, 8, 9; then 10, 11; then 13. */
+ * 12; 1 to 6; then 3 of the heights, 14, 15; then the marks in list order, each tried for 7, 8, 9;
+ * then 10, 11; then 13. */
 enum WallmirrorRefusal {
     WALLMIRROR_ACCEPTED = 0,
     /* a number of the plan is out of range */
     WALLMIRROR_PLAN_OUT_OF_RANGE = 1,
     /* all levels together have more than WALLMIRROR_MAX_CELLS cells */
     WALLMIRROR_TOO_MANY_CELLS = 2,
-    /* a table has not the length that the plan gives it */
+    /* a table has not the length that the plan gives it; of wallmirror_height also, after 6: the
+     * heights are not as many as the functions */
     WALLMIRROR_TABLE_LENGTH = 3,
     /* the cell bytes are not a mesh: another byte than 0, 1, 2, an absent cell of level 0, a refined
      * cell with an absent child, any other cell with a child that is not absent, or a refined cell
@@ -168,7 +195,12 @@ enum WallmirrorRefusal {
      * difference of 0 */
     WALLMIRROR_MALFORMED_FILE = 12,
     /* bytes follow the last number of the file */
-    WALLMIRROR_TRAILING_BYTES = 13
+    WALLMIRROR_TRAILING_BYTES = 13,
+    /* the plan is none for heights: a degree is more than 2, or there are more than four levels */
+    WALLMIRROR_PLAN_WITHOUT_HEIGHTS = 14,
+    /* the point lies beyond the mesh, or the height of an active function is more than
+     * WALLMIRROR_MAX_HEIGHT_MM either way */
+    WALLMIRROR_POINT_OR_HEIGHT_OUT_OF_RANGE = 15
 };
 
 /* What wallmirror_count answers. After a refusal all but the number are 0. */
@@ -199,6 +231,12 @@ typedef struct WallmirrorWritten {
     uint32_t number; /* a WallmirrorRefusal */
     uint32_t length; /* how many bytes of the file were written; 0 after a refusal */
 } WallmirrorWritten;
+
+/* What wallmirror_height answers. */
+typedef struct WallmirrorHeight {
+    uint32_t number; /* a WallmirrorRefusal */
+    double height;   /* of the surface, in mm; 0 after a refusal */
+} WallmirrorHeight;
 
 /* Whether the plan is one that wallmirror_open takes (refusals 1 and 2 do not apply). */
 static inline int wallmirror_plan_is_valid(WallmirrorPlan plan)
@@ -315,6 +353,15 @@ WallmirrorWritten wallmirror_write(WallmirrorPlan plan,
                                    const uint8_t *cells, size_t cells_len,
                                    const uint8_t *functions, size_t functions_len,
                                    uint8_t *file, size_t file_len);
+
+/* The height of the surface at a point, exactly; what heights and points are is said at the top.
+ * Where it is 0 it is 0.0 and never -0.0. Refuses 1 to 6; then 3 where there is not one height for
+ * each function; then 14; then 15. */
+WallmirrorHeight wallmirror_height(WallmirrorPlan plan,
+                                   const uint8_t *cells, size_t cells_len,
+                                   const uint8_t *functions, size_t functions_len,
+                                   const int32_t *heights, size_t heights_len,
+                                   uint32_t across, uint32_t up);
 
 #ifdef __cplusplus
 }

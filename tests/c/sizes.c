@@ -1,8 +1,8 @@
 /*
  * The lengths that the header computes are those that the library takes, for every plan in range
  * and for the numbers just outside, its macros agree with each other, its structs are laid out as
- * the library has them, and the longest file is as long as it says. The output is to be that of
- * sizes.expected.
+ * the library has them, the longest file is as long as it says, and the greatest height is taken
+ * and no greater one. The output is to be that of sizes.expected.
  */
 #include <stddef.h>
 #include <stdio.h>
@@ -45,7 +45,7 @@ static void try_version(void)
         wrong++;
 }
 
-/* Every field has four bytes and follows the one before. */
+/* Every field has four bytes, but for a height of eight, and follows the one before. */
 static void try_structs(void)
 {
     if (sizeof(WallmirrorPlan) != 24 || offsetof(WallmirrorPlan, columns) != 0 ||
@@ -66,6 +66,9 @@ static void try_structs(void)
         wrong++;
     if (sizeof(WallmirrorWritten) != 8 || offsetof(WallmirrorWritten, number) != 0 ||
         offsetof(WallmirrorWritten, length) != 4)
+        wrong++;
+    if (sizeof(WallmirrorHeight) != 16 || offsetof(WallmirrorHeight, number) != 0 ||
+        offsetof(WallmirrorHeight, height) != 8 || sizeof(double) != 8)
         wrong++;
 }
 
@@ -107,12 +110,52 @@ static void try_longest_file(void)
         wrong++;
 }
 
+/* One height for each function of a mesh of one level, and what is answered at a point. */
+static WallmirrorHeight height_at(WallmirrorPlan plan, int32_t last, uint32_t across, uint32_t up)
+{
+    static int32_t heights[WALLMIRROR_MAX_FUNCTIONS];
+    size_t t = wallmirror_cells_len(plan), f = wallmirror_functions_len(plan);
+    heights[f - 1] = last;
+    if (wallmirror_open(plan, cells, t, functions, f) != WALLMIRROR_ACCEPTED)
+        wrong++;
+    return wallmirror_height(plan, cells, t, functions, f, heights, f, across, up);
+}
+
+/* The last function has its height at the far corner, and that is at most the greatest; there is
+ * nothing beyond the corner, and no height where a degree is 3. */
+static void try_heights(void)
+{
+    WallmirrorPlan plan = {16, 2, 1, 2, 1, 0};
+    WallmirrorHeight answer;
+    int side;
+    for (side = -1; side <= 1; side += 2) {
+        answer = height_at(plan, side * WALLMIRROR_MAX_HEIGHT_MM, 8 * 16, 8 * 2);
+        if (answer.number != WALLMIRROR_ACCEPTED ||
+            answer.height != side * (double)WALLMIRROR_MAX_HEIGHT_MM)
+            wrong++;
+        answer = height_at(plan, side * (WALLMIRROR_MAX_HEIGHT_MM + 1), 8 * 16, 8 * 2);
+        if (answer.number != WALLMIRROR_POINT_OR_HEIGHT_OUT_OF_RANGE || answer.height != 0)
+            wrong++;
+    }
+    answer = height_at(plan, 1, 8 * 16 + 1, 0);
+    if (answer.number != WALLMIRROR_POINT_OR_HEIGHT_OUT_OF_RANGE || answer.height != 0)
+        wrong++;
+    answer = height_at(plan, 1, 0, 8 * 2 + 1);
+    if (answer.number != WALLMIRROR_POINT_OR_HEIGHT_OUT_OF_RANGE || answer.height != 0)
+        wrong++;
+    plan.degree_up = 3;
+    answer = height_at(plan, 1, 0, 0);
+    if (answer.number != WALLMIRROR_PLAN_WITHOUT_HEIGHTS || answer.height != 0)
+        wrong++;
+}
+
 int main(void)
 {
     WallmirrorPlan plan;
     try_version();
     try_structs();
     try_longest_file();
+    try_heights();
     for (plan.columns = 0; plan.columns <= 17; plan.columns++)
         for (plan.rows = 0; plan.rows <= 17; plan.rows++)
             for (plan.levels = 0; plan.levels <= 9; plan.levels++)
@@ -126,7 +169,8 @@ int main(void)
            (unsigned long)most_functions);
     if (most_cells != WALLMIRROR_MAX_CELLS || most_functions != WALLMIRROR_MAX_FUNCTIONS)
         wrong++;
-    printf("version %s, at most %lu bytes of stack and %lu of a file\n", WALLMIRROR_VERSION,
-           (unsigned long)WALLMIRROR_STACK_BYTES, (unsigned long)WALLMIRROR_MAX_FILE_BYTES);
+    printf("version %s, at most %lu bytes of stack and %lu of a file, heights to %lu mm\n",
+           WALLMIRROR_VERSION, (unsigned long)WALLMIRROR_STACK_BYTES,
+           (unsigned long)WALLMIRROR_MAX_FILE_BYTES, (unsigned long)WALLMIRROR_MAX_HEIGHT_MM);
     return wrong != 0;
 }

@@ -740,3 +740,73 @@ WallmirrorWritten tuned_write(WallmirrorPlan plan, const uint8_t *cells, size_t 
     written.length = (uint32_t)length;
     return written;
 }
+
+/* ---- Heights ---- */
+
+/*
+ * The values of the degree + 1 functions over the cell that has the place, on a level of n cells of
+ * `size` eighths; answers the cell. The far edge belongs to the last one.
+ */
+static size_t values_at(uint32_t degree, size_t n, size_t size, size_t place, double values[3])
+{
+    size_t cell = place / size < n ? place / size : n - 1;
+    double t = (double)(place - cell * size) / (double)size;
+    if (degree == 1) {
+        values[0] = 1 - t;
+        values[1] = t;
+        return cell;
+    }
+    values[0] = (1 - t) * (1 - t) * (cell == 0 ? 1 : 0.5);
+    values[2] = t * t * (cell == n - 1 ? 1 : 0.5);
+    values[1] = 1 - values[0] - values[2];
+    return cell;
+}
+
+/* Whether an active function has a height beyond its limit. */
+static int is_too_high(const struct layout *at, const uint8_t *functions, const int32_t *heights)
+{
+    uint32_t level, wrong = 0;
+    size_t i;
+    for (level = 0; level < at->levels; level++) {
+        uint32_t most = (uint32_t)WALLMIRROR_MAX_HEIGHT_MM << (4 * level);
+        for (i = at->functions_at[level]; i < at->functions_at[level + 1]; i++)
+            wrong |= (functions[i] == 1) & ((uint32_t)heights[i] + most > 2 * most);
+    }
+    return wrong != 0;
+}
+
+WallmirrorHeight tuned_height(WallmirrorPlan plan, const uint8_t *cells, size_t cells_len,
+                              const uint8_t *functions, size_t functions_len,
+                              const int32_t *heights, size_t heights_len,
+                              uint32_t across, uint32_t up)
+{
+    WallmirrorHeight answer = {0, 0};
+    struct layout at;
+    uint32_t level, i, j;
+    answer.number = check(&at, plan, cells, cells_len, functions, functions_len);
+    if (answer.number != 0)
+        return answer;
+    if (heights_len != functions_len)
+        answer.number = WALLMIRROR_TABLE_LENGTH;
+    else if (at.across > 2 || at.up > 2 || at.levels > 4)
+        answer.number = WALLMIRROR_PLAN_WITHOUT_HEIGHTS;
+    else if (across > 8 * at.columns[at.levels - 1] || up > 8 * at.rows[at.levels - 1] ||
+             is_too_high(&at, functions, heights))
+        answer.number = WALLMIRROR_POINT_OR_HEIGHT_OUT_OF_RANGE;
+    if (answer.number != 0)
+        return answer;
+    /* Products and sums are exact, so their order does not matter. */
+    for (level = 0; level < at.levels; level++) {
+        double values_across[3], values_up[3], sum = 0;
+        size_t size = (size_t)8 << (at.levels - 1 - level), width = at.columns[level] + at.across;
+        size_t column = values_at(at.across, at.columns[level], size, across, values_across);
+        size_t row = values_at(at.up, at.rows[level], size, up, values_up);
+        size_t first = at.functions_at[level] + row * width + column;
+        for (j = 0; j <= at.up; j++, first += width)
+            for (i = 0; i <= at.across; i++)
+                if (functions[first + i] == 1)
+                    sum += heights[first + i] * values_across[i] * values_up[j];
+        answer.height += sum / (1 << 4 * level);
+    }
+    return answer;
+}

@@ -35,4 +35,9 @@ WallmirrorWritten tuned_write(WallmirrorPlan plan, const uint8_t *cells, size_t 
                               const uint8_t *functions, size_t functions_len,
                               uint8_t *file, size_t file_len);
 
+WallmirrorHeight tuned_height(WallmirrorPlan plan, const uint8_t *cells, size_t cells_len,
+                              const uint8_t *functions, size_t functions_len,
+                              const int32_t *heights, size_t heights_len,
+                              uint32_t across, uint32_t up);
+
 #endif

@@ -1,6 +1,7 @@
 //! Prints, for meshes near the largest, what each call takes: the library, the tuned C version
-//! beside it (`c/tuned.c`), the model, and how often both tables could be read meanwhile. Run it in
-//! release mode: `cargo run --release --offline -p bench`.
+//! beside it (`c/tuned.c`), the model, and how often both tables could be read meanwhile. Then, for
+//! the smallest, what the height at one point takes. Run it in release mode:
+//! `cargo run --release --offline -p bench`.
 //!
 //! The times are the least of many rounds. Library, C and reading take turns, so that a ratio
 //! compares what ran under the same conditions.
@@ -20,15 +21,18 @@ enum Goal {
     OneCell,
     AllCells,
     Functions,
+    Height,
 }
 
 impl Goal {
-    const ALL: [Goal; 4] = [Goal::Check, Goal::OneCell, Goal::AllCells, Goal::Functions];
+    const ALL: [Goal; 5] =
+        [Goal::Check, Goal::OneCell, Goal::AllCells, Goal::Functions, Goal::Height];
 
     fn of(call: Call, marks: usize) -> Option<Goal> {
         match call {
             Call::Open | Call::Count | Call::Read | Call::Write => None,
             Call::Check => Some(Goal::Check),
+            Call::Height => Some(Goal::Height),
             Call::Change(kind) if kind.by_functions() => Some(Goal::Functions),
             Call::Change(_) if marks == 1 => Some(Goal::OneCell),
             Call::Change(_) => Some(Goal::AllCells),
@@ -41,6 +45,7 @@ impl Goal {
             Goal::OneCell => "by cells, one mark",
             Goal::AllCells => "by cells, all marks",
             Goal::Functions => "by functions",
+            Goal::Height => "height",
         }
     }
 
@@ -51,6 +56,8 @@ impl Goal {
             Goal::OneCell => 20.0,
             Goal::AllCells => 40.0,
             Goal::Functions => 35.0,
+            // A check, and a look at every height: those have four bytes each.
+            Goal::Height => 15.0,
         }
     }
 }
@@ -117,12 +124,49 @@ fn main() {
         eprintln!("bench: these are times of a debug build; use cargo run --release");
     }
     println!("C: {}. Times in microseconds, the least of many rounds.\n", env!("TUNED_BY"));
-    let rows: Vec<Row> = scenario::all().iter().flat_map(measure).collect();
-    print_summary(&rows);
+    let mut rows: Vec<Row> = scenario::all().iter().flat_map(measure).collect();
+    rows.extend(scenario::with_heights().iter().flat_map(measure_height));
+    let rises = measure_points();
+    print_summary(&rows, &rises);
 }
 
-/// Measures and prints every call on the meshes of one scenario.
+/// Measures and prints every call but the height on the meshes of one scenario.
 fn measure(scenario: &Scenario) -> Vec<Row> {
+    print_heading(scenario);
+    let mut rows = vec![];
+    let mut add = |call, tables, marks: &[u32]| {
+        rows.push(time(call, tables, marks, scenario.to_string()));
+        rows[rows.len() - 1].print();
+    };
+    for call in [Call::Open, Call::Check, Call::Count, Call::Read, Call::Write] {
+        add(call, &scenario.to_coarsen, &[]);
+    }
+    for kind in Kind::ALL {
+        let tables = scenario.before(kind);
+        let markable = tables.markable(kind);
+        // The last one is of the finest level, where a class asks for most.
+        add(Call::Change(kind), tables, &markable[markable.len() - 1..]);
+        if markable.len() > 1 {
+            add(Call::Change(kind), tables, &markable);
+        }
+    }
+    print_reading(scenario, &rows);
+    rows
+}
+
+/// Measures and prints the height at a point beside the check that it begins with.
+fn measure_height(scenario: &Scenario) -> Vec<Row> {
+    print_heading(scenario);
+    let rows = [Call::Check, Call::Height].map(|call| {
+        let row = time(call, &scenario.to_coarsen, &[], scenario.to_string());
+        row.print();
+        row
+    });
+    print_reading(scenario, &rows);
+    rows.into()
+}
+
+fn print_heading(scenario: &Scenario) {
     let count = scenario.to_coarsen.count();
     println!("{scenario}");
     println!(
@@ -146,23 +190,9 @@ fn measure(scenario: &Scenario) -> Vec<Row> {
         "library/read",
         "goal"
     );
-    let mut rows = vec![];
-    let mut add = |call, tables, marks: &[u32]| {
-        rows.push(time(call, tables, marks, scenario.to_string()));
-        rows[rows.len() - 1].print();
-    };
-    for call in [Call::Open, Call::Check, Call::Count, Call::Read, Call::Write] {
-        add(call, &scenario.to_coarsen, &[]);
-    }
-    for kind in Kind::ALL {
-        let tables = scenario.before(kind);
-        let markable = tables.markable(kind);
-        // The last one is of the finest level, where a class asks for most.
-        add(Call::Change(kind), tables, &markable[markable.len() - 1..]);
-        if markable.len() > 1 {
-            add(Call::Change(kind), tables, &markable);
-        }
-    }
+}
+
+fn print_reading(scenario: &Scenario, rows: &[Row]) {
     let read = rows.iter().map(|row| row.read).min().expect("a row");
     let by_vectors = time_vectors(&scenario.to_coarsen);
     println!(
@@ -170,16 +200,119 @@ fn measure(scenario: &Scenario) -> Vec<Row> {
         microseconds(read),
         microseconds(by_vectors)
     );
-    rows
 }
 
-fn print_summary(rows: &[Row]) {
+/// What the height at one point takes on a mesh of one cell, in nanoseconds.
+struct Point {
+    degree: u32,
+    levels: u32,
+    functions: usize,
+    check: f64,
+    height: f64,
+    tuned_after_check: f64,
+}
+
+impl Point {
+    /// How many times as long each value may take on four levels as on one.
+    const MOST: f64 = 2.0;
+
+    fn measure(degree: u32, levels: u32) -> Point {
+        let tables = scenario::cornered([1, 1, levels, degree, degree, 0]).to_coarsen;
+        let [[check, height], [tuned_check, tuned_height]] =
+            time_small(Buffers::with_room(&tables));
+        let (functions, tuned_after_check) = (tables.functions.len(), tuned_height - tuned_check);
+        Point { degree, levels, functions, check, height, tuned_after_check }
+    }
+
+    fn after_check(&self) -> f64 {
+        self.height - self.check
+    }
+
+    /// How many functions are over the point: on each level those of one cell.
+    fn values(&self) -> u32 {
+        self.levels * (self.degree + 1) * (self.degree + 1)
+    }
+
+    fn for_each(&self) -> f64 {
+        self.after_check() / f64::from(self.values())
+    }
+
+    fn print(&self) {
+        println!(
+            "{:<6} {:>8} {:>9} {:>6} {:>8.1} {:>8.1} {:>11.1} {:>8.1} {:>8.1} {:>9.1}",
+            self.levels,
+            format!("{} {}", self.degree, self.degree),
+            self.functions,
+            self.values(),
+            self.check,
+            self.height,
+            self.after_check(),
+            self.for_each(),
+            self.tuned_after_check,
+            self.after_check() / self.tuned_after_check
+        );
+    }
+}
+
+/// Measures and prints what one point takes after the check, on meshes so small that their tables
+/// hardly count, and answers for each degree how many times as long a value takes on four levels as
+/// on one.
+fn measure_points() -> [f64; 2] {
+    println!("one point of 1 by 1 cells, refined towards a corner, class 0; nanoseconds");
+    println!(
+        "{:<6} {:>8} {:>9} {:>6} {:>8} {:>8} {:>11} {:>8} {:>8} {:>9}",
+        "levels",
+        "degrees",
+        "functions",
+        "values",
+        "check",
+        "height",
+        "after check",
+        "for each",
+        "C after",
+        "library/C"
+    );
+    let rises = [1, 2].map(|degree| {
+        let points = [1, 2, 3, 4].map(|levels| Point::measure(degree, levels));
+        points.iter().for_each(Point::print);
+        points[3].for_each() / points[0].for_each()
+    });
+    println!(
+        "a value on four levels takes {:.1} and {:.1} times what it takes on one, goal {:.0}\n",
+        rises[0],
+        rises[1],
+        Point::MOST
+    );
+    rises
+}
+
+/// Nanoseconds of check and height, of the library and of C: the least of many rounds of calls.
+fn time_small(mut buffers: Buffers) -> [[f64; 2]; 2] {
+    const CALLS: usize = 200;
+    let mut least = [[Duration::MAX; 2]; 2];
+    repeat(Duration::from_millis(400), 1000, || {
+        for (version, least) in [&LIBRARY, &TUNED].into_iter().zip(&mut least) {
+            for (call, least) in [Call::Check, Call::Height].into_iter().zip(least) {
+                let calls = timed(|| (0..CALLS).for_each(|_| buffers.run(version, call, &[])));
+                *least = calls.min(*least);
+            }
+        }
+    });
+    least.map(|version| version.map(|time| time.as_secs_f64() * 1e9 / CALLS as f64))
+}
+
+fn print_summary(rows: &[Row], rises: &[f64]) {
     for row in rows.iter().filter(|row| row.misses()) {
         let most = row.goal().map_or(0.0, Goal::most);
         println!("missed: {:.1} times reading, not {most:.0}, {}", row.to_read(), row.said());
     }
-    let missed = rows.iter().filter(|row| row.misses()).count();
-    println!("{missed} of {} goals missed", rows.iter().filter(|row| row.goal().is_some()).count());
+    let rising: Vec<&f64> = rises.iter().filter(|&&rise| rise > Point::MOST).collect();
+    for rise in &rising {
+        println!("missed: a value on four levels takes {rise:.1} times what it takes on one");
+    }
+    let missed = rows.iter().filter(|row| row.misses()).count() + rising.len();
+    let goals = rows.iter().filter(|row| row.goal().is_some()).count() + rises.len();
+    println!("{missed} of {goals} goals missed");
     for goal in Goal::ALL {
         let of_goal: Vec<&Row> = rows.iter().filter(|row| row.goal() == Some(goal)).collect();
         let greatest = |ratio: fn(&Row) -> f64| {
@@ -225,7 +358,7 @@ fn time(call: Call, tables: &Tables, marks: &[u32], place: String) -> Row {
     });
     let mut model = Duration::MAX;
     repeat(Duration::from_millis(60), 50, || {
-        model = model.min(timed(|| run_model(call, tables, marks, &buffers.file)));
+        model = model.min(timed(|| run_model(call, tables, marks, &buffers)));
     });
     Row { call, place, marks: marks.len(), changed, library, tuned, model, read }
 }
@@ -279,15 +412,21 @@ fn read_by_vectors(tables: &Tables) -> u64 {
     sum(&tables.cells) + sum(&tables.functions)
 }
 
-fn run_model(call: Call, tables: &Tables, marks: &[u32], file: &[u8]) {
+fn run_model(call: Call, tables: &Tables, marks: &[u32], buffers: &Buffers) {
     let Tables { plan, cells, functions } = tables;
     let (t, f) = (cells.len(), functions.len());
+    let Buffers { file, heights, point, .. } = buffers;
     match call {
         Call::Open => drop(black_box(model::open(*plan, t, f))),
         Call::Check => drop(black_box(model::check(*plan, cells, functions))),
         Call::Count => drop(black_box(model::count(*plan, cells, functions))),
         Call::Read => drop(black_box(model::file::read(file, t, f))),
         Call::Write => drop(black_box(model::file::write(*plan, cells, functions, file.len()))),
+        Call::Height => {
+            let (across, up) = *point;
+            let height = model::height::height(*plan, cells, functions, heights, across, up);
+            black_box(height.expect("a height").to_f64());
+        }
         Call::Change(kind) => {
             drop(black_box(kind.of_model()(*plan, cells, functions, marks, t, f)));
         }

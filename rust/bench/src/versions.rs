@@ -10,6 +10,7 @@ pub enum Call {
     Count,
     Read,
     Write,
+    Height,
     Change(Kind),
 }
 
@@ -21,6 +22,7 @@ impl Call {
             Call::Count => "count",
             Call::Read => "read file",
             Call::Write => "write file",
+            Call::Height => "height",
             Call::Change(kind) => kind.name(),
         }
     }
@@ -40,6 +42,18 @@ type Write = unsafe extern "C" fn(
     usize,
 ) -> ffi::Written;
 
+type Height = unsafe extern "C" fn(
+    ffi::Plan,
+    *const u8,
+    usize,
+    *const u8,
+    usize,
+    *const i32,
+    usize,
+    u32,
+    u32,
+) -> ffi::Height;
+
 /// The calls of one version.
 pub struct Version {
     open: Open,
@@ -47,6 +61,7 @@ pub struct Version {
     count: Count,
     read: Read,
     write: Write,
+    height: Height,
     change: fn(Kind) -> ffi::Change,
 }
 
@@ -56,6 +71,7 @@ pub const LIBRARY: Version = Version {
     count: ffi::wallmirror_count,
     read: ffi::wallmirror_read,
     write: ffi::wallmirror_write,
+    height: ffi::wallmirror_height,
     change: Kind::of_library,
 };
 
@@ -65,6 +81,7 @@ pub const TUNED: Version = Version {
     count: tuned::tuned_count,
     read: tuned::tuned_read,
     write: tuned::tuned_write,
+    height: tuned::tuned_height,
     change: |kind| match kind {
         Kind::RefineCells => tuned::tuned_refine_cells,
         Kind::RefineFunctions => tuned::tuned_refine_functions,
@@ -142,6 +159,17 @@ mod tuned {
             file: *mut u8,
             file_len: usize,
         ) -> ffi::Written;
+        pub fn tuned_height(
+            plan: ffi::Plan,
+            cells: *const u8,
+            cells_len: usize,
+            functions: *const u8,
+            functions_len: usize,
+            heights: *const i32,
+            heights_len: usize,
+            across: u32,
+            up: u32,
+        ) -> ffi::Height;
     }
 }
 
@@ -152,6 +180,8 @@ pub struct Buffers {
     pub cell_list: Vec<u32>,
     pub function_list: Vec<u32>,
     pub file: Vec<u8>,
+    pub heights: Vec<i32>,
+    pub point: (u32, u32),
     pub answer: [u32; 7],
 }
 
@@ -162,13 +192,20 @@ impl Buffers {
             cell_list: vec![0; cell_room],
             function_list: vec![0; function_room],
             file,
+            heights: vec![0; tables.functions.len()],
+            point: (0, 0),
             answer: [0; 7],
         }
     }
 
-    /// Lists of T and F entries, and the file of the mesh.
+    /// Lists of T and F entries, the file of the mesh, heights that all functions may have, and a
+    /// point on no grid line.
     pub fn with_room(tables: &Tables) -> Buffers {
-        Buffers::new(tables, tables.cells.len(), tables.functions.len(), tables.file())
+        let (t, f) = (tables.cells.len(), tables.functions.len());
+        let heights = (0..f as i32).map(|i| i * 40_503 % 65_537 - 32_768).collect();
+        let (across, up) = model::height::far_edges(tables.plan);
+        let point = (across / 2 + 3, up / 2 - 3);
+        Buffers { heights, point, ..Buffers::new(tables, t, f, tables.file()) }
     }
 
     /// Puts the tables back, which are to have the same lengths.
@@ -212,6 +249,15 @@ impl Buffers {
                     let written = (version.write)(plan, cells, t, functions, f, file, length);
                     [written.number, written.length, 0, 0, 0, 0, 0]
                 }
+                Call::Height => {
+                    let (heights, length) = (self.heights.as_ptr(), self.heights.len());
+                    let (cells, functions) = (cells.as_ptr(), functions.as_ptr());
+                    let (across, up) = self.point;
+                    let ffi::Height { number, height } =
+                        (version.height)(plan, cells, t, functions, f, heights, length, across, up);
+                    let bits = height.to_bits();
+                    [number, bits as u32, (bits >> 32) as u32, 0, 0, 0, 0]
+                }
                 Call::Change(kind) => {
                     let answer = (version.change)(kind)(
                         plan,
@@ -254,26 +300,29 @@ pub fn agree(call: Call, before: &Buffers, marks: &[u32]) -> (u32, u32) {
 mod tests {
     use super::*;
     use differential::{random_plan, random_refined, Random};
+    use model::Plan;
 
     /// Random meshes, some with a wrong byte or another class, random marks, some of them wrong,
-    /// and files, some of them with a wrong byte, cut or longer.
+    /// files, some of them with a wrong byte, cut or longer, and heights and points, some beyond.
     #[test]
     fn tuned_is_as_the_library() {
         let mut random = Random::new(600);
-        let mut seen = [0; 14];
+        let mut seen = [0; 16];
         for turn in 0..4000 {
             let degrees = (random.below(4) as u32 + 1, random.below(4) as u32 + 1);
             let class = random.pick(&[0, 2, 2, 3, 4, 5, 8]);
             let most = if turn % 100 == 0 { 21_845 } else { 500 };
             let plan = random_plan(&mut random, degrees, class, most);
             let mut tables = Tables::with_refined(plan, &random_refined(&mut random, plan));
-            let call = match random.below(9) {
+            let call = match random.below(11) {
                 0 => random.pick(&[Call::Open, Call::Check, Call::Count]),
                 1 => Call::Read,
                 2 => Call::Write,
+                3 | 4 => Call::Height,
                 _ => Call::Change(random.pick(&Kind::ALL)),
             };
             let marks = marks(&mut random, call, &tables);
+            let (heights, point) = (heights(&mut random, &tables), point(&mut random, plan));
             let mut file = tables.file();
             match random.below(8) {
                 0 | 1 => wrong_byte(&mut random, &mut file),
@@ -290,7 +339,8 @@ mod tests {
             }
             let room = random.pick(&[0, 3, 21_845, 21_845]);
             let function_room = random.pick(&[3, 26_220, 26_220]);
-            let before = Buffers::new(&tables, room, function_room, file);
+            let before =
+                Buffers { heights, point, ..Buffers::new(&tables, room, function_room, file) };
             seen[agree(call, &before, &marks).0 as usize] += 1;
         }
         assert!(seen.iter().all(|&count| count > 0), "{seen:?}");
@@ -299,6 +349,28 @@ mod tests {
     fn wrong_byte(random: &mut Random, table: &mut [u8]) {
         let at = random.below(table.len());
         table[at] = random.pick(&[0, 1, 2, 3, 255]);
+    }
+
+    /// Heights within the limits, most often, and in the right number.
+    fn heights(random: &mut Random, tables: &Tables) -> Vec<i32> {
+        let f = tables.functions.len();
+        let mut heights: Vec<i32> = (0..f).map(|_| random.bits() as i32 % 65_537).collect();
+        match random.below(6) {
+            0 => heights[random.below(f)] = random.pick(&[65_537, -65_537, i32::MAX, i32::MIN]),
+            1 => heights.push(0),
+            _ => {}
+        }
+        heights
+    }
+
+    fn point(random: &mut Random, plan: Plan) -> (u32, u32) {
+        let (across, up) = model::height::far_edges(plan);
+        let mut place = |far: u32| random.pick(&[0, far / 2, far / 3, far - 1, far, far]);
+        let (across, up) = (place(across), place(up));
+        if random.once_in(6) {
+            return random.pick(&[(across + (1 << 12), up), (across, u32::MAX)]);
+        }
+        (across, up)
     }
 
     fn marks(random: &mut Random, call: Call, tables: &Tables) -> Vec<u32> {

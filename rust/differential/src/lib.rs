@@ -352,6 +352,41 @@ impl Tables {
         self.write(&[0xee; MAX_FILE_BYTES]).expect("a mesh")
     }
 
+    /// The height of the surface at a point. Library and model are to agree in every bit, that of the
+    /// sign of zero too; with a refusal the height is 0.
+    pub fn height(&self, heights: &[i32], across: u32, up: u32) -> Result<f64, u32> {
+        let (mut cells, mut functions) = self.lend();
+        // A guard that no active function may have.
+        let mut lent_heights = Lent::new(heights, i32::MIN);
+        let plan = self.plan;
+        let said = || format!("height at {across}, {up}, {} heights, {plan:?}", heights.len());
+        // SAFETY: separate buffers of these lengths.
+        let answer = unsafe {
+            ffi::wallmirror_height(
+                raw(self.plan),
+                cells.pointer(),
+                cells.len(),
+                functions.pointer(),
+                functions.len(),
+                lent_heights.pointer(),
+                lent_heights.len(),
+                across,
+                up,
+            )
+        };
+        let expected =
+            model::height::height(self.plan, &self.cells, &self.functions, heights, across, up)
+                .map(|height| height.to_f64());
+        let number = *expected.as_ref().err().unwrap_or(&0);
+        let height = *expected.as_ref().unwrap_or(&0.0);
+        assert_eq!(answer, ffi::Height { number, height }, "{}", said());
+        assert_eq!(answer.height.to_bits(), height.to_bits(), "the sign of 0: {}", said());
+        cells.expect(&self.cells, "cell table", &said);
+        functions.expect(&self.functions, "function table", &said);
+        lent_heights.expect(heights, "heights", &said);
+        expected
+    }
+
     /// Runs one of the four calls with the lists as lent. The tables are then as it left them.
     pub fn call(
         &mut self,

@@ -47,13 +47,24 @@ pub fn all() -> Vec<Scenario> {
     ]
 }
 
+/// The same for plans whose surface has heights: degrees 1 and 2, and at most four levels.
+pub fn with_heights() -> Vec<Scenario> {
+    vec![
+        wholly([16, 16, 4, 2, 2, 0]),
+        wholly([16, 16, 4, 1, 1, 2]),
+        wholly([16, 1, 4, 2, 1, 0]),
+        cornered([16, 16, 4, 2, 2, 2]),
+        nearly_empty([16, 16, 4, 2, 2, 2]),
+    ]
+}
+
 /// All cells refined, and the mesh before its last level was.
 fn wholly(numbers: [u32; 6]) -> Scenario {
     steps("wholly refined", numbers, numbers[2] - 1, |tables, _| tables.markable(Kind::RefineCells))
 }
 
 /// The cell at one corner refined down to the last level, and the mesh before the last step.
-fn cornered(numbers: [u32; 6]) -> Scenario {
+pub fn cornered(numbers: [u32; 6]) -> Scenario {
     steps("refined towards a corner", numbers, numbers[2] - 1, |tables, level| {
         vec![tables.plan.cell_number(model::Cell { level, row: 0, column: 0 }) as u32]
     })

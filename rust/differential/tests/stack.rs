@@ -49,6 +49,18 @@ fn each_call_without_marks(
     visit("count", place, &mut || unsafe {
         ffi::wallmirror_count(raw(plan), cells.as_ptr(), t, functions.as_ptr(), f).number
     });
+    if plan.levels <= 4 && plan.degree_across <= 2 && plan.degree_up <= 2 {
+        let heights = vec![-65_536; f];
+        let (across, up) = model::height::far_edges(plan);
+        for (across, up) in [(0, 0), (across / 3, up / 3), (across, up)] {
+            visit("height", place, &mut || unsafe {
+                let (cells, functions) = (cells.as_ptr(), functions.as_ptr());
+                let heights = heights.as_ptr();
+                ffi::wallmirror_height(raw(plan), cells, t, functions, f, heights, f, across, up)
+                    .number
+            });
+        }
+    }
     visit("write", place, &mut || unsafe {
         let (cells, functions) = (cells.as_ptr(), functions.as_ptr());
         let (file, length) = (file.as_mut_ptr(), file.len());
@@ -174,7 +186,8 @@ extern "C" fn start(work: &mut Work) {
 /// One after the other, so that a call which takes too much is named before it faults.
 #[test]
 fn every_call_within_its_stack() {
-    let scenarios = scenario::all();
+    let mut scenarios = scenario::all();
+    scenarios.extend(scenario::with_heights());
     measure(&scenarios);
     run_on_exactly_as_much(&scenarios);
     run_on_threads(&scenarios);

@@ -12,6 +12,7 @@ use std::collections::BTreeSet;
 use std::ops::RangeInclusive;
 
 pub mod file;
+pub mod height;
 pub mod session;
 
 #[derive(Clone, Copy, Debug, PartialEq, Eq)]

@@ -53,6 +53,15 @@ pub struct Written {
     pub length: u32,
 }
 
+/// What [`wallmirror_height`] answers: its number, and the height of the surface in millimetres, 0
+/// after a refusal.
+#[repr(C)]
+#[derive(Clone, Copy, Debug, Default, PartialEq)]
+pub struct Height {
+    pub number: u32,
+    pub height: f64,
+}
+
 /// A refining or coarsening call.
 ///
 /// # Safety
@@ -175,4 +184,21 @@ unsafe extern "C" {
         file: *mut u8,
         file_len: usize,
     ) -> Written;
+
+    /// As [`crate::height`].
+    ///
+    /// # Safety
+    ///
+    /// As [`Change`] says, of both tables and the heights.
+    pub fn wallmirror_height(
+        plan: Plan,
+        cells: *const u8,
+        cells_len: usize,
+        functions: *const u8,
+        functions_len: usize,
+        heights: *const i32,
+        heights_len: usize,
+        across: u32,
+        up: u32,
+    ) -> Height;
 }

@@ -2,9 +2,9 @@
 //!
 //! A mesh is two tables of bytes that the caller owns: one byte for each cell of each level (0
 //! absent, 1 active, 2 refined) and one for each function of each level (0 passive, 1 active, 2
-//! deactivated). [`Plan`] gives their lengths. Every call takes any plan, tables, marks and file;
-//! what it cannot serve it refuses with a [`Refusal`], and then all that was lent holds what it
-//! held before.
+//! deactivated). [`Plan`] gives their lengths. Every call takes any plan, tables, marks, file,
+//! heights and point; what it cannot serve it refuses with a [`Refusal`], and then all that was lent
+//! holds what it held before.
 //!
 //! In the words of the scope document a mesh is a wall, refining and coarsening are splitting and
 //! joining, admissible of class m is graded, and reactivable is joinable.
@@ -138,8 +138,8 @@
 //! # Files
 //!
 //! [`Mesh::to_file`] makes bytes of a mesh, to be kept where one likes, and [`Mesh::from_file`]
-//! makes the mesh of them; [`write`] and [`read`] are the same with lent slices. A file is a list of
-//! numbers: the six of the plan, how many cells are refined, the first refined cell if there is
+//! makes the mesh of them; [`write()`] and [`read`] are the same with lent slices. A file is a list
+//! of numbers: the six of the plan, how many cells are refined, the first refined cell if there is
 //! one, then for each further one, in rising order, its difference from the one before. A number is
 //! written in groups of seven bits, one to a byte, the lowest first, with the high bit set in all
 //! but the last; in as few groups as it needs, and at most three. So one mesh has one file, the
@@ -161,6 +161,38 @@
 //! # Ok::<(), wallmirror::Refusal>(())
 //! ```
 //!
+//! # Heights
+//!
+//! The active functions carry a surface: its height at a point is the sum, over all active
+//! functions, of the function's height times its value there. The value is that of a B-spline
+//! across times that of one up. Their knots are the grid lines of the function's level, each inner
+//! one once and the two ends degree + 1 times each. The heights of the functions are whole numbers,
+//! one for each function of each level, in the order of their numbers; on level k the unit is 16^-k
+//! mm. Whatever stands there for a function that is not active is ignored. A point is two whole
+//! numbers, across and up, in eighths of a cell of the last level, from 0 to the far edge: 8 ·
+//! columns · 2^(levels - 1) across and 8 · rows · 2^(levels - 1) up. The far edges are included; the
+//! last function has the value 1 there.
+//!
+//! With degrees 1 and 2 and at most four levels the height in mm is a multiple of
+//! 2^-(10 + 4 · levels), and what [`height`] answers is the sum itself, with no bit rounded away.
+//!
+//! ```
+//! # use wallmirror::{height, open, refine_cells, Cell, Function, Plan};
+//! let plan = Plan { columns: 3, rows: 1, levels: 3, degree_across: 1, degree_up: 1, class: 2 };
+//! # let (mut cells, mut functions) = (vec![0; 63], vec![0; 94]);
+//! # let (mut cell_list, mut function_list) = ([Cell(0); 63], [Function(0); 94]);
+//! # open(plan, &mut cells, &mut functions)?;
+//! let marks = [Cell(0)];
+//! refine_cells(plan, &mut cells, &mut functions, &marks, &mut cell_list, &mut function_list)?;
+//! let mut heights = vec![0; functions.len()];
+//! heights[1] = 10; // of level 0: 10 mm
+//! heights[9] = 8; // of level 1: 8/16 mm
+//! heights[0] = i32::MAX; // deactivated
+//! // Half of function 1, and all of function 9.
+//! assert_eq!(height(plan, &cells, &functions, &heights, 16, 0), Ok(5.5));
+//! # Ok::<(), wallmirror::Refusal>(())
+//! ```
+//!
 //! # Limits
 //!
 //! | | |
@@ -173,6 +205,8 @@
 //! | functions of such a plan | at most [`MAX_FUNCTIONS`] |
 //! | marks of a call | any number |
 //! | file of a mesh | at most [`MAX_FILE_BYTES`] |
+//! | plan of [`height`] | degrees 1 and 2, at most four levels |
+//! | height of an active function | at most [`MAX_HEIGHT_MM`] either way |
 //! | stack of a call | at most [`STACK_BYTES`] |
 
 use std::fmt;
@@ -212,6 +246,10 @@ pub const MAX_FUNCTIONS: usize = 26_220;
 
 /// The most bytes that the file of a mesh has.
 pub const MAX_FILE_BYTES: usize = 5_469;
+
+/// The greatest height of an active function in millimetres, either way. It is met exactly: on level
+/// k the heights go from -65,536 · 16^k to 65,536 · 16^k.
+pub const MAX_HEIGHT_MM: u32 = 65_536;
 
 /// The most stack that any call takes, in bytes: what a thread must have left when it calls. The
 /// library allocates nothing, so whatever it needs beside the tables and lists is there. A thread
@@ -293,8 +331,9 @@ pub struct Cell(pub u32);
 #[derive(Clone, Copy, Debug, Default, PartialEq, Eq, PartialOrd, Ord, Hash)]
 pub struct Function(pub u32);
 
-/// Why a call was refused. Where several apply, the first of this order is given: 12; 1 to 6; then
-/// the marks in list order, each tried for 7, 8, 9; then 10, 11; then 13.
+/// Why a call was refused. Where several apply, the first of this order is given: 12; 1 to 6; then 3
+/// of the heights, 14, 15; then the marks in list order, each tried for 7, 8, 9; then 10, 11; then
+/// 13.
 #[derive(Clone, Copy, Debug, PartialEq, Eq, Hash)]
 #[repr(u32)]
 pub enum Refusal {
@@ -304,6 +343,7 @@ pub enum Refusal {
     /// All levels together have more than [`MAX_CELLS`] cells.
     TooManyCells = 2,
     /// The cell table has not [`Plan::cells`] bytes, or the function table not [`Plan::functions`].
+    /// Of [`height`] also, after 6: the heights are not as many as the functions.
     TableLength = 3,
     /// The cell bytes are not a mesh: another byte than 0, 1, 2, an absent cell of level 0, a
     /// refined cell with an absent child, any other cell with a child that is not absent, or a
@@ -321,7 +361,7 @@ pub enum Refusal {
     MarkOfWrongKind = 8,
     /// A mark to refine is of the last level. Coarsening never gives this.
     MarkOfLastLevel = 9,
-    /// The cell list has fewer entries than cells change. Of [`write`]: the lent bytes are fewer
+    /// The cell list has fewer entries than cells change. Of [`write()`]: the lent bytes are fewer
     /// than the file has.
     CellListTooShort = 10,
     /// The function list has fewer entries than functions change.
@@ -331,11 +371,16 @@ pub enum Refusal {
     MalformedFile = 12,
     /// Bytes follow the last number of the file.
     TrailingBytes = 13,
+    /// The plan is none for heights: a degree is more than 2, or there are more than four levels.
+    PlanWithoutHeights = 14,
+    /// The point lies beyond the mesh, or the height of an active function is more than
+    /// [`MAX_HEIGHT_MM`] either way.
+    PointOrHeightOutOfRange = 15,
 }
 
 impl Refusal {
     /// All refusals in the order of their numbers.
-    pub const ALL: [Refusal; 13] = [
+    pub const ALL: [Refusal; 15] = [
         Refusal::PlanOutOfRange,
         Refusal::TooManyCells,
         Refusal::TableLength,
@@ -349,9 +394,11 @@ impl Refusal {
         Refusal::FunctionListTooShort,
         Refusal::MalformedFile,
         Refusal::TrailingBytes,
+        Refusal::PlanWithoutHeights,
+        Refusal::PointOrHeightOutOfRange,
     ];
 
-    /// The number that the library answers, 1 to 13.
+    /// The number that the library answers, 1 to 15.
     pub fn number(self) -> u32 {
         self as u32
     }
@@ -379,7 +426,9 @@ impl fmt::Display for Refusal {
                 "a number of the plan is out of range (columns and rows 1 to 16, levels 1 to 8, degrees 1 to 4, class 0 or 2 to 8)"
             }
             Refusal::TooManyCells => "all levels together have more than 21845 cells",
-            Refusal::TableLength => "a table has not the length that the plan gives it",
+            Refusal::TableLength => {
+                "a table has not the length that the plan gives it, or the heights are not as many as the functions"
+            }
             Refusal::NotAMesh => "the cell table is not a mesh",
             Refusal::NotAdmissible => "the mesh is not admissible for the class of the plan",
             Refusal::WrongFunctionByte => {
@@ -398,6 +447,12 @@ impl fmt::Display for Refusal {
                 "a number of the file is cut off, longer than it may be, or a difference of 0"
             }
             Refusal::TrailingBytes => "bytes follow the last number of the file",
+            Refusal::PlanWithoutHeights => {
+                "heights are for plans of degrees 1 and 2 and at most four levels"
+            }
+            Refusal::PointOrHeightOutOfRange => {
+                "the point lies beyond the mesh, or the height of an active function is more than 65536 mm either way"
+            }
         };
         write!(f, "refusal {}: {message}", self.number())
     }
@@ -481,6 +536,11 @@ impl Mesh {
         let length = write(self.plan, &self.cells, &self.functions, &mut file)?;
         file.truncate(length);
         Ok(file)
+    }
+
+    /// The height of the surface at a point, as [`height`] says.
+    pub fn height(&self, heights: &[i32], across: u32, up: u32) -> Result<f64, Refusal> {
+        height(self.plan, &self.cells, &self.functions, heights, across, up)
     }
 }
 
@@ -745,6 +805,49 @@ pub fn write(
     Ok(written.length as usize)
 }
 
+/// The height of the surface in millimetres at a point, across and up in eighths of a cell of the
+/// last level: the sum over the active functions of height times B-spline value, exactly. What the
+/// heights are is said [above](crate#heights). Where it is 0 it is 0.0 and never -0.0. Refuses 1 to
+/// 6; then 3 where there is not one height for each function; then 14; then 15.
+///
+/// ```
+/// # use wallmirror::{height, open, Plan, Refusal};
+/// let plan = Plan { columns: 1, rows: 1, levels: 1, degree_across: 2, degree_up: 1, class: 0 };
+/// let (mut cells, mut functions) = ([0; 1], [0; 6]);
+/// open(plan, &mut cells, &mut functions)?;
+/// let heights = [0, 0, 0, 0, 3, 100];
+/// assert_eq!(height(plan, &cells, &functions, &heights, 8, 8), Ok(100.0));
+/// assert_eq!(height(plan, &cells, &functions, &heights, 4, 4), Ok((3.0 / 2.0 + 100.0 / 4.0) / 2.0));
+/// let beyond = height(plan, &cells, &functions, &heights, 9, 8);
+/// assert_eq!(beyond, Err(Refusal::PointOrHeightOutOfRange));
+/// # Ok::<(), Refusal>(())
+/// ```
+pub fn height(
+    plan: Plan,
+    cells: &[u8],
+    functions: &[u8],
+    heights: &[i32],
+    across: u32,
+    up: u32,
+) -> Result<f64, Refusal> {
+    // SAFETY: pointers and lengths are those of three slices, which are only read.
+    let answer = unsafe {
+        ffi::wallmirror_height(
+            plan.raw(),
+            cells.as_ptr(),
+            cells.len(),
+            functions.as_ptr(),
+            functions.len(),
+            heights.as_ptr(),
+            heights.len(),
+            across,
+            up,
+        )
+    };
+    accepted(answer.number)?;
+    Ok(answer.height)
+}
+
 fn accepted(number: u32) -> Result<(), Refusal> {
     match number {
         0 => Ok(()),
@@ -785,6 +888,7 @@ mod tests {
             ("MAX_CELLS", MAX_CELLS),
             ("MAX_FUNCTIONS", MAX_FUNCTIONS),
             ("MAX_FILE_BYTES", MAX_FILE_BYTES),
+            ("MAX_HEIGHT_MM", MAX_HEIGHT_MM as usize),
             ("STACK_BYTES", STACK_BYTES),
         ] {
             assert!(header.contains(&format!("#define WALLMIRROR_{name} {number}\n")), "{name}");
@@ -800,7 +904,22 @@ mod tests {
             assert!(refusal.to_string().starts_with(&format!("refusal {}: ", i + 1)));
         }
         assert_eq!(Refusal::from_number(0), None);
-        assert_eq!(Refusal::from_number(14), None);
+        assert_eq!(Refusal::from_number(16), None);
+    }
+
+    #[test]
+    fn the_header_has_the_same_refusals() {
+        let header = include_str!("../../../include/wallmirror.h");
+        for refusal in Refusal::ALL {
+            // TableLength is WALLMIRROR_TABLE_LENGTH.
+            let mut name = "WALLMIRROR".to_string();
+            for letter in format!("{refusal:?}").chars() {
+                name.extend(letter.is_uppercase().then_some('_'));
+                name.push(letter.to_ascii_uppercase());
+            }
+            let said = format!("    {name} = {}", refusal.number());
+            assert!(header.lines().any(|line| line.trim_end_matches(',') == said), "{said}");
+        }
     }
 
     #[test]

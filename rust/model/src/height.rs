@@ -1,0 +1,180 @@
+//! The height of the surface at a point: the sum over the active functions of height times B-spline
+//! value, over open uniform knots.
+//!
+//! All numbers are exact fractions. The B-splines are the textbook's: the recursion of Cox and de
+//! Boor over the knots as a list, where 0/0 is 0. Every active function is in the sum, near the point
+//! or not.
+
+use crate::{check, Function, Plan, ACTIVE};
+use std::ops::{Add, Div, Mul, Sub};
+
+/// The greatest height of an active function, in millimetres, either way.
+pub const MOST_MM: i128 = 65_536;
+
+/// A fraction in its lowest terms, the denominator above 0.
+#[derive(Clone, Copy, Debug, PartialEq, Eq)]
+pub struct Fraction {
+    numerator: i128,
+    denominator: i128,
+}
+
+impl Fraction {
+    pub const ZERO: Fraction = Fraction::whole(0);
+    pub const ONE: Fraction = Fraction::whole(1);
+
+    pub const fn whole(number: i128) -> Fraction {
+        Fraction { numerator: number, denominator: 1 }
+    }
+
+    pub fn new(numerator: i128, denominator: i128) -> Fraction {
+        assert_ne!(denominator, 0, "{numerator}/0");
+        let divisor = greatest_divisor(numerator, denominator) * denominator.signum();
+        Fraction { numerator: numerator / divisor, denominator: denominator / divisor }
+    }
+
+    /// The f64 that is just this fraction. That there is one is seen here: the fraction is an odd
+    /// number, or 0, times a power of two, and 53 bits hold the odd number.
+    pub fn to_f64(self) -> f64 {
+        assert!(self.denominator.count_ones() == 1, "{self:?} is not dyadic");
+        if self.numerator == 0 {
+            return 0.0;
+        }
+        let zeros = self.numerator.trailing_zeros();
+        let odd = self.numerator >> zeros;
+        assert!(odd.unsigned_abs() < 1 << 53, "{self:?} has more than 53 bits");
+        let exponent = zeros as i32 - self.denominator.trailing_zeros() as i32;
+        assert!((-900..=900).contains(&exponent), "{self:?} is too small or too large");
+        // 2^exponent, as f64 lays it out. The product only changes the exponent.
+        let power = f64::from_bits(((1023 + exponent) as u64) << 52);
+        odd as f64 * power
+    }
+}
+
+fn greatest_divisor(a: i128, b: i128) -> i128 {
+    let (mut a, mut b) = (a.abs(), b.abs());
+    while b != 0 {
+        (a, b) = (b, a % b);
+    }
+    a
+}
+
+impl Add for Fraction {
+    type Output = Fraction;
+    fn add(self, other: Fraction) -> Fraction {
+        let numerator = self.numerator * other.denominator + other.numerator * self.denominator;
+        Fraction::new(numerator, self.denominator * other.denominator)
+    }
+}
+
+impl Sub for Fraction {
+    type Output = Fraction;
+    fn sub(self, other: Fraction) -> Fraction {
+        self + Fraction { numerator: -other.numerator, ..other }
+    }
+}
+
+impl Mul for Fraction {
+    type Output = Fraction;
+    fn mul(self, other: Fraction) -> Fraction {
+        Fraction::new(self.numerator * other.numerator, self.denominator * other.denominator)
+    }
+}
+
+impl Div for Fraction {
+    type Output = Fraction;
+    fn div(self, other: Fraction) -> Fraction {
+        Fraction::new(self.numerator * other.denominator, self.denominator * other.numerator)
+    }
+}
+
+impl PartialOrd for Fraction {
+    fn partial_cmp(&self, other: &Fraction) -> Option<std::cmp::Ordering> {
+        let (left, right) =
+            (self.numerator * other.denominator, other.numerator * self.denominator);
+        left.partial_cmp(&right)
+    }
+}
+
+/// The open uniform knots over n cells: each inner line once, each end degree + 1 times.
+pub fn knots(n: u32, degree: u32) -> Vec<Fraction> {
+    let ends = degree as usize + 1;
+    let mut knots = vec![Fraction::ZERO; ends];
+    knots.extend((1..n).map(|line| Fraction::whole(line.into())));
+    knots.extend(vec![Fraction::whole(n.into()); ends]);
+    knots
+}
+
+/// The value at x of B-spline i of this degree. The last interval that is not empty has its far end
+/// too.
+pub fn b_spline(knots: &[Fraction], i: usize, degree: usize, x: Fraction) -> Fraction {
+    if degree == 0 {
+        let (from, to, last) = (knots[i], knots[i + 1], knots[knots.len() - 1]);
+        let inside = (from <= x && x < to) || (from < to && to == last && x == last);
+        return if inside { Fraction::ONE } else { Fraction::ZERO };
+    }
+    let ratio = |part: Fraction, of: Fraction| match of {
+        Fraction::ZERO => Fraction::ZERO,
+        _ => part / of,
+    };
+    let rising = ratio(x - knots[i], knots[i + degree] - knots[i]);
+    let falling = ratio(knots[i + degree + 1] - x, knots[i + degree + 1] - knots[i + 1]);
+    rising * b_spline(knots, i, degree - 1, x) + falling * b_spline(knots, i + 1, degree - 1, x)
+}
+
+/// The far edge across and up, in eighths of a cell of the last level.
+pub fn far_edges(plan: Plan) -> (u32, u32) {
+    let last = plan.levels - 1;
+    (8 * plan.width(last), 8 * plan.height(last))
+}
+
+/// The value of a function at a point, given in eighths of a cell of the last level.
+pub fn value(plan: Plan, function: Function, across: u32, up: u32) -> Fraction {
+    let Function { level, row, column } = function;
+    let eighths = 8 * 2i128.pow(plan.levels - 1 - level);
+    let in_one_direction = |n, degree, i, place: u32| {
+        let x = Fraction::new(place.into(), eighths);
+        b_spline(&knots(n, degree), i as usize, degree as usize, x)
+    };
+    in_one_direction(plan.width(level), plan.degree_across, column, across)
+        * in_one_direction(plan.height(level), plan.degree_up, row, up)
+}
+
+/// A function's height in millimetres: on level k the unit is 16^-k of them.
+pub fn millimetres(level: u32, height: i32) -> Fraction {
+    Fraction::new(height.into(), 16i128.pow(level))
+}
+
+/// The height of the surface at a point, in millimetres.
+pub fn height(
+    plan: Plan,
+    cells: &[u8],
+    functions: &[u8],
+    heights: &[i32],
+    across: u32,
+    up: u32,
+) -> Result<Fraction, u32> {
+    check(plan, cells, functions)?;
+    if heights.len() != plan.function_total() {
+        return Err(3);
+    }
+    if plan.degree_across > 2 || plan.degree_up > 2 || plan.levels > 4 {
+        return Err(14);
+    }
+    let active: Vec<(Function, Fraction)> = plan
+        .functions()
+        .zip(functions)
+        .zip(heights)
+        .filter(|((_, &label), _)| label == ACTIVE)
+        .map(|((function, _), &height)| (function, millimetres(function.level, height)))
+        .collect();
+    let most = Fraction::whole(MOST_MM);
+    let too_high = |height: Fraction| height > most || height < Fraction::ZERO - most;
+    let (far_across, far_up) = far_edges(plan);
+    if across > far_across || up > far_up || active.iter().any(|&(_, height)| too_high(height)) {
+        return Err(15);
+    }
+    let sum = |sum, &(function, height): &(Function, Fraction)| {
+        sum + height * value(plan, function, across, up)
+    };
+    Ok(active.iter().fold(Fraction::ZERO, sum))
+}

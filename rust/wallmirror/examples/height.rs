@@ -1,0 +1,48 @@
+//! A hold on a bulge: a mesh is refined where the hold goes, a function of each level gets a
+//! height, and the heights of the surface are printed along a line through both.
+
+use std::process::ExitCode;
+use wallmirror::{open, refine_cells, Cell, Function, Mesh, Plan, Refusal};
+
+fn main() -> ExitCode {
+    match print_heights() {
+        Ok(()) => ExitCode::SUCCESS,
+        Err(refusal) => {
+            eprintln!("{refusal}");
+            ExitCode::FAILURE
+        }
+    }
+}
+
+fn print_heights() -> Result<(), Refusal> {
+    let plan = Plan { columns: 4, rows: 4, levels: 2, degree_across: 2, degree_up: 2, class: 2 };
+    let (t, f) = (plan.cells().unwrap(), plan.functions().unwrap());
+    let (mut cells, mut functions) = (vec![0; t], vec![0; f]);
+    let (mut cell_list, mut function_list) = (vec![Cell(0); t], vec![Function(0); f]);
+    open(plan, &mut cells, &mut functions)?;
+    let marks = [5, 6, 9, 10].map(Cell); // the four cells in the middle
+    refine_cells(plan, &mut cells, &mut functions, &marks, &mut cell_list, &mut function_list)?;
+    let mesh = Mesh { plan, cells, functions };
+
+    let mut heights = vec![0; f];
+    heights[function_at(plan, 0, 2, 2)] = 160; // on level 0 in millimetres
+    heights[function_at(plan, 1, 4, 4)] = 24 * 16; // on level 1 in sixteenths
+
+    // Points are counted in eighths of a cell of the last level.
+    let last = plan.levels - 1;
+    let (far_across, far_up) = (8 * (plan.columns << last), 8 * (plan.rows << last));
+    println!("across  height in mm");
+    for across in (0..=far_across).step_by(4) {
+        println!("{across:>6}  {:>12.4}", mesh.height(&heights, across, far_up / 2)?);
+    }
+    Ok(())
+}
+
+/// The number of a function: those of the levels above, then row by row, with columns + degree to a
+/// row.
+fn function_at(plan: Plan, level: u32, row: u32, column: u32) -> usize {
+    let across = |level| (plan.columns << level) + plan.degree_across;
+    let up = |level| (plan.rows << level) + plan.degree_up;
+    let before: u32 = (0..level).map(|level| across(level) * up(level)).sum();
+    (before + row * across(level) + column) as usize
+}
