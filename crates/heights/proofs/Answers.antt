@@ -19,7 +19,7 @@ use Rattle.mesh.proofs.Bridge.{Passed, check-passed, pass, stop}
 use Rattle.heights.specs.declared.Height.{Height}
 use Rattle.heights.specs.declared.Height.the-variants.{At, Refused}
 use Rattle.heights.specs.Heights.{onMesh, heightSum, places, inexact, allLow, heightsRefusal, refusal, answer}
-use Rattle.heights.specs.Steps.{OnSurface}
+use Rattle.heights.specs.Steps.{Point, OnSurface}
 
 or-no : (a b : Bool) → (a || b) ≡ false → (a ≡ false) × (b ≡ false)
 or-no true b e = absurd (true-T false (sym e))
@@ -36,6 +36,9 @@ few p e =
     let a = or-no (ltb 2 (p .«degree_across»)) _ e in
     let b = or-no (ltb 2 (p .«degree_up»)) (ltb 4 (p .levels)) (a .1) in
     record { across≤ = ltb-false _ _ (a .0); up≤ = ltb-false _ _ (b .0); levels≤ = ltb-false _ _ (b .1) }
+
+pub point : (p : Plan) → InRange p → Few p → (x y : ℕ) → T (onMesh p x y) → Point p x y
+point p r f x y t = record { range = r; across≤ = f .across≤; up≤ = f .up≤; levels≤ = f .levels≤; inside = t }
 
 module _ (p : Plan) (functions : List ℕ) (heights : List ℤ) where
   pub refuse-3 : (length heights ≡ functionTotal p → ⊥) → 3 ≡ heightsRefusal p functions heights
@@ -91,12 +94,8 @@ module _ (p : Plan) (cells functions : List ℕ) (heights : List ℤ) (x y : ℕ
       let k = check-passed p cells functions c in
       let g = fine p functions heights e in
       record {
-        range = k .range;
-        across≤ = g .exact .across≤;
-        up≤ = g .exact .up≤;
-        levels≤ = g .exact .levels≤;
+        point = point p (k .range) (g .exact) x y (true-T _ f);
         of-functions = k .functions;
         of-heights = g .sized;
         low = g .low;
-        inside = true-T _ f;
       }

@@ -4,3 +4,4 @@ pub mod Surface
 pub mod Turns
 pub mod Lows
 pub mod Answers
+pub mod Results

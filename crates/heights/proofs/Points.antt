@@ -1,22 +1,24 @@
 -- Points of a mesh are points of each level's sides; what makes a millimetre. Assumes nothing.
 use mathlib.Core.Path.{_≡_, refl, sym, ap, _∙_}
 use mathlib.Core.Bool.{_&&_}
-use mathlib.Core.List.{List}
 use Prim.Native.Nat.{ℕ, zero, suc, _+_, _-_, _*_, _^_, _≤_, _<_}
-use native.Mathlib.Nat.{mul-le-mul-left, pow-zero, pow-suc}
+use native.Mathlib.Nat.{add-assoc, mul-le-mul-left, pow-zero, pow-suc}
 use native.Mathlib.Omega.{arith}
 use lib.Dec.{T, leb, leb→le}
-use lib.IntN.{ℤ}
 use lib.Pow.{pow-add, pow-pos, pow-mono}
 use Rattle.facts.proofs.Tests.{and-l, and-r}
 use Rattle.grid.specs.declared.Plan.{Plan}
 use Rattle.grid.specs.declared.Side.{Side}
-use Rattle.grid.specs.Plan.{ratio, grown, columnsAt, rowsAt, acrossAt, upAt}
+use Rattle.grid.specs.declared.Place.{Place}
+use Rattle.grid.specs.Numbering.{number}
+use Rattle.grid.specs.Plan.{ratio, grown, columnsAt, rowsAt, acrossAt, upAt, functionColumnsAt, functionRowsAt, functionOffset, functionPlace, functionNumber, FunctionInside}
+use Rattle.grid.specs.Range.{InRange}
+use Rattle.grid.proofs.Laws.{function-place-number}
 use Rattle.grid.proofs.Sides.{across-in, up-in}
 use Rattle.splines.specs.Claims.{OnSide}
 use Rattle.splines.specs.Room.{InRoom}
 use Rattle.heights.specs.Heights.{eighths, onMesh, oneAt, places}
-use Rattle.heights.specs.Steps.{OnSurface}
+use Rattle.heights.specs.Steps.{Point}
 
 -- ---- the points of a cell
 
@@ -47,7 +49,7 @@ module _ (p : Plan) (k : ℕ) where
 
 -- ---- both sides of a level
 
-module _ (p : Plan) (functions : List ℕ) (heights : List ℤ) (x y : ℕ) (s : OnSurface p functions heights x y) (k : ℕ) (l : k < p .levels) where
+module _ (p : Plan) (x y : ℕ) (s : Point p x y) (k : ℕ) (l : k < p .levels) where
   across-le : x ≤ columnsAt p (p .levels - 1) * 8
   unfolding onMesh
   across-le = leb→le x _ (and-l (leb x (columnsAt p (p .levels - 1) * 8)) _ (s .inside))
@@ -79,6 +81,23 @@ module _ (p : Plan) (functions : List ℕ) (heights : List ℤ) (x y : ℕ) (s :
 
   pub up-room : InRoom (upAt p k) (eighths p k)
   up-room = record { cells≤ = up-in p (s .range) k l .cells≤; parts≤ = eighths-small p k (s .levels≤) }
+
+-- ---- the functions of a level, by row and column
+
+module _ (p : Plan) (range : InRange p) (k : ℕ) (l : k < p .levels) where
+  abbrev pub at : ℕ → ℕ → Place
+  at r c = record { level = k; row = r; column = c }
+
+  pub number-at : (r c : ℕ) → functionNumber p (at r c) ≡ functionOffset p k + (r * functionColumnsAt p k + c)
+  unfolding number
+  number-at r c = add-assoc (functionOffset p k) (r * functionColumnsAt p k) c
+
+  module _ (r c : ℕ) (m : r < functionRowsAt p k) (n : c < functionColumnsAt p k) where
+    pub at-inside : FunctionInside p (at r c)
+    at-inside = record { level< = l; row< = m; column< = n }
+
+    pub place-at : functionPlace p (functionOffset p k + (r * functionColumnsAt p k + c)) ≡ at r c
+    place-at = ap (functionPlace p) (sym (number-at r c)) ∙ function-place-number p range (at r c) at-inside
 
 -- ---- millimetres
 

@@ -34,7 +34,7 @@ use Rattle.splines.specs.Claims.{OnSide}
 use Rattle.splines.proofs.Sides.{within, value-over, value-outside, values, over-last}
 use Rattle.heights.specs.Heights.{eighths, valueAt, oneAt, productOf, heightSum, places, low, lowAt, allLow}
 use Rattle.heights.specs.Steps.{OnSurface, levelPart, added, rowSum, levelSum, most, Row, Rows}
-use Rattle.heights.proofs.Points.{eighths-small, on-across, on-up, millimetre}
+use Rattle.heights.proofs.Points.{eighths-small, on-across, on-up, at, number-at, at-inside, place-at, millimetre}
 
 times-none : (h : ℤ) → h *ℤ pos 0 ≡ pos 0
 times-none (pos a) = ap pos (mul-zero a)
@@ -98,10 +98,10 @@ module _ (p : Plan) (functions : List ℕ) (heights : List ℤ) (x y : ℕ) (s :
     h = eighths p k
 
     abbrev across : OnSide (acrossAt p k) h x
-    across = on-across p functions heights x y s k l
+    across = on-across p x y (s .point) k l
 
     abbrev up : OnSide (upAt p k) h y
-    up = on-up p functions heights x y s k l
+    up = on-up p x y (s .point) k l
 
     abbrev W : ℕ
     W = functionColumnsAt p k
@@ -117,9 +117,6 @@ module _ (p : Plan) (functions : List ℕ) (heights : List ℤ) (x y : ℕ) (s :
 
     abbrev vy : ℕ → ℕ
     vy r = valueOn (upAt p k) h r y
-
-    abbrev at : ℕ → ℕ → Place
-    at r c = record { level = k; row = r; column = c }
 
     abbrev X : LocalValues
     X = localOf (acrossAt p k) h x
@@ -140,22 +137,12 @@ module _ (p : Plan) (functions : List ℕ) (heights : List ℤ) (x y : ℕ) (s :
     row-in : (i : ℕ) → i ≤ p .«degree_up» → fr + i < R
     row-in i m = omega (arith, over-last (upAt p k) h y up, up-functions p k)
 
-    inside : (r c : ℕ) → r < R → c < W → FunctionInside p (at r c)
-    inside r c m n = record { level< = l; row< = m; column< = n }
-
-    number-is : (r c : ℕ) → functionNumber p (at r c) ≡ o + (r * W + c)
-    unfolding number
-    number-is r c = add-assoc o (r * W) c
-
-    place-is : (r c : ℕ) → r < R → c < W → functionPlace p (o + (r * W + c)) ≡ at r c
-    place-is r c m n = ap (functionPlace p) (sym (number-is r c)) ∙ function-place-number p (s .range) (at r c) (inside r c m n)
-
     number-in : (r c : ℕ) → r < R → c < W → o + (r * W + c) < functionTotal p
-    number-in r c m n = omega (arith, number-is r c, function-number-lt p (s .range) (at r c) (inside r c m n))
+    number-in r c m n = omega (arith, number-at p (s .point .range) k l r c, function-number-lt p (s .point .range) _ (at-inside p (s .point .range) k l r c m n))
 
     product-is : (r c : ℕ) → r < R → c < W → productOf p functions heights x y (o + (r * W + c)) ≡ added functions heights (o + (r * W + c)) (vx c * vy r)
     unfolding productOf added valueAt
-    product-is r c m n = rw (place-is r c m n)
+    product-is r c m n = rw (place-at p (s .point .range) k l r c m n)
 
     -- a row's columns that are not over the point have value 0, and so have all of a row that is not
     column-off : (c : ℕ) → c < W → (Over (acrossAt p k) c (cellOf h (columnsAt p k) x) → ⊥) → vx c ≡ 0
@@ -172,7 +159,7 @@ module _ (p : Plan) (functions : List ℕ) (heights : List ℤ) (x y : ℕ) (s :
         (λ c n b. added-zero functions heights _ (rw (column-off c b (λ q. absurd (omega (arith, q .to)))) (zero-mul (vy r))))
         ∙ sum-same (p .«degree_across» + 1) _ _ (λ j n. added-same functions heights (omega arith) (ap (λ v. v * vy r) (value-over (acrossAt p k) h x across j (omega arith))))
 
-    pub level-sum : levelPart p functions heights x y k ≡ levelSum functions heights (functionNumber p (at fr fc)) W X Y
+    pub level-sum : levelPart p functions heights x y k ≡ levelSum functions heights (functionNumber p (at p (s .point .range) k l fr fc)) W X Y
     unfolding levelPart levelSum localOf
     level-sum =
         sum-rows R W _
@@ -180,7 +167,7 @@ module _ (p : Plan) (functions : List ℕ) (heights : List ℤ) (x y : ℕ) (s :
         ∙ sum-window R fr (p .«degree_up» + 1) _ (omega (arith, row-in (p .«degree_up») (le-refl _)))
         (λ r m. row-none functions heights _ X (row-off r (omega (arith, row-in 0 zero-le)) (λ q. absurd (omega (arith, q .from)))))
         (λ r m b. row-none functions heights _ X (row-off r b (λ q. absurd (omega (arith, q .to)))))
-        ∙ sum-same (p .«degree_up» + 1) _ _ (λ i m. row-same functions heights X (omega (arith, number-is fr fc)) (value-over (upAt p k) h y up i (omega arith)))
+        ∙ sum-same (p .«degree_up» + 1) _ _ (λ i m. row-same functions heights X (omega (arith, number-at p (s .point .range) k l fr fc)) (value-over (upAt p k) h y up i (omega arith)))
 
     -- ---- sizes
 
@@ -191,19 +178,19 @@ module _ (p : Plan) (functions : List ℕ) (heights : List ℤ) (x y : ℕ) (s :
     up-most r n = values (upAt p k) h y up .most r (omega (arith, up-functions p k))
 
     one-small : 2 * h * h ≤ 8192
-    one-small = let e = eighths-small p k (s .levels≤) in omega (arith, mul-le-mul e e)
+    one-small = let e = eighths-small p k (s .point .levels≤) in omega (arith, mul-le-mul e e)
 
     height-low : (r c : ℕ) → r < R → c < W → T (active functions (o + (r * W + c))) → natAbs (getD heights (o + (r * W + c)) (pos 0)) ≤ 65536 * 16 ^ k
     unfolding allLow lowAt low
     height-low r c m n a =
         let f = o + (r * W + c) in
         let t = implies-e (active functions f) _ (every-e (functionTotal p) _ (s .low) f (number-in r c m n)) a in
-        let e : functionLevel p f ≡ k = ap (λ (z : Place). z .level) (place-is r c m n) in
+        let e : functionLevel p f ≡ k = ap (λ (z : Place). z .level) (place-at p (s .point .range) k l r c m n) in
         rw e at (leb→le (natAbs (getD heights f (pos 0))) (65536 * 16 ^ functionLevel p f) t)
 
     parts-small : 65536 * 2 ^ places p ≤ most
     unfolding places
-    parts-small = mul-le-mul-left 65536 (pow-mono {i = 10 + 4 * p .levels} {j = 26} (omega (arith, s .levels≤)))
+    parts-small = mul-le-mul-left 65536 (pow-mono {i = 10 + 4 * p .levels} {j = 26} (omega (arith, s .point .levels≤)))
 
     product-small : (r c : ℕ) → r < R → c < W → natAbs (added functions heights (o + (r * W + c)) (vx c * vy r)) ≤ most
     unfolding oneAt
@@ -218,13 +205,13 @@ module _ (p : Plan) (functions : List ℕ) (heights : List ℤ) (x y : ℕ) (s :
     piece-up i m = sym (value-over (upAt p k) h y up i m)
 
     -- function j of row i of those over the point
-    number-of : (i j : ℕ) → functionNumber p (at fr fc) + i * W + j ≡ o + ((fr + i) * W + (fc + j))
-    number-of i j = omega (arith, number-is fr fc)
+    number-of : (i j : ℕ) → functionNumber p (at p (s .point .range) k l fr fc) + i * W + j ≡ o + ((fr + i) * W + (fc + j))
+    number-of i j = omega (arith, number-at p (s .point .range) k l fr fc)
 
-    row-of : (i : ℕ) → i ≤ p .«degree_up» → Row functions heights (functionNumber p (at fr fc) + i * W) X (pieceOf Y i)
+    row-of : (i : ℕ) → i ≤ p .«degree_up» → Row functions heights (functionNumber p (at p (s .point .range) k l fr fc) + i * W) X (pieceOf Y i)
     unfolding localOf
     row-of i m = record {
-      degree≤ = s .across≤;
+      degree≤ = s .point .across≤;
       in-functions = omega (arith, number-of i (p .«degree_across»), number-in (fr + i) (fc + p .«degree_across») (row-in i m) (column-in _ (le-refl _)), s .of-functions);
       in-heights = omega (arith, number-of i (p .«degree_across»), number-in (fr + i) (fc + p .«degree_across») (row-in i m) (column-in _ (le-refl _)), s .of-heights);
       up≤ = omega (arith, piece-up i m, up-most (fr + i) (row-in i m), one-small);
@@ -232,12 +219,12 @@ module _ (p : Plan) (functions : List ℕ) (heights : List ℤ) (x y : ℕ) (s :
       small = λ j n. rw (number-of i j, piece-across j n, piece-up i m) (product-small (fr + i) (fc + j) (row-in i m) (column-in j n));
     }
 
-    pub rows-in : Rows functions heights (functionNumber p (at fr fc)) W X Y
+    pub rows-in : Rows functions heights (functionNumber p (at p (s .point .range) k l fr fc)) W X Y
     unfolding localOf
-    rows-in = record { degree≤ = s .up≤; row = row-of }
+    rows-in = record { degree≤ = s .point .up≤; row = row-of }
 
-    pub first-inside : FunctionInside p (at fr fc)
-    first-inside = inside fr fc (omega (arith, row-in 0 zero-le)) (omega (arith, column-in 0 zero-le))
+    pub first-inside : FunctionInside p (at p (s .point .range) k l fr fc)
+    first-inside = at-inside p (s .point .range) k l fr fc (omega (arith, row-in 0 zero-le)) (omega (arith, column-in 0 zero-le))
 
     pub level-size : natAbs (levelPart p functions heights x y k) ≤ 9 * most
     level-size = rw level-sum (rows-size rows-in)
@@ -252,7 +239,7 @@ module _ {p : Plan} {functions : List ℕ} {heights : List ℤ} {x y : ℕ} (s :
 
       pub across-found : (SideIn columns) × (X .cell < columns .cells)
       unfolding localOf
-      across-found = rw (found-across, hc) (across-in p (s .range) k l, within (acrossAt p k) (eighths p k) x (on-across p functions heights x y s k l))
+      across-found = rw (found-across, hc) (across-in p (s .point .range) k l, within (acrossAt p k) (eighths p k) x (on-across p x y (s .point) k l))
 
     module _ {rows : Side} {Y : LocalValues} (hr : rows ≡ upAt p k) (hy : Y ≡ localOf rows e y) where
       pub found-up : Y ≡ localOf (upAt p k) (eighths p k) y
@@ -260,7 +247,7 @@ module _ {p : Plan} {functions : List ℕ} {heights : List ℤ} {x y : ℕ} (s :
 
       pub up-found : (SideIn rows) × (Y .cell < rows .cells)
       unfolding localOf
-      up-found = rw (found-up, hr) (up-in p (s .range) k l, within (upAt p k) (eighths p k) y (on-up p functions heights x y s k l))
+      up-found = rw (found-up, hr) (up-in p (s .point .range) k l, within (upAt p k) (eighths p k) y (on-up p x y (s .point) k l))
 
   module _ {e : ℕ} {columns rows : Side} {X Y : LocalValues} (he : e ≡ eighths p k) (hc : columns ≡ acrossAt p k) (hr : rows ≡ upAt p k)
       (hx : X ≡ localOf columns e x) (hy : Y ≡ localOf rows e y) {row column : ℕ} (hrow : row ≡ firstOver rows (Y .cell)) (hcolumn : column ≡ firstOver columns (X .cell)) where

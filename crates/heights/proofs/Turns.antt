@@ -132,9 +132,9 @@ module _ {p : Plan} {functions : List ℕ} {heights : List ℤ} {x y : ℕ} (s :
   pub turn-level : {k : ℕ} {z sum : Float} → k < p .levels → sum ≡ dyadic (places p) (upTo k) → z ≡ dyadic (places p) (levelPart p functions heights x y k)
       → add binary64 sum z ≡ dyadic (places p) (upTo (k + 1))
   turn-level {k} l e q =
-      let n : k + 1 ≤ 4 = omega (arith, s .levels≤) in
+      let n : k + 1 ≤ 4 = omega (arith, s .point .levels≤) in
       rw (e, q, up-next k)
-      (plus (places p) (upTo k) (levelPart p functions heights x y k) (unfold places in places≤ (s .levels≤))
+      (plus (places p) (upTo k) (levelPart p functions heights x y k) (unfold places in places≤ (s .point .levels≤))
       (lt-of-le-of-lt (subst (λ z. natAbs z ≤ (k + 1) * (9 * most)) (up-next k) (up-size (k + 1) (omega arith))) (lt-of-le-of-lt (mul-le-mul-right (9 * most) n) (lit< tt)))
       (dyadic-exact (places p) (levelPart p functions heights x y k)))
 

@@ -33,15 +33,19 @@ pub record Limit (k : ℕ) (r : Limits) : Type 0 where
 
 -- ---- what the refusals leave
 
-pub record OnSurface (p : Plan) (functions : List ℕ) (heights : List ℤ) (x y : ℕ) : Type 0 where
+-- a point of a plan that heights allow
+pub record Point (p : Plan) (x y : ℕ) : Type 0 where
   pub range : InRange p
   pub across≤ : p .«degree_across» ≤ 2
   pub up≤ : p .«degree_up» ≤ 2
   pub levels≤ : p .levels ≤ 4
+  pub inside : T (onMesh p x y)
+
+pub record OnSurface (p : Plan) (functions : List ℕ) (heights : List ℤ) (x y : ℕ) : Type 0 where
+  pub point : Point p x y
   pub of-functions : length functions ≡ functionTotal p
   pub of-heights : length heights ≡ functionTotal p
   pub low : T (allLow p functions heights)
-  pub inside : T (onMesh p x y)
 
 -- what the functions of level k add
 unfoldable pub levelPart : Plan → List ℕ → List ℤ → ℕ → ℕ → ℕ → ℤ

@@ -27,7 +27,7 @@ loop-holds c = (omega arith, start-level (c .before .before .pre))
 level-height-requires : tie.Need-level-height-requires Inv-loop μ-loop
 level-height-requires c κs =
     let s = c .before .before .before .before in
-    (s .pre, (omega arith, record { levels≤ = s .pre .levels≤; is = c .before .before .unit .ensures }))
+    (s .pre, (omega arith, record { levels≤ = s .pre .point .levels≤; is = c .before .before .unit .ensures }))
 
 add-level : tie.Need-add-level Inv-loop μ-loop
 add-level c = search needs

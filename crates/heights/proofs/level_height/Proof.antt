@@ -21,13 +21,13 @@ locate-requires : tie.Need-locate-requires
 locate-requires c κs =
     let s = c .before .before .before .before in
     rw (c .before .across-at .ensures, c .before .before .eighths .ensures .0)
-    (on-across _ _ _ _ _ (s .pre .0) (s .args .level) (s .pre .1 .0), across-room _ _ _ _ _ (s .pre .0) (s .args .level) (s .pre .1 .0))
+    (on-across _ _ _ (s .pre .0 .point) (s .args .level) (s .pre .1 .0), across-room _ _ _ (s .pre .0 .point) (s .args .level) (s .pre .1 .0))
 
 locate-requires-2 : tie.Need-locate-requires-2
 locate-requires-2 c κs =
     let s = c .before .before .before .before .before in
     rw (c .before .up-at .ensures, c .before .before .before .eighths .ensures .0)
-    (on-up _ _ _ _ _ (s .pre .0) (s .args .level) (s .pre .1 .0), up-room _ _ _ _ _ (s .pre .0) (s .args .level) (s .pre .1 .0))
+    (on-up _ _ _ (s .pre .0 .point) (s .args .level) (s .pre .1 .0), up-room _ _ _ (s .pre .0 .point) (s .args .level) (s .pre .1 .0))
 
 first-over-requires : tie.Need-first-over-requires
 first-over-requires c κs =
@@ -43,13 +43,13 @@ function-number-requires : tie.Need-function-number-requires
 function-number-requires c κs =
     let s = c .before .before .before .before .before .before .before .before in
     (
-      s .pre .0 .range,
+      s .pre .0 .point .range,
       inside-found (s .pre .0) (s .pre .1 .0) (c .before .before .before .before .before .before .eighths .ensures .0) (c .before .before .before .before .before .across-at .ensures) (c .before .before .before .before .up-at .ensures) (c .before .before .before .locate .ensures) (c .before .before .locate2 .ensures)
       (c .before .first-over .ensures) (c .first-over2 .ensures),
     )
 
 function-columns-at-requires : tie.Need-function-columns-at-requires
-function-columns-at-requires c κs = search needs
+function-columns-at-requires c κs = let s = c .before .before .before .before .before .before .before .before .before in (s .pre .0 .point .range, s .pre .1 .0)
 
 cast-width : tie.Need-cast-width
 cast-width c = search needs
