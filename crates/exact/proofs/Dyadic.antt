@@ -308,3 +308,11 @@ definite s z {x} h e = e .is ∙ ap (λ (t : Bool). over s t (natAbs z)) (same (
     same true (pos zero) l a = absurd (lt-irrefl 0 l)
     same true (pos (suc n)) l a = absurd (pos-ne-negsuc (suc n) n (sym a))
     same true (negsuc n) l a = refl
+
+-- so the same number with k more places after the point is the same float
+pub dyadic-widen : (s k : ℕ) (z : ℤ) → s + k ≤ 1021 → natAbs z * 2 ^ k < 2 ^ 53 → dyadic s z ≡ dyadic (s + k) (z *ℤ pos (2 ^ k))
+unfolding dyadic over odd
+dyadic-widen s k (pos zero) h g = rw (zero-mul (2 ^ k))
+dyadic-widen s k (pos (suc n)) h g = definite (s + k) (pos (suc n) *ℤ pos (2 ^ k)) (mul-pos (zero-lt-suc n) (pow-pos k)) (widen {z = pos (suc n)} k h g (dyadic-exact s (pos (suc n))))
+dyadic-widen s k (negsuc n) h g =
+    definite (s + k) (negsuc n *ℤ pos (2 ^ k)) (rw (abs-mul (negsuc n) (pos (2 ^ k))) (mul-pos (zero-lt-suc n) (pow-pos k))) (widen {z = negsuc n} k h g (dyadic-exact s (negsuc n)))

@@ -2,11 +2,12 @@
 use mathlib.Core.Path.{_≡_, refl, sym, ap, _∙_}
 use mathlib.Core.Bool.{Bool, true, false, cond}
 use Prim.Native.Nat.{ℕ, zero, suc, _+_, _-_, _*_, _≤_, _<_, zero-le}
-use native.Mathlib.Nat.{le-refl, le-trans, add-comm, add-zero, add-suc, add-sub-of-le, suc-mul, zero-mul}
+use native.Mathlib.Nat.{le-refl, le-trans, add-comm, add-zero, add-suc, add-sub-of-le, suc-mul, zero-mul, mul-add}
 use native.Mathlib.Numerals.{add-one}
 use native.Mathlib.Omega.{arith}
 use lib.Dec.{ltb, ltb→lt}
-use lib.IntN.{ℤ, pos, negsuc, natAbs, _+ℤ_, subℕ, +ℤ-idl, +ℤ-idr, +ℤ-assoc}
+use lib.IntN.{ℤ, pos, negsuc, negℤ, natAbs, _+ℤ_, _*ℤ_, subℕ, +ℤ-idl, +ℤ-idr, +ℤ-assoc, negℤ-+ℤ, *ℤ-zero}
+use Rattle.facts.specs.Bounded.{sum}
 use Rattle.exact.specs.Sums.{sumℤ}
 
 -- ---- sizes
@@ -62,6 +63,16 @@ pub sum-split : (a n : ℕ) (f : ℕ → ℤ) → sumℤ (a + n) f ≡ sumℤ a 
 unfolding sumℤ
 sum-split a zero f = rw (add-zero, +ℤ-idr)
 sum-split a (suc n) f = rw (add-suc a n) (rw (sum-split a n f) (+ℤ-assoc (sumℤ a f) (sumℤ n (λ k. f (a + k))) (f (a + n))))
+
+-- a number times each of f, and times their sum
+times-add : (z : ℤ) (a b : ℕ) → z *ℤ pos (a + b) ≡ z *ℤ pos a +ℤ z *ℤ pos b
+times-add (pos n) a b = ap pos (mul-add n a b)
+times-add (negsuc n) a b = ap (λ m. negℤ (pos m)) (mul-add (suc n) a b) ∙ negℤ-+ℤ (pos (suc n * a)) (pos (suc n * b))
+
+pub sum-times : (n : ℕ) (z : ℤ) (f : ℕ → ℕ) → sumℤ n (λ k. z *ℤ pos (f k)) ≡ z *ℤ pos (sum n f)
+unfolding sumℤ sum
+sum-times zero z f = sym (*ℤ-zero z)
+sum-times (suc n) z f = ap (λ s. s +ℤ z *ℤ pos (f n)) (sum-times n z f) ∙ sym (times-add z (sum n f) (f n))
 
 -- h rows of w numbers each
 pub sum-rows : (h w : ℕ) (f : ℕ → ℤ) → sumℤ (h * w) f ≡ sumℤ h (λ r. sumℤ w (λ c. f (r * w + c)))

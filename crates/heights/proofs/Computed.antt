@@ -1,15 +1,16 @@
--- Answers computed from their definition. Assumes nothing.
+-- Answers computed from their definition, and written as the bits of the float. Assumes nothing.
 use mathlib.Core.Bool.{cond}
 use mathlib.Core.List.{List, [], _∷_}
 use mathlib.Core.Path.{_≡_, refl}
-use Prim.Native.Nat.{ℕ, zero, suc}
+use Prim.Native.Nat.{ℕ, zero, suc, _^_}
 use lib.Dec.{eqb}
-use lib.IntN.{ℤ, pos, negsuc}
-use lib.Ieee.{odd}
+use lib.IntN.{ℤ, pos, negsuc, natAbs}
+use lib.Ieee.{odd, ofBits, binary64}
 use Rattle.facts.specs.Bounded.{some, every}
 use Rattle.facts.specs.Numbers.{elem, tabulate}
 use Rattle.exact.specs.Dyadic.{over, dyadic}
 use Rattle.exact.specs.Sums.{sumℤ}
+use Rattle.grid.specs.declared.Plan.{Plan}
 use Rattle.grid.specs.Numbering.{offset, number, levelOf, placeOn, place}
 use Rattle.grid.specs.Plan.{between, inRange, tooLarge, ratio, grown, above, below, parent, child, lastLevel, covers, supportedAt, supported, apart, ancestor, nearAt, near, functionTotal, functionLevel, planOf}
 use Rattle.mesh.specs.Mesh.{absent, active, refined, children, cellFits, isMesh, isAdmissible, tableOf, labelOf, labels, isLabelled, refusal3, refusal6, check}
@@ -24,20 +25,121 @@ pub heightsOf : ℕ → (ℕ → ℤ) → List ℤ
 heightsOf zero f = []
 heightsOf (suc n) f = f 0 ∷ heightsOf n (λ i. f (suc i))
 
--- the answer on the mesh with these refined cells
-abbrev pub asked : List ℕ → List ℕ → (ℕ → ℤ) → ℕ → ℕ → Height
-asked plan refinedCells f x y =
+-- one cell of two levels, refined, degrees 1 and 1: functions 0 to 3 are deactivated, 4 to 12 active
+abbrev pub refinedCell : Plan
+refinedCell = planOf (1 ∷ 1 ∷ 2 ∷ 1 ∷ 1 ∷ 0 ∷ [])
+
+abbrev pub itsFunctions : List ℕ
+itsFunctions = 2 ∷ 2 ∷ 2 ∷ 2 ∷ 1 ∷ 1 ∷ 1 ∷ 1 ∷ 1 ∷ 1 ∷ 1 ∷ 1 ∷ 1 ∷ []
+
+-- h for function f, 0 for the others
+abbrev pub only : ℕ → ℤ → ℕ → ℤ
+only f h g = cond (eqb g f) h (pos 0)
+
+-- function 8, in the middle of level 1, with 16 sixteenths: a millimetre, in parts, and how many parts that is
+pub unit : heightSum refinedCell itsFunctions (heightsOf 13 (only 8 (pos 16))) 8 8 ∷ pos (2 ^ places refinedCell) ∷ [] ≡ pos 262144 ∷ pos 262144 ∷ []
+unfolding heightsOf sumℤ offset number levelOf placeOn place ratio grown active times knotsBelow knot rise fall box basis scale cellOf value valueIn valueOn eighths valueAt productOf heightSum places
+unit = refl
+
+-- a deactivated function's height is neither refused nor counted; an active one's is
+pub ignored :
+    heightsRefusal refinedCell itsFunctions (heightsOf 13 (only 0 (pos 2147483647)))
+    ∷ heightsRefusal refinedCell itsFunctions (heightsOf 13 (only 4 (pos 2147483647)))
+    ∷ natAbs (heightSum refinedCell itsFunctions (heightsOf 13 (only 0 (pos 5))) 0 0)
+    ∷ natAbs (heightSum refinedCell itsFunctions (heightsOf 13 (only 4 (pos 1))) 0 0)
+    ∷ []
+    ≡ 0 ∷ 15 ∷ 0 ∷ 16384 ∷ []
+unfolding every heightsOf sumℤ offset number levelOf placeOn place ratio grown active times knotsBelow knot rise fall box basis scale cellOf value valueIn valueOn eighths valueAt productOf heightSum inexact low lowAt allLow heightsRefusal
+ignored = refl
+
+-- with a degree of 3 and heights that are too large 14 is given, with too few of them 3
+abbrev pub cubic : Plan
+cubic = planOf (1 ∷ 1 ∷ 1 ∷ 3 ∷ 2 ∷ 0 ∷ [])
+
+pub order :
+    heightsRefusal cubic (1 ∷ []) (heightsOf 12 (λ f. pos 65537))
+    ∷ heightsRefusal cubic (1 ∷ []) (heightsOf 11 (λ f. pos 65537))
+    ∷ []
+    ≡ 14 ∷ 3 ∷ []
+unfolding every heightsOf offset number levelOf placeOn place ratio grown active inexact low lowAt allLow heightsRefusal
+order = refl
+
+-- the answer on the mesh with these refined cells, with so many heights
+abbrev pub answerTo : List ℕ → List ℕ → ℕ → (ℕ → ℤ) → ℕ → ℕ → Height
+answerTo plan refinedCells n f x y =
     let p = planOf plan in
     let cells = tableOf p (λ c. elem c refinedCells) in
-    answer p cells (labels p cells) (heightsOf (functionTotal p) f) x y
+    answer p cells (labels p cells) (heightsOf n f) x y
+
+-- the height with these bits
+abbrev pub bits : ℕ → Height
+bits b = At (ofBits binary64 b)
+
+-- document 01's W0, with cells 0 and 1 refined as P3 leaves it: 94 functions
+abbrev pub afterP3 : (ℕ → ℤ) → ℕ → ℕ → Height
+afterP3 = answerTo (3 ∷ 1 ∷ 3 ∷ 1 ∷ 1 ∷ 0 ∷ []) (0 ∷ 1 ∷ []) 94
+
+-- one cell, degrees 2 and 2, two levels, nothing refined: 25 functions; and plans that heights do not allow
+abbrev pub oneCell : (ℕ → ℤ) → ℕ → ℕ → Height
+oneCell = answerTo (1 ∷ 1 ∷ 2 ∷ 2 ∷ 2 ∷ 0 ∷ []) [] 25
 
 pub worked :
-    asked (1 ∷ 1 ∷ 1 ∷ 2 ∷ 2 ∷ 0 ∷ []) [] (λ f. pos 5) 0 0
-    ∷ asked (1 ∷ 1 ∷ 1 ∷ 2 ∷ 2 ∷ 0 ∷ []) [] (λ f. pos 5) 3 5
-    ∷ asked (1 ∷ 1 ∷ 1 ∷ 2 ∷ 2 ∷ 0 ∷ []) [] (λ f. pos 5) 8 8
-    ∷ asked (1 ∷ 1 ∷ 1 ∷ 2 ∷ 2 ∷ 0 ∷ []) [] (λ f. pos 5) 8 9
-    ∷ asked (3 ∷ 1 ∷ 3 ∷ 1 ∷ 1 ∷ 0 ∷ []) (0 ∷ 1 ∷ []) (λ f. cond (eqb f 9) (pos 16) (pos 0)) 16 0
+    -- a flat surface, at its corners and on a line: 7 mm
+    answerTo (2 ∷ 1 ∷ 1 ∷ 2 ∷ 1 ∷ 0 ∷ []) [] 8 (λ f. pos 7) 0 0
+    ∷ answerTo (2 ∷ 1 ∷ 1 ∷ 2 ∷ 1 ∷ 0 ∷ []) [] 8 (λ f. pos 7) 5 3
+    ∷ answerTo (2 ∷ 1 ∷ 1 ∷ 2 ∷ 1 ∷ 0 ∷ []) [] 8 (λ f. pos 7) 8 8
+    ∷ answerTo (2 ∷ 1 ∷ 1 ∷ 2 ∷ 1 ∷ 0 ∷ []) [] 8 (λ f. pos 7) 16 8
+    -- after P3 function 9, of level 1, with 16 sixteenths: 1 mm at its top, half of it beside and above, an eighth, nothing
+    ∷ afterP3 (only 9 (pos 16)) 16 0
+    ∷ afterP3 (only 9 (pos 16)) 8 0
+    ∷ afterP3 (only 9 (pos 16)) 16 8
+    ∷ afterP3 (only 9 (pos 16)) 4 8
+    ∷ afterP3 (only 9 (pos 16)) 40 0
+    -- the last function of level 0 is 1 in the far corner: -5 mm; nothing lies beyond
+    ∷ afterP3 (only 7 (negsuc 4)) 96 32
+    ∷ afterP3 (only 7 (negsuc 4)) 97 32
+    ∷ afterP3 (only 7 (negsuc 4)) 96 33
+    -- degree 2: 3 mm times 3/8 times 1/2
+    ∷ oneCell (only 4 (pos 3)) 4 8
+    -- 65,536 mm and no more, either way, on level 1 in sixteenths; function 1 is deactivated after P3, and its height ignored
+    ∷ oneCell (only 4 (pos 65536)) 0 0
+    ∷ oneCell (only 4 (pos 65537)) 0 0
+    ∷ oneCell (only 4 (negsuc 65536)) 0 0
+    ∷ afterP3 (only 9 (pos 1048576)) 16 0
+    ∷ afterP3 (only 9 (pos 1048577)) 16 0
+    ∷ afterP3 (only 1 (pos 2147483647)) 16 0
+    -- 3 before 14 before 15: too few heights of degree 3, a point beyond a mesh of degree 3, one beyond five levels
+    ∷ answerTo (1 ∷ 1 ∷ 1 ∷ 2 ∷ 3 ∷ 0 ∷ []) [] 11 (λ f. pos 0) 9 0
+    ∷ answerTo (1 ∷ 1 ∷ 1 ∷ 2 ∷ 3 ∷ 0 ∷ []) [] 12 (λ f. pos 0) 9 0
+    ∷ answerTo (1 ∷ 1 ∷ 1 ∷ 3 ∷ 2 ∷ 0 ∷ []) [] 12 (λ f. pos 65537) 0 0
+    -- after what check refuses
+    ∷ answerTo (1 ∷ 1 ∷ 1 ∷ 5 ∷ 2 ∷ 0 ∷ []) [] 0 (λ f. pos 0) 9 9
+    ∷ answerTo (1 ∷ 1 ∷ 2 ∷ 3 ∷ 1 ∷ 0 ∷ []) (1 ∷ []) 0 (λ f. pos 0) 99 0
     ∷ []
-    ≡ At (dyadic 0 (pos 5)) ∷ At (dyadic 0 (pos 5)) ∷ At (dyadic 0 (pos 5)) ∷ Refused 15 ∷ At (dyadic 0 (pos 1)) ∷ []
-unfolding odd heightsOf some every elem tabulate over dyadic sumℤ offset number levelOf placeOn place between inRange tooLarge ratio grown above below parent child lastLevel covers supportedAt supported apart ancestor nearAt near absent active refined children cellFits isMesh isAdmissible tableOf labelOf labels isLabelled refusal3 refusal6 check times knotsBelow knot rise fall box basis scale cellOf value valueIn valueOn eighths onMesh valueAt productOf heightSum places inexact low lowAt allLow heightsRefusal refusal answer
+    ≡ bits 0x401c_0000_0000_0000
+    ∷ bits 0x401c_0000_0000_0000
+    ∷ bits 0x401c_0000_0000_0000
+    ∷ bits 0x401c_0000_0000_0000
+    ∷ bits 0x3ff0_0000_0000_0000
+    ∷ bits 0x3fe0_0000_0000_0000
+    ∷ bits 0x3fe0_0000_0000_0000
+    ∷ bits 0x3fc0_0000_0000_0000
+    ∷ bits 0
+    ∷ bits 0xc014_0000_0000_0000
+    ∷ Refused 15
+    ∷ Refused 15
+    ∷ bits 0x3fe2_0000_0000_0000
+    ∷ bits 0
+    ∷ Refused 15
+    ∷ Refused 15
+    ∷ bits 0x40f0_0000_0000_0000
+    ∷ Refused 15
+    ∷ bits 0
+    ∷ Refused 3
+    ∷ Refused 14
+    ∷ Refused 14
+    ∷ Refused 1
+    ∷ Refused 4
+    ∷ []
+unfolding odd ofBits heightsOf some every elem tabulate over dyadic sumℤ offset number levelOf placeOn place between inRange tooLarge ratio grown above below parent child lastLevel covers supportedAt supported apart ancestor nearAt near absent active refined children cellFits isMesh isAdmissible tableOf labelOf labels isLabelled refusal3 refusal6 check times knotsBelow knot rise fall box basis scale cellOf value valueIn valueOn eighths onMesh valueAt productOf heightSum places inexact low lowAt allLow heightsRefusal refusal answer
 worked = refl

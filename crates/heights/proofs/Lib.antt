@@ -3,5 +3,7 @@ pub mod Points
 pub mod Surface
 pub mod Turns
 pub mod Lows
-pub mod Answers
+pub mod Refusals
+pub mod Values
+pub mod Flat
 pub mod Results

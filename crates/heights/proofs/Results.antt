@@ -35,7 +35,9 @@ use Rattle.heights.specs.Demands.{Answered, cellAt, Valued, Flat, Demand
 use Rattle.heights.specs.Steps.{Point, OnSurface, most}
 use Rattle.heights.proofs.Points.{on-across, on-up, place-at, millimetre}
 use Rattle.heights.proofs.Turns.{up-size, up-all}
-use Rattle.heights.proofs.Answers.{few, point, on-surface}
+use Rattle.heights.proofs.Refusals.{few, point, on-surface}
+use Rattle.heights.proofs.Values.{valued}
+use Rattle.heights.proofs.Flat.{flat}
 
 -- ---- the answer
 
@@ -73,67 +75,11 @@ module _ (p : Plan) (cells functions : List ℕ) (heights : List ℤ) (x y : ℕ
         lt-of-le-of-lt (rw (up-all s) at (up-size s (p .levels) (le-refl _))) (lt-of-le-of-lt (mul-le-mul-right (9 * most) (s .point .levels≤)) (lit< tt));
   }
 
--- ---- values
+-- ---- all of it
 
-module _ (p : Plan) (x y : ℕ) (s : Point p x y) where
-  module _ (f : ℕ) (b : f < functionTotal p) where
-    abbrev k : ℕ
-    k = functionLevel p f
-
-    abbrev at : Place
-    at = functionPlace p f
-
-    inside : FunctionInside p at
-    inside = function-inside p (s .range) f b
-
-    abbrev across : OnSide (acrossAt p k) (eighths p k) x
-    across = on-across p x y s k (inside .level<)
-
-    abbrev up : OnSide (upAt p k) (eighths p k) y
-    up = on-up p x y s k (inside .level<)
-
-    column-in : at .column < functions (acrossAt p k)
-    column-in = omega (arith, inside .column<, across-functions p k)
-
-    row-in : at .row < functions (upAt p k)
-    row-in = omega (arith, inside .row<, up-functions p k)
-
-    value-most : valueAt p x y at ≤ oneAt p k
-    unfolding valueAt oneAt
-    value-most = mul-le-mul (values (acrossAt p k) (eighths p k) x across .most (at .column) column-in) (values (upAt p k) (eighths p k) y up .most (at .row) row-in)
-
-    -- the cell of the point
-    abbrev cell : Place
-    cell = record { level = k; row = cellOf (eighths p k) (rowsAt p k) y; column = cellOf (eighths p k) (columnsAt p k) x }
-
-    cell-in : CellInside p cell
-    cell-in = record { level< = inside .level<; row< = within (upAt p k) (eighths p k) y up; column< = within (acrossAt p k) (eighths p k) x across }
-
-    value-outside : T (not (supported p f (cellAt p x y k))) → valueAt p x y at ≡ 0
-    unfolding supported supportedAt cellAt valueAt
-    value-outside t =
-        let a = covers (columnsAt p k) (p .«degree_across») (at .column) (cellOf (eighths p k) (columnsAt p k) x) in
-        let b = covers (rowsAt p k) (p .«degree_up») (at .row) (cellOf (eighths p k) (rowsAt p k) y) in
-        let t′ : T (not (eqb k k && (a && b))) = rw (cell-place-number p (s .range) cell cell-in) at t in
-        cases a
-        (λ u. rw (values (upAt p k) (eighths p k) y up .outside (at .row) row-in
-        (not-i b (λ w. not-e (eqb k k && (a && b)) t′ (and-i (eqb k k) (a && b) (eqb-refl k) (and-i a b u w)))))
-        (mul-zero _))
-        (λ u. rw (values (acrossAt p k) (eighths p k) x across .outside (at .column) column-in u) (zero-mul _))
-
-  value-one : (k : ℕ) → k < p .levels → sum (functionRowsAt p k * functionColumnsAt p k) (λ i. valueAt p x y (functionPlace p (functionOffset p k + i))) ≡ oneAt p k
-  unfolding valueAt oneAt
-  value-one k l =
-      let vx : ℕ → ℕ = λ c. valueOn (acrossAt p k) (eighths p k) c x in
-      let vy : ℕ → ℕ = λ r. valueOn (upAt p k) (eighths p k) r y in
-      sum-rows (functionRowsAt p k) (functionColumnsAt p k) _
-      ∙ sum-same (functionRowsAt p k) _ (λ r. sum (functionColumnsAt p k) vx * vy r)
-      (λ r m. sum-same (functionColumnsAt p k) _ (λ c. vy r * vx c) (λ c n. rw (place-at p (s .range) k l r c m n) (mul-comm (vx c) (vy r)))
-      ∙ sum-mul (functionColumnsAt p k) (vy r) vx ∙ mul-comm (vy r) _)
-      ∙ sum-mul (functionRowsAt p k) (sum (functionColumnsAt p k) vx) vy
-      ∙ ap₂ _*_
-      (ap (λ n. sum n vx) (sym (across-functions p k)) ∙ values (acrossAt p k) (eighths p k) x (on-across p x y s k l) .one)
-      (ap (λ n. sum n vy) (sym (up-functions p k)) ∙ values (upAt p k) (eighths p k) y (on-up p x y s k l) .one)
-
-  valued : Valued p x y
-  valued = record { millimetre = millimetre p; most = value-most; one = value-one; outside = value-outside }
+pub demands : Demands
+demands = record {
+  answered = answered;
+  valued = λ p r e x y t. valued p x y (point p (in-range p (true-T _ r)) (few p e) x y t);
+  flat = flat;
+}

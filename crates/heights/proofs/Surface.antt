@@ -6,7 +6,7 @@ use Prim.Native.Nat.{ℕ, zero, suc, _+_, _-_, _*_, _^_, _≤_, _<_, zero-le}
 use native.Mathlib.Nat.{mul-zero, zero-mul, mul-le-mul, mul-le-mul-left, mul-le-mul-right, le-trans, le-refl, le-of-eq, add-assoc, mul-assoc}
 use native.Mathlib.Omega.{arith}
 use lib.Dec.{T, leb→le}
-use lib.IntN.{ℤ, pos, negsuc, natAbs, _+ℤ_, _*ℤ_}
+use lib.IntN.{ℤ, pos, negsuc, natAbs, _*ℤ_, *ℤ-zero}
 use lib.ListN.{length, getD}
 use lib.Pow.{pow-mono}
 use Rattle.facts.specs.Bounded.{implies}
@@ -36,17 +36,13 @@ use Rattle.heights.specs.Heights.{eighths, valueAt, oneAt, productOf, he
 use Rattle.heights.specs.Steps.{OnSurface, levelPart, added, rowSum, levelSum, most, Row, Rows}
 use Rattle.heights.proofs.Points.{eighths-small, on-across, on-up, at, number-at, at-inside, place-at, millimetre}
 
-times-none : (h : ℤ) → h *ℤ pos 0 ≡ pos 0
-times-none (pos a) = ap pos (mul-zero a)
-times-none (negsuc a) = rw (mul-zero (suc a))
-
 module _ (functions : List ℕ) (heights : List ℤ) (f : ℕ) where
   added-none : added functions heights f 0 ≡ pos 0
   unfolding added
   added-none = go (active functions f)
     where
       go : (b : Bool) → cond b (getD heights f (pos 0) *ℤ pos 0) (pos 0) ≡ pos 0
-      go true = times-none (getD heights f (pos 0))
+      go true = *ℤ-zero (getD heights f (pos 0))
       go false = refl
 
   added-zero : {v : ℕ} → v ≡ 0 → added functions heights f v ≡ pos 0

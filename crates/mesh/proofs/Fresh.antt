@@ -59,7 +59,7 @@ module _ (p : Plan) (range : InRange p) (small : cellTotal p ≤ mostCells) wher
   unfolding freshFunctions labels
   fresh-labels = tabulate-same (functionTotal p) _ _ (λ f b. sym (fresh-label f b))
 
-  fresh-checked : check p (freshCells p) (freshFunctions p) ≡ 0
+  pub fresh-checked : check p (freshCells p) (freshFunctions p) ≡ 0
   fresh-checked = rw fresh-labels (good-check p (freshCells p) fresh-good)
 
 -- What open leaves, where it is not refused, passes check

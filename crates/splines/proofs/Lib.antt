@@ -1,3 +1,4 @@
+pub mod Computed
 pub mod Knots
 pub mod Recursion
 pub mod Three

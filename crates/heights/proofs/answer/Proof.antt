@@ -3,7 +3,7 @@ use mathlib.Core.Path.{_≡_, sym, _∙_}
 use Rattle.mesh.specs.Mesh.{check}
 use Rattle.mesh.proofs.Bridge.{check-passed}
 use Rattle.heights.specs.Heights.{heightsRefusal}
-use Rattle.heights.proofs.Answers.{refused-check, refused-heights, refused-point, answered, on-surface}
+use Rattle.heights.proofs.Refusals.{refused-check, refused-heights, refused-point, answered, on-surface}
 use borrow.Author.Needs.{needs}
 use Rattle.heights.proofs.answer.Statement.{statement}
 use Rattle.heights.proofs.answer.Tie as tie

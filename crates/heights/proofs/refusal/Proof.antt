@@ -2,7 +2,7 @@
 use mathlib.Core.Path.{_≡_, sym, _∙_}
 use lib.ListN.{length}
 use Rattle.grid.specs.Plan.{functionTotal}
-use Rattle.heights.proofs.Answers.{few, refuse-3, refuse-14, refuse-15, refuse-none}
+use Rattle.heights.proofs.Refusals.{few, refuse-3, refuse-14, refuse-15, refuse-none}
 use borrow.Author.Needs.{needs}
 use Rattle.heights.proofs.refusal.Statement.{statement}
 use Rattle.heights.proofs.refusal.Tie as tie
