@@ -1,16 +1,15 @@
 -- Products and sums of exact values are exact. Assumes nothing.
 use mathlib.Core.Path.{_≡_, refl, sym, ap, _∙_, subst}
-use mathlib.Core.Logic.{_≢_}
-use mathlib.Core.Bool.{Bool, true, false, not, _&&_, Bool·beq, cond}
+use mathlib.Core.Bool.{Bool, true, false, _&&_, cond}
 use Prim.Native.Nat.{ℕ, zero, suc, _+_, _-_, _*_, _/_, _^_, _≤_, _<_, zero-le}
-use native.Mathlib.Nat.{lt-irrefl, le-trans, le-of-lt, lt-of-lt-of-le, lt-of-le-of-lt, lt-suc-self, zero-lt-suc, mul-one, one-mul, mul-comm, mul-assoc, mul-left-comm, mul-right-comm, add-mul, mul-pos, mul-zero, zero-mul, le-add-right, le-mul-of-pos-right, mul-sub, mul-mul-mul-comm, mul-lt-mul-of-pos-right, mul-le-mul-right, lt-of-mul-lt-mul-right, le-of-mul-le-mul-right}
+use native.Mathlib.Nat.{lt-irrefl, le-trans, le-of-lt, lt-of-lt-of-le, lt-of-le-of-lt, zero-lt-suc, mul-one, mul-comm, mul-assoc, mul-right-comm, add-mul, mul-pos, mul-zero, zero-mul, le-add-right, le-mul-of-pos-right, mul-sub, mul-mul-mul-comm, mul-lt-mul-of-pos-right, mul-le-mul-right, lt-of-mul-lt-mul-right, le-of-mul-le-mul-right}
 use native.Mathlib.Omega.{arith}
-use lib.IntN.{ℤ, pos, negsuc, negℤ, natAbs, _+ℤ_, _*ℤ_, subℕ, pos-ne-negsuc}
-use lib.Dec.{T, ltb, leb, leb→le, nleb→lt, lit≤, lit<, ltb→lt, nltb→le}
+use lib.IntN.{ℤ, pos, negsuc, negℤ, natAbs, _+ℤ_, _*ℤ_, pos-ne-negsuc}
+use lib.Dec.{T, ltb, leb, leb→le, nleb→lt, ltb→lt, nltb→le}
 use lib.Count.{trailingZeros}
 use borrow.Author.Tests.{le-leb, lt-leb, lt-ltb, le-ltb}
-use lib.Pow.{pow-add, pow-pos, pow-mono, pow-lt, shl-lt}
-use lib.Ieee.{Float, nan, inf, fin, Format, binary64, prec, emax, low, up, down, minus, size, unlike, odd, round, sum, add, mul, ofInt, fits, toBits, ofBits, hid, top}
+use lib.Pow.{pow-add, pow-pos, pow-mono, shl-lt}
+use lib.Ieee.{Float, nan, inf, fin, Format, binary64, prec, low, up, down, minus, size, unlike, odd, round, sum, add, mul, ofInt, fits, toBits, ofBits, hid, top}
 use lib.Ieee.Fits.{down-pos, round-fits, odd-fits}
 use lib.Ieee.Exact.{HasValue, odd-sign, round-exact}
 use lib.Ieee.Nearest.{div-same}

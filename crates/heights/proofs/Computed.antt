@@ -12,7 +12,7 @@ use Rattle.exact.specs.Dyadic.{over, dyadic}
 use Rattle.exact.specs.Sums.{sumℤ}
 use Rattle.grid.specs.declared.Plan.{Plan}
 use Rattle.grid.specs.Numbering.{offset, number, levelOf, placeOn, place}
-use Rattle.grid.specs.Plan.{between, inRange, tooLarge, ratio, grown, above, below, parent, child, lastLevel, covers, supportedAt, supported, apart, ancestor, nearAt, near, functionTotal, functionLevel, planOf}
+use Rattle.grid.specs.Plan.{between, inRange, tooLarge, ratio, grown, above, below, parent, child, lastLevel, covers, supportedAt, supported, apart, ancestor, nearAt, near, planOf}
 use Rattle.mesh.specs.Mesh.{absent, active, refined, children, cellFits, isMesh, isAdmissible, tableOf, labelOf, labels, isLabelled, refusal3, refusal6, check}
 use Rattle.splines.specs.Knots.{times, knotsBelow, knot}
 use Rattle.splines.specs.Values.{rise, fall, box, basis, scale, cellOf, value, valueIn, valueOn}

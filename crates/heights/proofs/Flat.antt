@@ -1,16 +1,16 @@
 -- A flat surface: where all functions of a mesh just opened have one height, every point has it. Assumes nothing.
 use mathlib.Core.Path.{_≡_, refl, sym, ap, _∙_}
-use mathlib.Core.Bool.{Bool, true, false, not, cond}
+use mathlib.Core.Bool.{Bool, true, false, cond}
 use mathlib.Core.List.{List}
-use Prim.Native.Nat.{ℕ, zero, suc, _+_, _-_, _*_, _^_, _≤_, _<_}
-use native.Mathlib.Nat.{le-refl, le-trans, lt-of-le-of-lt, mul-le-mul, one-le-pow, zero-add, add-sub-of-le}
+use Prim.Native.Nat.{ℕ, _+_, _-_, _*_, _^_, _≤_, _<_}
+use native.Mathlib.Nat.{lt-of-le-of-lt, mul-le-mul, one-le-pow, zero-add, add-sub-of-le}
 use native.Mathlib.Omega.{arith}
 use lib.Dec.{T, eqb, eqb→eq, ltb, ltb→lt, nltb→le, le→leb, lit<, lit≤}
 use lib.IntN.{ℤ, pos, natAbs, _+ℤ_, _*ℤ_, +ℤ-idr}
 use lib.ListN.{length, getD}
 use lib.Pow.{pow-mono}
-use borrow.Author.Tests.{ltb-false, eq-eqb, lt-ltb, le-ltb}
-use Rattle.facts.specs.Bounded.{sum, implies}
+use borrow.Author.Tests.{ltb-false, lt-ltb, le-ltb}
+use Rattle.facts.specs.Bounded.{sum}
 use Rattle.facts.proofs.Bounded.{every-i}
 use Rattle.facts.proofs.Numbers.{getD-tabulate}
 use Rattle.facts.proofs.Tests.{cases, same, implies-i, T-true, eqb-of, true-T}
@@ -25,10 +25,10 @@ use Rattle.grid.specs.Plan.{inRange, tooLarge, cellTotal, functionColumnsAt, fu
 use Rattle.grid.specs.Range.{InRange}
 use Rattle.grid.proofs.Laws.{in-range, function-inside, function-number-place}
 use Rattle.grid.proofs.Levels.{offset-zero, offset-next, offset-mono, level-before, level-from}
-use Rattle.mesh.specs.Mesh.{active, check, freshCells, freshFunctions}
+use Rattle.mesh.specs.Mesh.{active, freshCells, freshFunctions}
 use Rattle.mesh.proofs.Fresh.{fresh-checked}
 use Rattle.heights.specs.declared.Height.the-variants.{At}
-use Rattle.heights.specs.Heights.{onMesh, valueAt, oneAt, productOf, heightSum, places, inexact, low, lowAt, allLow, heightsRefusal, answer}
+use Rattle.heights.specs.Heights.{onMesh, valueAt, oneAt, productOf, heightSum, places, inexact, low, lowAt, allLow, answer}
 use Rattle.heights.specs.Demands.{Flat}
 use Rattle.heights.specs.Steps.{Point}
 use Rattle.heights.proofs.Points.{millimetre}

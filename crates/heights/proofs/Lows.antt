@@ -2,12 +2,12 @@
 use mathlib.Core.Path.{_≡_, refl, sym, ap, _∙_}
 use mathlib.Core.Bool.{Bool, true, false, not, _&&_, _||_}
 use mathlib.Core.List.{List}
-use Prim.Native.Nat.{ℕ, zero, suc, pred, _+_, _-_, _*_, _^_, _≤_, _<_}
+use Prim.Native.Nat.{ℕ, suc, pred, _+_, _-_, _*_, _^_, _≤_, _<_}
 use native.Mathlib.Nat.{one-le-pow, pow-le-pow-right}
 use native.Mathlib.Omega.{arith}
-use lib.Dec.{T, eqb, leb, leb·suc-suc, lit≤}
-use lib.IntN.{ℤ, pos, negsuc, negℤ, natAbs}
-use lib.ListN.{length, getD}
+use lib.Dec.{eqb, leb, leb·suc-suc, lit≤}
+use lib.IntN.{ℤ, pos, negsuc, natAbs}
+use lib.ListN.{getD}
 use lib.Signed.{leZ, mag}
 use mir.Syntax.{w32}
 use mir.Val.{SFits, toZ, ofZ}
@@ -17,7 +17,6 @@ use Rattle.facts.specs.Ranges.{everyFrom}
 use Rattle.facts.proofs.Ranges.{every-from, from-same}
 use Rattle.facts.proofs.Rows.{from-next}
 use Rattle.grid.specs.declared.Plan.{Plan}
-use Rattle.grid.specs.declared.Place.{Place}
 use Rattle.grid.specs.Plan.{functionColumnsAt, functionRowsAt, functionOffset, functionTotal, functionLevel}
 use Rattle.grid.specs.Range.{InRange}
 use Rattle.grid.proofs.Laws.{function-inside, function-number-place}

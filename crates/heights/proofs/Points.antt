@@ -1,14 +1,12 @@
 -- Points of a mesh are points of each level's sides; what makes a millimetre. Assumes nothing.
 use mathlib.Core.Path.{_≡_, refl, sym, ap, _∙_}
-use mathlib.Core.Bool.{_&&_}
 use Prim.Native.Nat.{ℕ, zero, suc, _+_, _-_, _*_, _^_, _≤_, _<_}
 use native.Mathlib.Nat.{add-assoc, mul-le-mul-left, pow-zero, pow-suc}
 use native.Mathlib.Omega.{arith}
-use lib.Dec.{T, leb, leb→le}
+use lib.Dec.{leb, leb→le}
 use lib.Pow.{pow-add, pow-pos, pow-mono}
 use Rattle.facts.proofs.Tests.{and-l, and-r}
 use Rattle.grid.specs.declared.Plan.{Plan}
-use Rattle.grid.specs.declared.Side.{Side}
 use Rattle.grid.specs.declared.Place.{Place}
 use Rattle.grid.specs.Numbering.{number}
 use Rattle.grid.specs.Plan.{ratio, grown, columnsAt, rowsAt, acrossAt, upAt, functionColumnsAt, functionRowsAt, functionOffset, functionPlace, functionNumber, FunctionInside}

@@ -1,11 +1,10 @@
 -- The refusals in their order, and the answer. Assumes nothing.
-use mathlib.Core.Path.{_≡_, refl, sym, ap, _∙_}
-use mathlib.Core.Bool.{Bool, true, false, not, _||_, cond}
+use mathlib.Core.Path.{_≡_, refl, sym, _∙_}
+use mathlib.Core.Bool.{Bool, true, false, _||_}
 use mathlib.Core.List.{List}
-use Prim.Native.Nat.{ℕ, suc, _≤_}
-use native.Mathlib.Omega.{arith}
+use Prim.Native.Nat.{ℕ, _≤_}
 use lib.Dec.{T, eqb, eqb→eq, ltb}
-use lib.IntN.{ℤ, pos}
+use lib.IntN.{ℤ}
 use lib.Ieee.{Float}
 use lib.ListN.{length}
 use borrow.Author.Tests.{eq-eqb, ne-eqb, ltb-false}
@@ -15,8 +14,7 @@ use Rattle.grid.specs.declared.Plan.{Plan}
 use Rattle.grid.specs.Plan.{functionTotal}
 use Rattle.grid.specs.Range.{InRange}
 use Rattle.mesh.specs.Mesh.{check}
-use Rattle.mesh.proofs.Bridge.{Passed, check-passed, pass, stop}
-use Rattle.heights.specs.declared.Height.{Height}
+use Rattle.mesh.proofs.Bridge.{check-passed, pass, stop}
 use Rattle.heights.specs.declared.Height.the-variants.{At, Refused}
 use Rattle.heights.specs.Heights.{onMesh, heightSum, places, inexact, allLow, heightsRefusal, refusal, answer}
 use Rattle.heights.specs.Steps.{Point, OnSurface}

@@ -2,29 +2,25 @@
 use mathlib.Core.Path.{_≡_, refl, sym, ap, _∙_}
 use mathlib.Core.Bool.{Bool, true, false, cond}
 use mathlib.Core.List.{List}
-use Prim.Native.Nat.{ℕ, zero, suc, _+_, _-_, _*_, _^_, _≤_, _<_, zero-le}
-use native.Mathlib.Nat.{mul-zero, zero-mul, mul-le-mul, mul-le-mul-left, mul-le-mul-right, le-trans, le-refl, le-of-eq, add-assoc, mul-assoc}
+use Prim.Native.Nat.{ℕ, _+_, _*_, _^_, _≤_, _<_, zero-le}
+use native.Mathlib.Nat.{mul-zero, zero-mul, mul-le-mul, mul-le-mul-left, mul-le-mul-right, le-trans, le-refl, le-of-eq, mul-assoc}
 use native.Mathlib.Omega.{arith}
 use lib.Dec.{T, leb→le}
-use lib.IntN.{ℤ, pos, negsuc, natAbs, _*ℤ_, *ℤ-zero}
-use lib.ListN.{length, getD}
+use lib.IntN.{ℤ, pos, natAbs, _*ℤ_, *ℤ-zero}
+use lib.ListN.{getD}
 use lib.Pow.{pow-mono}
-use Rattle.facts.specs.Bounded.{implies}
 use Rattle.facts.proofs.Bounded.{every-e}
 use Rattle.facts.proofs.Tests.{implies-e}
-use Rattle.facts.proofs.Rows.{row-ends}
 use Rattle.exact.specs.Sums.{sumℤ}
 use Rattle.exact.proofs.Dyadic.{abs-mul}
-use Rattle.exact.proofs.Sums.{sum-bound, sum-same, sum-zero, sum-rows, sum-window, sum-split, abs-add}
+use Rattle.exact.proofs.Sums.{sum-bound, sum-same, sum-zero, sum-rows, sum-window}
 use Rattle.grid.specs.declared.Plan.{Plan}
 use Rattle.grid.specs.declared.Place.{Place}
 use Rattle.grid.specs.declared.Side.{Side}
-use Rattle.grid.specs.Numbering.{offset, number}
-use Rattle.grid.specs.Plan.{ratio, columnsAt, rowsAt, acrossAt, upAt, functionColumnsAt, functionRowsAt, functionOffset, functionTotal, functionPlace, functionNumber, functionLevel, FunctionInside}
+use Rattle.grid.specs.Plan.{columnsAt, rowsAt, acrossAt, upAt, functionColumnsAt, functionRowsAt, functionOffset, functionTotal, functionNumber, functionLevel, FunctionInside}
 use Rattle.grid.specs.Side.{functions, firstOver, SideIn}
 use Rattle.grid.proofs.First.{Over}
-use Rattle.grid.proofs.Laws.{function-place-number, function-number-lt}
-use Rattle.grid.proofs.Numbering.{level-ends}
+use Rattle.grid.proofs.Laws.{function-number-lt}
 use Rattle.grid.proofs.Sides.{across-in, up-in, across-functions, up-functions}
 use Rattle.mesh.specs.Mesh.{active}
 use Rattle.splines.specs.declared.LocalValues.{LocalValues}
@@ -32,7 +28,7 @@ use Rattle.splines.specs.Values.{cellOf, valueOn}
 use Rattle.splines.specs.Local.{localOf, pieceOf}
 use Rattle.splines.specs.Claims.{OnSide}
 use Rattle.splines.proofs.Sides.{within, value-over, value-outside, values, over-last}
-use Rattle.heights.specs.Heights.{eighths, valueAt, oneAt, productOf, heightSum, places, low, lowAt, allLow}
+use Rattle.heights.specs.Heights.{eighths, valueAt, oneAt, productOf, places, low, lowAt, allLow}
 use Rattle.heights.specs.Steps.{OnSurface, levelPart, added, rowSum, levelSum, most, Row, Rows}
 use Rattle.heights.proofs.Points.{eighths-small, on-across, on-up, at, number-at, at-inside, place-at, millimetre}
 

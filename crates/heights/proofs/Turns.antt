@@ -1,15 +1,14 @@
 -- One turn of each loop: a product, a row, a level more, with nothing rounded away. Assumes nothing.
-use mathlib.Core.Path.{_≡_, refl, sym, ap, _∙_, subst}
-use mathlib.Core.Bool.{Bool, true, false, cond}
+use mathlib.Core.Path.{_≡_, refl, ap, _∙_, subst}
 use mathlib.Core.List.{List}
-use Prim.Native.Nat.{ℕ, zero, suc, _+_, _-_, _*_, _^_, _≤_, _<_, zero-le}
-use native.Mathlib.Nat.{le-trans, le-refl, lt-of-le-of-lt, mul-le-mul, mul-le-mul-right, zero-lt-suc}
+use Prim.Native.Nat.{ℕ, zero, suc, _+_, _*_, _^_, _≤_, _<_, zero-le}
+use native.Mathlib.Nat.{lt-of-le-of-lt, mul-le-mul, mul-le-mul-right, zero-lt-suc}
 use native.Mathlib.Numerals.{add-one}
 use native.Mathlib.Omega.{arith}
-use lib.Dec.{lit<, lit≤}
+use lib.Dec.{lit<}
 use lib.IntN.{ℤ, pos, natAbs, _+ℤ_, _*ℤ_, +ℤ-idr}
 use lib.Ieee.{Float, ofBits, binary64, add, mul, ofInt}
-use lib.ListN.{length, getD}
+use lib.ListN.{getD}
 use lib.Signed.{mag}
 use mir.Syntax.{w32}
 use mir.Val.{toZ, ofZ}
@@ -26,8 +25,8 @@ use Rattle.mesh.specs.Mesh.{active}
 use Rattle.splines.specs.declared.LocalValues.{LocalValues}
 use Rattle.splines.specs.Local.{pieceOf}
 use Rattle.heights.specs.Heights.{productOf, heightSum, places}
-use Rattle.heights.specs.Steps.{OnSurface, levelPart, added, rowSum, levelSum, most, Unit, Row, Rows}
-use Rattle.heights.proofs.Surface.{part-size, row-size, rows-part-size, level-size}
+use Rattle.heights.specs.Steps.{OnSurface, levelPart, added, rowSum, most, Unit, Row, Rows}
+use Rattle.heights.proofs.Surface.{part-size, rows-part-size, level-size}
 
 -- an element of an `&[i32]`, as a read leaves it
 pub element : (h : ℤ) → mag h < 2 ^ 31 → toZ w32 (ofZ w32 h) ≡ h

@@ -5,7 +5,6 @@ use mathlib.Core.List.{List}
 use Prim.Native.Nat.{ℕ, _+_, _*_, _^_, _≤_, _<_}
 use lib.Dec.{T}
 use lib.IntN.{ℤ, pos, natAbs}
-use lib.Ieee.{Float}
 use lib.Ieee.Exact.{HasValue}
 use lib.ListN.{length, getD}
 use Rattle.facts.specs.Bounded.{sum}
@@ -14,8 +13,7 @@ use Rattle.grid.specs.declared.Plan.{Plan}
 use Rattle.grid.specs.Plan.{inRange, tooLarge, columnsAt, rowsAt, functionColumnsAt, functionRowsAt, functionOffset, functionTotal, functionPlace, functionLevel, cellNumber, supported}
 use Rattle.mesh.specs.Mesh.{freshCells, freshFunctions}
 use Rattle.splines.specs.Values.{cellOf}
-use Rattle.heights.specs.declared.Height.{Height}
-use Rattle.heights.specs.declared.Height.the-variants.{At, Refused}
+use Rattle.heights.specs.declared.Height.the-variants.{At}
 use Rattle.heights.specs.Heights.{eighths, onMesh, valueAt, oneAt, heightSum, places, inexact, refusal, answer, numberOf, heightOf}
 
 -- ---- the answer

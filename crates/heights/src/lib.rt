@@ -91,7 +91,16 @@ fn level_height(
     let column = columns.first_over(x.cell);
     let first = plan.function_number(Place { level, row, column });
     let width = plan.function_columns_at(level) as usize;
-    sums::rows(functions, heights, first.0 as usize, width, x, y, plan.levels, unit)
+    sums::rows(
+        functions,
+        heights,
+        first.0 as usize,
+        width,
+        x,
+        y,
+        plan.levels,
+        unit,
+    )
 }
 
 // The height at a point of the mesh, for heights that are not refused.

@@ -1,7 +1,7 @@
 -- The cell of a point. Assumes nothing.
-use mathlib.Core.Path.{_≡_, refl, sym, ap, _∙_}
-use Prim.Native.Nat.{ℕ, zero, suc, pred, min, _+_, _-_, _*_, _/_, _<_, _≤_}
-use native.Mathlib.Nat.{le-refl, div-div-eq-div-mul, lt-div-mul-add, div-mul-le-self, mul-le-mul-right, mul-comm}
+use mathlib.Core.Path.{_≡_, ap}
+use Prim.Native.Nat.{ℕ, suc, min, _-_, _*_, _/_, _<_, _≤_}
+use native.Mathlib.Nat.{lt-div-mul-add, div-mul-le-self, mul-le-mul-right}
 use native.Mathlib.Omega.{arith}
 use lib.Dec.{leb, leb→le, nleb→lt}
 use Rattle.facts.proofs.Tests.{cases}

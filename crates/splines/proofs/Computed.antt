@@ -3,7 +3,7 @@ use mathlib.Core.List.{List, [], _∷_}
 use mathlib.Core.Path.{_≡_, refl}
 use Prim.Native.Nat.{ℕ, _+_}
 use Rattle.facts.specs.Numbers.{tabulate}
-use Rattle.splines.specs.Knots.{times, knotsBelow, knot, timesOn}
+use Rattle.splines.specs.Knots.{times, knotsBelow, knot}
 use Rattle.splines.specs.Values.{rise, fall, box, basis, scale, cellOf, value, valueIn, valueOn}
 
 -- the cell of a point of 3 cells, with 8 parts to a cell: on a line the one behind it, on the far edge the last

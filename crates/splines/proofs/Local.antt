@@ -1,19 +1,18 @@
 -- The functions over one cell of a level, by degree: which they are, and what they are worth there. Assumes nothing.
 use mathlib.Core.Path.{_≡_, refl, sym, ap, _∙_}
-use mathlib.Core.Logic.{_≢_}
-use mathlib.Core.Bool.{Bool, true, false, not, _&&_, cond}
-use Prim.Native.Nat.{ℕ, zero, suc, pred, _+_, _-_, _*_, _/_, _<_, _≤_}
-use native.Mathlib.Nat.{le-refl, mul-zero}
+use mathlib.Core.Bool.{Bool, true, false, not, cond}
+use Prim.Native.Nat.{ℕ, suc, pred, _+_, _-_, _*_, _<_, _≤_}
+use native.Mathlib.Nat.{le-refl}
 use native.Mathlib.Omega.{arith}
-use lib.Dec.{T, leb, ltb, eqb, leb→le, le→leb, ltb→lt, lt→ltb, nltb→le, eqb→eq, eqb-refl}
+use lib.Dec.{T, ltb, eqb, ltb→lt, nltb→le, eqb→eq}
 use Rattle.facts.specs.Bounded.{sum}
-use Rattle.facts.proofs.Tests.{cases, T-true, T-false, differ, eqb-of}
+use Rattle.facts.proofs.Tests.{cases, differ}
 use Rattle.splines.specs.Knots.{knot}
 use Rattle.splines.specs.Values.{rise, fall, basis, from}
 use Rattle.splines.specs.Local.{full}
-use Rattle.splines.proofs.Knots.{sum-mono, knot-at, knot-le, knot-gt}
+use Rattle.splines.proofs.Knots.{knot-at, knot-le, knot-gt}
 use Rattle.splines.proofs.Three.{three, three-0, three-1, three-2, three-off, places}
-use Rattle.splines.proofs.Recursion.{zero-behind, zero-before, rise-one, fall-one, rise-near, fall-near, rise-far, fall-far, one-last, one-first, two-last, two-middle, two-first}
+use Rattle.splines.proofs.Recursion.{zero-behind, zero-before, rise-near, fall-near, rise-far, fall-far, one-last, one-first, two-last, two-middle, two-first}
 
 -- how often each of n + 1 lines may be taken at degree p
 pub record Open (p n : ℕ) (m : ℕ → ℕ) : Type 0 where

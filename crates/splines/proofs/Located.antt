@@ -6,7 +6,6 @@ use native.Mathlib.Numerals.{add-one}
 use native.Mathlib.Omega.{arith}
 use lib.Dec.{eqb}
 use Rattle.grid.specs.declared.Side.{Side}
-use Rattle.splines.specs.declared.LocalValues.{LocalValues}
 use Rattle.splines.specs.Values.{cellOf}
 use Rattle.splines.specs.Local.{outer, localOf}
 use Rattle.splines.specs.Claims.{OnSide}

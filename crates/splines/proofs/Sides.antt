@@ -1,8 +1,8 @@
 -- The values at a point of a side: those of the functions over its cell are as code computes them, the others are 0; together they make 1.
 -- Assumes nothing.
-use mathlib.Core.Path.{_≡_, refl, sym, ap, _∙_}
-use mathlib.Core.Bool.{Bool, true, false, not, cond}
-use Prim.Native.Nat.{ℕ, zero, suc, _+_, _-_, _*_, _<_, _≤_}
+use mathlib.Core.Path.{_≡_, sym, _∙_}
+use mathlib.Core.Bool.{Bool, true, false, cond}
+use Prim.Native.Nat.{ℕ, suc, _+_, _-_, _*_, _<_, _≤_}
 use native.Mathlib.Omega.{arith}
 use lib.Dec.{T, eqb, eqb→eq}
 use Rattle.facts.specs.Bounded.{sum}
@@ -13,7 +13,7 @@ use Rattle.grid.specs.Plan.{covers}
 use Rattle.grid.specs.Side.{functions, firstOver}
 use Rattle.grid.proofs.First.{Over}
 use Rattle.grid.proofs.Spans.{covers-test}
-use Rattle.splines.specs.Knots.{times, timesOn, knotOn}
+use Rattle.splines.specs.Knots.{timesOn, knotOn}
 use Rattle.splines.specs.Values.{scale, cellOf, value, valueOn}
 use Rattle.splines.specs.Local.{full, outer, localOf, pieceOf}
 use Rattle.splines.specs.Claims.{OnSide, Values}

@@ -2,19 +2,17 @@
 -- Over any knots that are open. Assumes nothing.
 use mathlib.Core.Path.{_≡_, refl, sym, ap, subst, _∙_}
 use mathlib.Core.Bool.{Bool, true, false, cond}
-use Prim.Native.Nat.{ℕ, zero, suc, _+_, _-_, _*_, _/_, _<_, _≤_}
+use Prim.Native.Nat.{ℕ, suc, _+_, _-_, _*_, _<_, _≤_}
 use native.Mathlib.Nat.{mul-div-cancel, mul-pos, mul-zero}
 use native.Mathlib.Omega.{arith}
 use lib.Dec.{eqb, eqb→eq}
 use Rattle.facts.specs.Bounded.{sum}
-use Rattle.facts.proofs.Sums.{sum-same}
 use Rattle.facts.proofs.Tests.{cases, differ}
 use Rattle.splines.specs.Knots.{knot}
-use Rattle.splines.specs.Values.{basis, scale, cellOf, from, value, valueIn}
+use Rattle.splines.specs.Values.{scale, cellOf, value, valueIn}
 use Rattle.splines.specs.Local.{full, outer}
-use Rattle.splines.proofs.Knots.{sum-mono}
-use Rattle.splines.proofs.Three.{three, three-0, three-1, three-2, three-off, places, three-same, three-times, three-most, three-sum}
-use Rattle.splines.proofs.Local.{Open, Point, last2, middle2, first2, one-local, two-local}
+use Rattle.splines.proofs.Three.{three, three-same, three-times}
+use Rattle.splines.proofs.Local.{Open, last2, middle2, one-local, two-local}
 use Rattle.splines.proofs.Halves.{unity2}
 use Rattle.splines.proofs.Cells.{cell-inside, cell-point}
 

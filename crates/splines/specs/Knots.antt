@@ -1,9 +1,9 @@
 -- The knots of one direction of one level, and which cells lie between a function's. n cells have the lines 0 to n before, between
 -- and behind them. Definitions only.
-use mathlib.Core.Bool.{Bool, _&&_, _||_, cond}
+use mathlib.Core.Bool.{_||_, cond}
 use mathlib.Core.List.{List, [], _++_}
 use Prim.Native.Nat.{ℕ, zero, suc, _+_}
-use lib.Dec.{eqb, leb, ltb}
+use lib.Dec.{eqb}
 use lib.ListN.{getD, replicate}
 use Rattle.grid.specs.declared.Side.{Side}
 

@@ -1,5 +1,5 @@
 -- `eighths` meets its contract: from the last level up, each has twice as many. Assumes nothing.
-use mathlib.Core.Path.{_≡_, sym, _∙_}
+use mathlib.Core.Path.{_≡_, sym}
 use Prim.Native.Nat.{_-_, _*_, _≤_, _<_}
 use native.Mathlib.Omega.{arith}
 use Rattle.heights.specs.Heights.{eighths}

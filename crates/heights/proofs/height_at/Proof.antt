@@ -1,8 +1,7 @@
 -- `height_at` meets its contract: level by level. Assumes nothing.
-use mathlib.Core.Path.{_≡_, sym, ap, _∙_}
+use mathlib.Core.Path.{_≡_, ap, _∙_}
 use Prim.Native.Nat.{_-_, _≤_}
 use native.Mathlib.Omega.{arith}
-use lib.Ieee.{ofBits}
 use Rattle.exact.specs.Dyadic.{dyadic}
 use Rattle.exact.specs.Sums.{sumℤ}
 use Rattle.grid.specs.Plan.{functionOffset}

@@ -41,11 +41,10 @@ first-over-requires-2 c κs =
 
 function-number-requires : tie.Need-function-number-requires
 function-number-requires c κs =
-    let s = c .before .before .before .before .before .before .before .before in
-    (
+    let s = c .before .before .before .before .before .before .before .before in (
       s .pre .0 .point .range,
       inside-found (s .pre .0) (s .pre .1 .0) (c .before .before .before .before .before .before .eighths .ensures .0) (c .before .before .before .before .before .across-at .ensures) (c .before .before .before .before .up-at .ensures) (c .before .before .before .locate .ensures) (c .before .before .locate2 .ensures)
-      (c .before .first-over .ensures) (c .first-over2 .ensures),
+          (c .before .first-over .ensures) (c .first-over2 .ensures),
     )
 
 function-columns-at-requires : tie.Need-function-columns-at-requires
@@ -59,10 +58,9 @@ cast-rows c = search needs
 
 rows-requires : tie.Need-rows-requires
 rows-requires c κs =
-    let s = c .before .before .before .before .before .before .before .before .before .before .before in
-    (
+    let s = c .before .before .before .before .before .before .before .before .before .before .before in (
       rows-found (s .pre .0) (s .pre .1 .0) (c .before .before .before .before .before .before .before .before .before .eighths .ensures .0) (c .before .before .before .before .before .before .before .before .across-at .ensures) (c .before .before .before .before .before .before .before .up-at .ensures) (c .before .before .before .before .before .before .locate .ensures) (c .before .before .before .before .before .locate2 .ensures)
-      (c .before .before .before .before .first-over .ensures) (c .before .before .before .first-over2 .ensures) (c .before .before .function-number .ensures) (c .before .function-columns-at .ensures),
+          (c .before .before .before .before .first-over .ensures) (c .before .before .before .first-over2 .ensures) (c .before .before .function-number .ensures) (c .before .function-columns-at .ensures),
       s .pre .1 .1,
     )
 

@@ -1,5 +1,5 @@
 -- `run_low` meets its contract: function by function. Assumes nothing.
-use mathlib.Core.Path.{_≡_, sym}
+use mathlib.Core.Path.{_≡_}
 use Prim.Native.Nat.{_-_, _≤_}
 use native.Mathlib.Omega.{arith}
 use Rattle.facts.specs.Ranges.{everyFrom}

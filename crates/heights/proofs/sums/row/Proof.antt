@@ -1,11 +1,9 @@
 -- `row` meets its contract: function by function, those that are active. Assumes nothing.
-use mathlib.Core.Path.{_≡_, ap, _∙_}
+use mathlib.Core.Path.{_≡_, _∙_}
 use mathlib.Core.Logic.{⊎-elim}
 use Prim.Native.Nat.{_+_, _-_, _*_, _≤_}
-use native.Mathlib.Nat.{lt-of-le-of-lt, mul-le-mul}
 use native.Mathlib.Omega.{arith}
-use lib.Dec.{lit<}
-use lib.Ieee.{Float, binary64, add, ofBits}
+use lib.Ieee.{ofBits}
 use lib.IntN.{pos}
 use lib.ListN.{getD}
 use Rattle.exact.specs.Dyadic.{dyadic}
@@ -53,8 +51,7 @@ mul-product-2 c =
 product-requires : tie.Need-product-requires Inv-loop μ-loop
 product-requires c κs =
     let s = c .before .before .before .before .before .before .before in
-    let at = s .args .first + c .before .before .before .before .before .loop .j in
-    (
+    let at = s .args .first + c .before .before .before .before .before .loop .j in (
       s .pre .1,
       rw (element (getD (s .args .heights .now) at (pos 0)) (c .before .product-arg .given), c .value .ensures) (active-size {levels = s .args .levels} (s .pre .0) (s .pre .1 .levels≤) (omega arith) (c .before .before .if1 .taken)),
     )
@@ -70,14 +67,13 @@ loop-again c =
     let s = c .before .before .before .before .before in
     let l = c .before .before .before .loop in
     let at = s .args .first + l .j in
-    let m : l .j ≤ s .args .across .degree = omega arith in
-    (
+    let m : l .j ≤ s .args .across .degree = omega arith in (
       search needs,
       ⊎-elim
-      (λ w. w .4 ∙ turn-active (s .pre .0) (s .pre .1 .levels≤) m (w .0 .taken) (l .inv .1)
-      (rw (element (getD (s .args .heights .now) at (pos 0)) (w .1 .given), w .2 .ensures) at (w .3 .ensures)))
-      (λ w. w .1 ∙ turn-idle (s .pre .0) (s .pre .1 .levels≤) m (w .0 .left) (l .inv .1))
-      (c .if1 .came),
+          (λ w. w .4 ∙ turn-active (s .pre .0) (s .pre .1 .levels≤) m (w .0 .taken) (l .inv .1)
+          (rw (element (getD (s .args .heights .now) at (pos 0)) (w .1 .given), w .2 .ensures) at (w .3 .ensures)))
+          (λ w. w .1 ∙ turn-idle (s .pre .0) (s .pre .1 .levels≤) m (w .0 .left) (l .inv .1))
+          (c .if1 .came),
     )
 
 returns : tie.Need-returns Inv-loop μ-loop

@@ -51,7 +51,7 @@ loop-again c =
 
 returns : tie.Need-returns Inv-loop μ-loop
 unfolding levelSum
-returns c = 
+returns c =
     let s = c .before .before .before in
     let k : c .before .loop .i ≡ s .args .up .degree + 1 = omega arith in
     rw k at (c .before .loop .inv .1)
