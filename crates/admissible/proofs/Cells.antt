@@ -1,15 +1,14 @@
 -- What is read for a cell is what refusal 5 asks of it; and of the last level it asks nothing. Assumes nothing.
 use mathlib.Core.Path.{_≡_, refl, sym, ap, _∙_}
-use mathlib.Core.Bool.{Bool, true, false, not, _||_, and-true}
+use mathlib.Core.Bool.{Bool, true, not, _||_, and-true}
 use mathlib.Core.List.{List}
 use Prim.Native.Nat.{ℕ, _+_, _-_, _*_, _<_}
 use native.Mathlib.Omega.{arith}
 use lib.Dec.{eqb}
 use lib.ListN.{getD}
-use Rattle.facts.specs.Bounded.{implies}
 use Rattle.facts.specs.Ranges.{everyFrom}
 use Rattle.facts.proofs.Ranges.{every-from, from-i}
-use Rattle.facts.proofs.Tests.{implies-i, T-true, true-T}
+use Rattle.facts.proofs.Tests.{or-implies, implies-i, T-true, true-T}
 use Rattle.grid.specs.declared.Plan.{Plan}
 use Rattle.grid.specs.declared.Place.{Place}
 use Rattle.grid.specs.Plan.{columnsAt, rowsAt, cellOffset, cellTotal, cellLevel}
@@ -23,10 +22,6 @@ use Rattle.windows.proofs.Near.{least-near-two}
 use Rattle.admissible.specs.Admissible.{cellAdmissible}
 
 -- ---- a cell
-
-or-implies : (a b : Bool) → not a || b ≡ implies a b
-or-implies true b = refl
-or-implies false b = refl
 
 module _ (p : Plan) (cells : List ℕ) (table : MeshTable p cells) where
   pub cell-read : (q n : ℕ) → n ≡ leastNear p cells q → not (eqb (getD cells q 0) 2) || eqb n 2 ≡ cellAdmissible p cells q

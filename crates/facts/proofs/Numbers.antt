@@ -114,7 +114,7 @@ listed-same (suc n) p q h = rw (h n (le-refl (suc n)), listed-same n p q (λ i l
 
 -- ---- stored
 
-bit : (b : Bool) → eqb (cond b 1 0) 1 ≡ b
+pub bit : (b : Bool) → eqb (cond b 1 0) 1 ≡ b
 bit true = refl
 bit false = refl
 

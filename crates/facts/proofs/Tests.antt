@@ -72,6 +72,10 @@ positive (suc n) t = omega arith
 pub eqb-of : (a b : ℕ) → a ≡ b → T (eqb a b)
 eqb-of a b e = rw e (eqb-refl b)
 
+pub or-implies : (a b : Bool) → not a || b ≡ implies a b
+or-implies true b = refl
+or-implies false b = refl
+
 pub implies-i : (a b : Bool) → (T a → T b) → T (implies a b)
 implies-i true b f = f tt
 implies-i false b f = tt

@@ -1,19 +1,19 @@
 -- A flat surface: where all functions of a mesh just opened have one height, every point has it. Assumes nothing.
-use mathlib.Core.Path.{_≡_, refl, sym, ap, _∙_}
-use mathlib.Core.Bool.{Bool, true, false, cond}
+use mathlib.Core.Path.{_≡_, sym, ap, _∙_}
+use mathlib.Core.Bool.{true, false, cond}
 use mathlib.Core.List.{List}
 use Prim.Native.Nat.{ℕ, _+_, _-_, _*_, _^_, _≤_, _<_}
 use native.Mathlib.Nat.{lt-of-le-of-lt, mul-le-mul, one-le-pow, zero-add, add-sub-of-le}
 use native.Mathlib.Omega.{arith}
-use lib.Dec.{T, eqb, eqb→eq, ltb, ltb→lt, nltb→le, le→leb, lit<, lit≤}
+use lib.Dec.{T, eqb, ltb, ltb→lt, le→leb, lit<, lit≤}
 use lib.IntN.{ℤ, pos, natAbs, _+ℤ_, _*ℤ_, +ℤ-idr}
 use lib.ListN.{length, getD}
 use lib.Pow.{pow-mono}
 use borrow.Author.Tests.{ltb-false, lt-ltb, le-ltb}
 use Rattle.facts.specs.Bounded.{sum}
 use Rattle.facts.proofs.Bounded.{every-i}
-use Rattle.facts.proofs.Numbers.{getD-tabulate}
-use Rattle.facts.proofs.Tests.{cases, same, implies-i, T-true, eqb-of, true-T}
+use Rattle.facts.proofs.Numbers.{getD-tabulate, bit}
+use Rattle.facts.proofs.Tests.{implies-i, T-true, true-T}
 use Rattle.exact.specs.Dyadic.{dyadic}
 use Rattle.exact.specs.Sums.{sumℤ}
 use Rattle.exact.proofs.Dyadic.{dyadic-widen}
@@ -21,12 +21,14 @@ use Rattle.exact.proofs.Sums.{sum-split, sum-same, sum-zero, sum-times}
 use Rattle.facts.proofs.Sums as sums
 use Rattle.grid.specs.declared.Plan.{Plan}
 use Rattle.grid.specs.Bounds.{mostCells}
-use Rattle.grid.specs.Plan.{inRange, tooLarge, cellTotal, functionColumnsAt, functionRowsAt, functionOffset, functionTotal, functionPlace, functionNumber, functionLevel, FunctionInside}
+use Rattle.grid.specs.Plan.{inRange, tooLarge, cellTotal, functionColumnsAt, functionRowsAt, functionOffset, functionTotal, functionPlace, functionLevel}
 use Rattle.grid.specs.Range.{InRange}
 use Rattle.grid.proofs.Laws.{in-range, function-inside, function-number-place}
-use Rattle.grid.proofs.Levels.{offset-zero, offset-next, offset-mono, level-before, level-from}
+use Rattle.grid.proofs.Levels.{offset-zero, offset-next, offset-mono}
 use Rattle.mesh.specs.Mesh.{active, freshCells, freshFunctions}
 use Rattle.mesh.proofs.Fresh.{fresh-checked}
+use Rattle.tables.specs.Entries.{freshByte}
+use Rattle.tables.proofs.Calls.{first-level}
 use Rattle.heights.specs.declared.Height.the-variants.{At}
 use Rattle.heights.specs.Heights.{onMesh, valueAt, oneAt, productOf, heightSum, places, inexact, low, lowAt, allLow, answer}
 use Rattle.heights.specs.Demands.{Flat}
@@ -45,29 +47,11 @@ module _ (p : Plan) (range : InRange p) (small : cellTotal p ≤ mostCells) (exa
 
   -- a function of the mesh is active just where it is of level 0, one of the first
   active-is : (f : ℕ) → f < functionTotal p → active functions f ≡ ltb f (functionOffset p 1)
-  unfolding active freshFunctions
+  unfolding active freshFunctions freshByte
   active-is f b =
-      ap (λ n. eqb n 1) (getD-tabulate (functionTotal p) (λ f. cond (eqb (functionLevel p f) 0) 1 0) f 0 b)
-      ∙ byte (eqb (functionLevel p f) 0)
-      ∙ same (eqb (functionLevel p f) 0) (ltb f (functionOffset p 1))
-      (λ t. cases (ltb f (functionOffset p 1)) (λ u. u) (λ u. absurd (omega (arith, eqb→eq (functionLevel p f) 0 t, level-from w r (p .levels) f i n 1 (nltb→le f _ u)))))
-      (λ t. eqb-of (functionLevel p f) 0 (omega (arith, level-before w r (p .levels) f i n 1 (ltb→lt f _ t))))
-    where
-      w : ℕ → ℕ
-      w = functionColumnsAt p
-
-      r : ℕ → ℕ
-      r = functionRowsAt p
-
-      i : FunctionInside p (functionPlace p f)
-      i = function-inside p range f b
-
-      n : functionNumber p (functionPlace p f) ≡ f
-      n = function-number-place p range f b
-
-      byte : (b : Bool) → eqb (cond b 1 0) 1 ≡ b
-      byte true = refl
-      byte false = refl
+      ap (λ n. eqb n 1) (getD-tabulate (functionTotal p) (λ f. cond (eqb (functionLevel p f) 0) 1 0) f 0 b
+      ∙ sym (first-level (functionColumnsAt p) (functionRowsAt p) (p .levels) f (function-inside p range f b) (function-number-place p range f b)))
+      ∙ bit (ltb f (functionOffset p 1))
 
   all-low : allLow p functions heights ≡ true
   unfolding allLow lowAt low

@@ -1,6 +1,6 @@
 -- Low heights: two signed tests, one function more, and levels one by one. Assumes nothing.
 use mathlib.Core.Path.{_≡_, refl, sym, ap, _∙_}
-use mathlib.Core.Bool.{Bool, true, false, not, _&&_, _||_}
+use mathlib.Core.Bool.{Bool, not, _&&_, _||_, and-true}
 use mathlib.Core.List.{List}
 use Prim.Native.Nat.{ℕ, suc, pred, _+_, _-_, _*_, _^_, _≤_, _<_}
 use native.Mathlib.Nat.{one-le-pow, pow-le-pow-right}
@@ -14,6 +14,7 @@ use mir.Val.{SFits, toZ, ofZ}
 use mir.ValLaws.{toZ-ofZ}
 use Rattle.facts.specs.Bounded.{implies}
 use Rattle.facts.specs.Ranges.{everyFrom}
+use Rattle.facts.proofs.Tests.{or-implies}
 use Rattle.facts.proofs.Ranges.{every-from, from-same}
 use Rattle.facts.proofs.Rows.{from-next}
 use Rattle.grid.specs.declared.Plan.{Plan}
@@ -28,10 +29,6 @@ use Rattle.heights.specs.Steps.{lowOn, Limit}
 use Rattle.heights.proofs.Turns.{element}
 
 -- ---- one height
-
-and-true : (b : Bool) → (b && true) ≡ b
-and-true true = refl
-and-true false = refl
 
 -- the two signed tests are one of the size
 within : (m : ℕ) (h : ℤ) → (leZ (negsuc m) h && leZ h (pos (suc m))) ≡ leb (natAbs h) (suc m)
@@ -61,10 +58,6 @@ module _ (k : ℕ) (functions : List ℕ) (heights : List ℤ) where
       → (not (eqb (getD functions i 0) 1) || r) ≡ lowOn k functions heights i
   unfolding lowOn active
   on-test i m e = rw (e, element (getD heights i (pos 0)) m) (or-implies (eqb (getD functions i 0) 1) (low k (getD heights i (pos 0))))
-    where
-      or-implies : (a b : Bool) → (not a || b) ≡ implies a b
-      or-implies true b = refl
-      or-implies false b = refl
 
   pub run-turn : (from i : ℕ) {ok r : Bool} → from ≤ i → mag (getD heights i (pos 0)) < 2 ^ 31 → r ≡ low k (toZ w32 (ofZ w32 (getD heights i (pos 0))))
       → ok ≡ everyFrom from (i - from) (lowOn k functions heights) → (ok && (not (eqb (getD functions i 0) 1) || r)) ≡ everyFrom from (i + 1 - from) (lowOn k functions heights)

@@ -1,6 +1,6 @@
 -- Laws of the fields of a line, by which it is counted and stored. Assumes nothing.
 use mathlib.Core.Path.{_≡_, refl, sym, ap, _∙_}
-use mathlib.Core.Bool.{Bool, true, false, cond, _&&_}
+use mathlib.Core.Bool.{Bool, true, false, cond, _&&_, and-true}
 use mathlib.Core.List.{List, [], _∷_, _++_, map, append-nil}
 use Prim.Native.Nat.{ℕ, _+_, _≤_, _<_}
 use native.Mathlib.Numerals.{add-one}
@@ -89,10 +89,6 @@ stored-end ns ns₀ i all n e t d =
     ∙ ap (λ (x : List ℕ). x ++ drop n ns₀) (sym (append-nil (take i ns)) ∙ t)
 
 -- ---- the whole line
-
-and-true : (b : Bool) → (b && true) ≡ b
-and-true true = refl
-and-true false = refl
 
 none-fits : (k : Kind) → fits k 65 ≡ false
 none-fits Unreadable = refl

@@ -125,7 +125,7 @@ module _ (table : List ℕ) (byte i : ℕ) where
 
 -- the first level's numbers are those below the second
 module _ (w h : ℕ → ℕ) (L n : ℕ) (inside : Inside w h L (place w h L n)) (is : number w h (place w h L n) ≡ n) where
-  first-level : freshByte (offset w h 1) n ≡ cond (eqb (place w h L n .level) 0) 1 0
+  pub first-level : freshByte (offset w h 1) n ≡ cond (eqb (place w h L n .level) 0) 1 0
   unfolding freshByte
   first-level = ap (λ (b : Bool). cond b 1 0) (same (ltb n (offset w h 1)) (eqb (place w h L n .level) 0)
       (λ t. eqb-of (place w h L n .level) 0 (omega (arith, level-before w h L n inside is 1 (ltb→lt _ _ t))))
