@@ -24,6 +24,7 @@ pictures:
 	docs/crates.sh > docs/crates.svg
 	docs/mesh.sh > docs/mesh.svg
 	docs/levels.sh > docs/levels.svg
+	docs/heights.sh > docs/heights.svg
 
 install: all
 	install -d "$(DESTDIR)$(PREFIX)/include" "$(DESTDIR)$(PREFIX)/lib"
