@@ -18,7 +18,7 @@ use Rattle.splines.specs.Knots.{times, knotsBelow, knot}
 use Rattle.splines.specs.Values.{rise, fall, box, basis, scale, cellOf, value, valueIn, valueOn}
 use Rattle.heights.specs.declared.Height.{Height}
 use Rattle.heights.specs.declared.Height.the-variants.{At, Refused}
-use Rattle.heights.specs.Heights.{eighths, onMesh, valueAt, productOf, heightSum, places, inexact, low, lowAt, allLow, heightsRefusal, refusal, answer}
+use Rattle.heights.specs.Heights.{eighths, onMesh, valueAt, productOf, heightSum, places, inexact, low, allLow, heightsRefusal, refusal, answer, lowOn}
 
 -- a list of n heights
 pub heightsOf : ℕ → (ℕ → ℤ) → List ℤ
@@ -37,8 +37,8 @@ abbrev pub only : ℕ → ℤ → ℕ → ℤ
 only f h g = cond (eqb g f) h (pos 0)
 
 -- function 8, in the middle of level 1, with 16 sixteenths: a millimetre, in parts, and how many parts that is
-pub unit : heightSum refinedCell itsFunctions (heightsOf 13 (only 8 (pos 16))) 8 8 ∷ pos (2 ^ places refinedCell) ∷ [] ≡ pos 262144 ∷ pos 262144 ∷ []
-unfolding heightsOf sumℤ offset number levelOf placeOn place ratio grown active times knotsBelow knot rise fall box basis scale cellOf value valueIn valueOn eighths valueAt productOf heightSum places
+pub unit : heightSum refinedCell itsFunctions (heightsOf 13 (only 8 (pos 16))) 8 8 ∷ pos (2 ^ places (refinedCell .levels)) ∷ [] ≡ pos 262144 ∷ pos 262144 ∷ []
+unfolding heightsOf sumℤ offset number levelOf placeOn place ratio grown active times knotsBelow knot rise fall box basis scale cellOf value valueIn valueOn eighths valueAt productOf heightSum
 unit = refl
 
 -- a deactivated function's height is neither refused nor counted; an active one's is
@@ -49,7 +49,7 @@ pub ignored :
     ∷ natAbs (heightSum refinedCell itsFunctions (heightsOf 13 (only 4 (pos 1))) 0 0)
     ∷ []
     ≡ 0 ∷ 15 ∷ 0 ∷ 16384 ∷ []
-unfolding every heightsOf sumℤ offset number levelOf placeOn place ratio grown active times knotsBelow knot rise fall box basis scale cellOf value valueIn valueOn eighths valueAt productOf heightSum inexact low lowAt allLow heightsRefusal
+unfolding every heightsOf sumℤ offset number levelOf placeOn place ratio grown active times knotsBelow knot rise fall box basis scale cellOf value valueIn valueOn eighths valueAt productOf heightSum inexact low allLow heightsRefusal lowOn
 ignored = refl
 
 -- with a degree of 3 and heights that are too large 14 is given, with too few of them 3
@@ -61,7 +61,7 @@ pub order :
     ∷ heightsRefusal cubic (1 ∷ []) (heightsOf 11 (λ f. pos 65537))
     ∷ []
     ≡ 14 ∷ 3 ∷ []
-unfolding every heightsOf offset number levelOf placeOn place ratio grown active inexact low lowAt allLow heightsRefusal
+unfolding every heightsOf offset number levelOf placeOn place ratio grown active inexact low allLow heightsRefusal lowOn
 order = refl
 
 -- the answer on the mesh with these refined cells, with so many heights
@@ -141,5 +141,5 @@ pub worked :
     ∷ Refused 1
     ∷ Refused 4
     ∷ []
-unfolding odd ofBits heightsOf some every elem tabulate over dyadic sumℤ offset number levelOf placeOn place between inRange tooLarge ratio grown above below parent child lastLevel covers supportedAt supported apart ancestor nearAt near absent active refined children cellFits isMesh isAdmissible tableOf labelOf labels isLabelled refusal3 refusal6 check times knotsBelow knot rise fall box basis scale cellOf value valueIn valueOn eighths onMesh valueAt productOf heightSum places inexact low lowAt allLow heightsRefusal refusal answer
+unfolding odd ofBits heightsOf some every elem tabulate over dyadic sumℤ offset number levelOf placeOn place between inRange tooLarge ratio grown above below parent child lastLevel covers supportedAt supported apart ancestor nearAt near absent active refined children cellFits isMesh isAdmissible tableOf labelOf labels isLabelled refusal3 refusal6 check times knotsBelow knot rise fall box basis scale cellOf value valueIn valueOn eighths onMesh valueAt productOf heightSum inexact low allLow heightsRefusal refusal answer lowOn
 worked = refl

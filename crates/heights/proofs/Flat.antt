@@ -30,7 +30,7 @@ use Rattle.mesh.proofs.Fresh.{fresh-checked}
 use Rattle.tables.specs.Entries.{freshByte}
 use Rattle.tables.proofs.Calls.{first-level}
 use Rattle.heights.specs.declared.Height.the-variants.{At}
-use Rattle.heights.specs.Heights.{onMesh, valueAt, oneAt, productOf, heightSum, places, inexact, low, lowAt, allLow, answer}
+use Rattle.heights.specs.Heights.{onMesh, valueAt, oneAt, productOf, heightSum, places, inexact, low, allLow, answer, lowOn, productAt}
 use Rattle.heights.specs.Demands.{Flat}
 use Rattle.heights.specs.Steps.{Point}
 use Rattle.heights.proofs.Points.{millimetre}
@@ -54,7 +54,7 @@ module _ (p : Plan) (range : InRange p) (small : cellTotal p ≤ mostCells) (exa
       ∙ bit (ltb f (functionOffset p 1))
 
   all-low : allLow p functions heights ≡ true
-  unfolding allLow lowAt low
+  unfolding allLow low lowOn
   all-low = T-true _ (every-i (functionTotal p) _ (λ f b. implies-i (active functions f) _ (λ a.
       let l = ltb→lt f (functionOffset p 1) (rw (active-is f b) at a) in
       le→leb (natAbs (getD heights f (pos 0))) (65536 * 16 ^ functionLevel p f) (rw (flat-h f l) (omega (arith, one-le-pow (functionLevel p f) 16 (lit≤ tt)))))))
@@ -63,15 +63,15 @@ module _ (p : Plan) (range : InRange p) (small : cellTotal p ≤ mostCells) (exa
   first-le = offset-mono (functionColumnsAt p) (functionRowsAt p) 1 (p .levels) (range .levels≥)
 
   -- a function of level 0, and of a finer one
-  first : (f : ℕ) → f < functionOffset p 1 → productOf p functions heights x y f ≡ h *ℤ pos (valueAt p x y (functionPlace p f))
+  first : (f : ℕ) → f < functionOffset p 1 → productAt p functions heights x y f ≡ h *ℤ pos (valueAt p x y (functionPlace p f))
   unfolding productOf
   first f l = rw (active-is f (omega (arith, first-le)), lt-ltb f (functionOffset p 1) l, flat-h f l)
 
-  finer : (k : ℕ) → k < functionTotal p - functionOffset p 1 → productOf p functions heights x y (functionOffset p 1 + k) ≡ pos 0
+  finer : (k : ℕ) → k < functionTotal p - functionOffset p 1 → productAt p functions heights x y (functionOffset p 1 + k) ≡ pos 0
   unfolding productOf
   finer k l = rw (active-is (functionOffset p 1 + k) (omega arith), le-ltb (functionOffset p 1 + k) (functionOffset p 1) (omega arith))
 
-  one : sum (functionOffset p 1) (λ f. valueAt p x y (functionPlace p f)) ≡ 2 ^ places p
+  one : sum (functionOffset p 1) (λ f. valueAt p x y (functionPlace p f)) ≡ 2 ^ places (p .levels)
   one =
       let z = offset-zero (functionColumnsAt p) (functionRowsAt p) in
       let e : functionOffset p 1 ≡ functionRowsAt p 0 * functionColumnsAt p 0 = omega (arith, offset-next (functionColumnsAt p) (functionRowsAt p) 0) in
@@ -82,21 +82,20 @@ module _ (p : Plan) (range : InRange p) (small : cellTotal p ≤ mostCells) (exa
       ∙ sym m
       ∙ millimetre p 0 (range .levels≥)
 
-  sum-is : heightSum p functions heights x y ≡ h *ℤ pos (2 ^ places p)
+  sum-is : heightSum p functions heights x y ≡ h *ℤ pos (2 ^ places (p .levels))
   unfolding heightSum productOf
   sum-is =
-      ap (λ n. sumℤ n (productOf p functions heights x y)) (sym (add-sub-of-le first-le))
-      ∙ sum-split (functionOffset p 1) (functionTotal p - functionOffset p 1) (productOf p functions heights x y)
-      ∙ rw (sum-zero (functionTotal p - functionOffset p 1) (λ k. productOf p functions heights x y (functionOffset p 1 + k)) finer, +ℤ-idr)
+      ap (λ n. sumℤ n (productAt p functions heights x y)) (sym (add-sub-of-le first-le))
+      ∙ sum-split (functionOffset p 1) (functionTotal p - functionOffset p 1) (productAt p functions heights x y)
+      ∙ rw (sum-zero (functionTotal p - functionOffset p 1) (λ k. productAt p functions heights x y (functionOffset p 1 + k)) finer, +ℤ-idr)
       (sum-same (functionOffset p 1) _ (λ f. h *ℤ pos (valueAt p x y (functionPlace p f))) first ∙ sum-times (functionOffset p 1) h _ ∙ ap (λ n. h *ℤ pos n) one)
 
-  same-float : dyadic (places p) (heightSum p functions heights x y) ≡ dyadic 0 h
-  unfolding places
+  same-float : dyadic (places (p .levels)) (heightSum p functions heights x y) ≡ dyadic 0 h
   same-float =
       let n : 10 + 4 * p .levels ≤ 26 = omega (arith, s .levels≤) in
       rw sum-is
-      (ap (λ z. dyadic z (h *ℤ pos (2 ^ places p))) (sym (zero-add (places p)))
-      ∙ sym (dyadic-widen 0 (places p) h (omega arith) (lt-of-le-of-lt (mul-le-mul low-h (pow-mono n)) (lit< tt))))
+      (ap (λ z. dyadic z (h *ℤ pos (2 ^ places (p .levels)))) (sym (zero-add (places (p .levels))))
+      ∙ sym (dyadic-widen 0 (places (p .levels)) h (omega arith) (lt-of-le-of-lt (mul-le-mul low-h (pow-mono n)) (lit< tt))))
 
   flat-at : answer p (freshCells p) functions heights x y ≡ At (dyadic 0 h)
   flat-at =

@@ -24,8 +24,8 @@ use Rattle.grid.proofs.Laws.{function-inside, function-number-place}
 use Rattle.grid.proofs.Levels.{offset-next, offset-mono, level-before, level-from}
 use Rattle.mesh.specs.Mesh.{active}
 use Rattle.heights.specs.declared.limits.Limits.{Limits}
-use Rattle.heights.specs.Heights.{low, lowAt, allLow}
-use Rattle.heights.specs.Steps.{lowOn, Limit}
+use Rattle.heights.specs.Heights.{low, lowAt, allLow, lowOn}
+use Rattle.heights.specs.Steps.{Limit}
 use Rattle.heights.proofs.Turns.{element}
 
 -- ---- one height
@@ -78,7 +78,7 @@ module _ (p : Plan) (range : InRange p) (functions : List ℕ) (heights : List �
 
   pub level-low : {r : Bool} {from to : ℕ} → from ≡ functionOffset p k → to ≡ functionOffset p (k + 1) → r ≡ everyFrom from (to - from) (lowOn k functions heights)
       → r ≡ everyFrom (functionOffset p k) (functionRowsAt p k * functionColumnsAt p k) (lowAt p functions heights)
-  unfolding lowAt lowOn
+  unfolding lowOn
   level-low a b e =
       let n = offset-next (functionColumnsAt p) (functionRowsAt p) k in
       let m : functionOffset p (k + 1) - functionOffset p k ≡ functionRowsAt p k * functionColumnsAt p k = omega arith in

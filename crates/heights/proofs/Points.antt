@@ -107,8 +107,8 @@ sixteen (suc k) = let e : 4 * suc k ≡ 4 * k + 4 = omega arith in rw (pow-suc 1
 fourth : (x : ℕ) → 2 * (8 * x) * (8 * x) * (2 * (8 * x) * (8 * x)) ≡ 2 ^ 14 * (x * x * (x * x))
 fourth x = omega arith
 
-pub millimetre : (p : Plan) (k : ℕ) → k < p .levels → 16 ^ k * oneAt p k ≡ 2 ^ places p
-unfolding oneAt eighths ratio places
+pub millimetre : (p : Plan) (k : ℕ) → k < p .levels → 16 ^ k * oneAt p k ≡ 2 ^ places (p .levels)
+unfolding oneAt eighths ratio
 millimetre p k l =
     let d = p .levels - 1 - k in
     let e : 4 * k + (14 + (d + d + (d + d))) ≡ 10 + 4 * p .levels = omega arith in

@@ -16,7 +16,7 @@ use Rattle.grid.specs.Range.{InRange}
 use Rattle.mesh.specs.Mesh.{check}
 use Rattle.mesh.proofs.Bridge.{check-passed, pass, stop}
 use Rattle.heights.specs.declared.Height.the-variants.{At, Refused}
-use Rattle.heights.specs.Heights.{onMesh, heightSum, places, inexact, allLow, heightsRefusal, refusal, answer}
+use Rattle.heights.specs.Heights.{onMesh, heightSum, places, inexact, allLow, heightsRefusal, refusal, answer, low}
 use Rattle.heights.specs.Steps.{Point, OnSurface}
 
 or-no : (a b : Bool) → (a || b) ≡ false → (a ≡ false) × (b ≡ false)
@@ -83,7 +83,7 @@ module _ (p : Plan) (cells functions : List ℕ) (heights : List ℤ) (x y : ℕ
   refused-point c e f = rw (c, e, f)
 
   pub answered : {h : Float} → check p cells functions ≡ 0 → heightsRefusal p functions heights ≡ 0 → onMesh p x y ≡ true
-      → h ≡ dyadic (places p) (heightSum p functions heights x y) → At h ≡ answer p cells functions heights x y
+      → h ≡ dyadic (places (p .levels)) (heightSum p functions heights x y) → At h ≡ answer p cells functions heights x y
   unfolding answer refusal
   answered c e f g = rw (c, e, f, g)
 

@@ -41,7 +41,7 @@ number-of zero h = refl
 number-of (suc n) h = rw (eqb·suc-zero n)
 
 module _ (p : Plan) (cells functions : List ℕ) (heights : List ℤ) (x y : ℕ) where
-  answer-is : refusal p cells functions heights x y ≡ 0 → answer p cells functions heights x y ≡ At (dyadic (places p) (heightSum p functions heights x y))
+  answer-is : refusal p cells functions heights x y ≡ 0 → answer p cells functions heights x y ≡ At (dyadic (places (p .levels)) (heightSum p functions heights x y))
   unfolding answer
   answer-is e = rw e
 
@@ -56,7 +56,7 @@ module _ (p : Plan) (cells functions : List ℕ) (heights : List ℤ) (x y : ℕ
   answered : Answered p cells functions heights x y
   answered = record {
     number = unfold answer in number-of (refusal p cells functions heights x y) _;
-    value = λ e. rw (answer-is e) (dyadic-value (places p) (heightSum p functions heights x y));
+    value = λ e. rw (answer-is e) (dyadic-value (places (p .levels)) (heightSum p functions heights x y));
     bits = λ e. let s = accepted e in
         lt-of-le-of-lt (rw (up-all s) at (up-size s (p .levels) (le-refl _))) (lt-of-le-of-lt (mul-le-mul-right (9 * most) (s .point .levels≤)) (lit< tt));
   }

@@ -28,46 +28,46 @@ use Rattle.splines.specs.Values.{cellOf, valueOn}
 use Rattle.splines.specs.Local.{localOf, pieceOf}
 use Rattle.splines.specs.Claims.{OnSide}
 use Rattle.splines.proofs.Sides.{within, value-over, value-outside, values, over-last}
-use Rattle.heights.specs.Heights.{eighths, valueAt, oneAt, productOf, places, low, lowAt, allLow}
-use Rattle.heights.specs.Steps.{OnSurface, levelPart, added, rowSum, levelSum, most, Row, Rows}
+use Rattle.heights.specs.Heights.{eighths, valueAt, oneAt, productOf, places, low, allLow, lowOn, productAt}
+use Rattle.heights.specs.Steps.{OnSurface, levelPart, rowSum, levelSum, most, Row, Rows}
 use Rattle.heights.proofs.Points.{eighths-small, on-across, on-up, at, number-at, at-inside, place-at, millimetre}
 
 module _ (functions : List ℕ) (heights : List ℤ) (f : ℕ) where
-  added-none : added functions heights f 0 ≡ pos 0
-  unfolding added
-  added-none = go (active functions f)
+  product-none : productOf functions heights f 0 ≡ pos 0
+  unfolding productOf
+  product-none = go (active functions f)
     where
       go : (b : Bool) → cond b (getD heights f (pos 0) *ℤ pos 0) (pos 0) ≡ pos 0
       go true = *ℤ-zero (getD heights f (pos 0))
       go false = refl
 
-  added-zero : {v : ℕ} → v ≡ 0 → added functions heights f v ≡ pos 0
-  added-zero e = rw e added-none
+  product-zero : {v : ℕ} → v ≡ 0 → productOf functions heights f v ≡ pos 0
+  product-zero e = rw e product-none
 
-  added-size : (v b : ℕ) → (T (active functions f) → natAbs (getD heights f (pos 0)) * v ≤ b) → natAbs (added functions heights f v) ≤ b
-  unfolding added
-  added-size v b h = go (active functions f) h
+  product-size : (v b : ℕ) → (T (active functions f) → natAbs (getD heights f (pos 0)) * v ≤ b) → natAbs (productOf functions heights f v) ≤ b
+  unfolding productOf
+  product-size v b h = go (active functions f) h
     where
       go : (t : Bool) → (T t → natAbs (getD heights f (pos 0)) * v ≤ b) → natAbs (cond t (getD heights f (pos 0) *ℤ pos v) (pos 0)) ≤ b
       go true k = rw (abs-mul (getD heights f (pos 0)) (pos v)) (k tt)
       go false k = zero-le
 
 module _ (functions : List ℕ) (heights : List ℤ) where
-  added-same : {f g v w : ℕ} → f ≡ g → v ≡ w → added functions heights f v ≡ added functions heights g w
-  added-same e d = rw (e, d)
+  product-same : {f g v w : ℕ} → f ≡ g → v ≡ w → productOf functions heights f v ≡ productOf functions heights g w
+  product-same e d = rw (e, d)
 
   row-same : {f g v w : ℕ} (across : LocalValues) → f ≡ g → v ≡ w → rowSum functions heights f across v ≡ rowSum functions heights g across w
   row-same across e d = rw (e, d)
 
   row-none : (f : ℕ) (across : LocalValues) {v : ℕ} → v ≡ 0 → rowSum functions heights f across v ≡ pos 0
   unfolding rowSum
-  row-none f across e = sum-zero (across .degree + 1) _ (λ j l. added-zero functions heights (f + j) (rw (e, mul-zero)))
+  row-none f across e = sum-zero (across .degree + 1) _ (λ j l. product-zero functions heights (f + j) (rw (e, mul-zero)))
 
 -- the sizes of sums
 module _ {functions : List ℕ} {heights : List ℤ} where
   module _ {first v : ℕ} {across : LocalValues} (row : Row functions heights first across v) where
     -- the first n functions of a row
-    pub part-size : (n : ℕ) → n ≤ across .degree + 1 → natAbs (sumℤ n (λ j. added functions heights (first + j) (pieceOf across j * v))) ≤ 3 * most
+    pub part-size : (n : ℕ) → n ≤ across .degree + 1 → natAbs (sumℤ n (λ j. productOf functions heights (first + j) (pieceOf across j * v))) ≤ 3 * most
     part-size n l = le-trans (sum-bound n most _ (λ j m. row .small j (omega arith))) (let m : n ≤ 3 = omega (arith, row .degree≤) in mul-le-mul-right most m)
 
     pub row-size : natAbs (rowSum functions heights first across v) ≤ 3 * most
@@ -132,8 +132,8 @@ module _ (p : Plan) (functions : List ℕ) (heights : List ℤ) (x y : ℕ) (s :
     number-in : (r c : ℕ) → r < R → c < W → o + (r * W + c) < functionTotal p
     number-in r c m n = omega (arith, number-at p (s .point .range) k l r c, function-number-lt p (s .point .range) _ (at-inside p (s .point .range) k l r c m n))
 
-    product-is : (r c : ℕ) → r < R → c < W → productOf p functions heights x y (o + (r * W + c)) ≡ added functions heights (o + (r * W + c)) (vx c * vy r)
-    unfolding productOf added valueAt
+    product-is : (r c : ℕ) → r < R → c < W → productAt p functions heights x y (o + (r * W + c)) ≡ productOf functions heights (o + (r * W + c)) (vx c * vy r)
+    unfolding productOf valueAt
     product-is r c m n = rw (place-at p (s .point .range) k l r c m n)
 
     -- a row's columns that are not over the point have value 0, and so have all of a row that is not
@@ -143,13 +143,13 @@ module _ (p : Plan) (functions : List ℕ) (heights : List ℤ) (x y : ℕ) (s :
     row-off : (r : ℕ) → r < R → (Over (upAt p k) r (cellOf h (rowsAt p k) y) → ⊥) → vy r ≡ 0
     row-off r n off = value-outside (upAt p k) h y up r (omega (arith, up-functions p k)) off
 
-    row-window : (r : ℕ) → r < R → sumℤ W (λ c. added functions heights (o + (r * W + c)) (vx c * vy r)) ≡ rowSum functions heights (o + r * W + fc) X (vy r)
+    row-window : (r : ℕ) → r < R → sumℤ W (λ c. productOf functions heights (o + (r * W + c)) (vx c * vy r)) ≡ rowSum functions heights (o + r * W + fc) X (vy r)
     unfolding rowSum localOf
     row-window r m =
         sum-window W fc (p .«degree_across» + 1) _ (omega (arith, column-in (p .«degree_across») (le-refl _)))
-        (λ c n. added-zero functions heights _ (rw (column-off c (omega (arith, column-in 0 zero-le)) (λ q. absurd (omega (arith, q .from)))) (zero-mul (vy r))))
-        (λ c n b. added-zero functions heights _ (rw (column-off c b (λ q. absurd (omega (arith, q .to)))) (zero-mul (vy r))))
-        ∙ sum-same (p .«degree_across» + 1) _ _ (λ j n. added-same functions heights (omega arith) (ap (λ v. v * vy r) (value-over (acrossAt p k) h x across j (omega arith))))
+        (λ c n. product-zero functions heights _ (rw (column-off c (omega (arith, column-in 0 zero-le)) (λ q. absurd (omega (arith, q .from)))) (zero-mul (vy r))))
+        (λ c n b. product-zero functions heights _ (rw (column-off c b (λ q. absurd (omega (arith, q .to)))) (zero-mul (vy r))))
+        ∙ sum-same (p .«degree_across» + 1) _ _ (λ j n. product-same functions heights (omega arith) (ap (λ v. v * vy r) (value-over (acrossAt p k) h x across j (omega arith))))
 
     pub level-sum : levelPart p functions heights x y k ≡ levelSum functions heights (functionNumber p (at p (s .point .range) k l fr fc)) W X Y
     unfolding levelPart levelSum localOf
@@ -173,20 +173,19 @@ module _ (p : Plan) (functions : List ℕ) (heights : List ℤ) (x y : ℕ) (s :
     one-small = let e = eighths-small p k (s .point .levels≤) in omega (arith, mul-le-mul e e)
 
     height-low : (r c : ℕ) → r < R → c < W → T (active functions (o + (r * W + c))) → natAbs (getD heights (o + (r * W + c)) (pos 0)) ≤ 65536 * 16 ^ k
-    unfolding allLow lowAt low
+    unfolding allLow low lowOn
     height-low r c m n a =
         let f = o + (r * W + c) in
         let t = implies-e (active functions f) _ (every-e (functionTotal p) _ (s .low) f (number-in r c m n)) a in
         let e : functionLevel p f ≡ k = ap (λ (z : Place). z .level) (place-at p (s .point .range) k l r c m n) in
         rw e at (leb→le (natAbs (getD heights f (pos 0))) (65536 * 16 ^ functionLevel p f) t)
 
-    parts-small : 65536 * 2 ^ places p ≤ most
-    unfolding places
+    parts-small : 65536 * 2 ^ places (p .levels) ≤ most
     parts-small = mul-le-mul-left 65536 (pow-mono {i = 10 + 4 * p .levels} {j = 26} (omega (arith, s .point .levels≤)))
 
-    product-small : (r c : ℕ) → r < R → c < W → natAbs (added functions heights (o + (r * W + c)) (vx c * vy r)) ≤ most
+    product-small : (r c : ℕ) → r < R → c < W → natAbs (productOf functions heights (o + (r * W + c)) (vx c * vy r)) ≤ most
     unfolding oneAt
-    product-small r c m n = added-size functions heights (o + (r * W + c)) (vx c * vy r) most (λ a.
+    product-small r c m n = product-size functions heights (o + (r * W + c)) (vx c * vy r) most (λ a.
         le-trans (mul-le-mul (height-low r c m n a) (mul-le-mul (across-most c n) (up-most r m)))
         (le-trans (le-of-eq (mul-assoc 65536 (16 ^ k) _ ∙ ap (λ z. 65536 * z) (millimetre p k l))) parts-small))
 

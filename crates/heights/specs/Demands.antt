@@ -27,7 +27,7 @@ module _ (p : Plan) (cells functions : List ℕ) (heights : List ℤ) (x y : ℕ
     pub number : numberOf (answer p cells functions heights x y) ≡ refusal p cells functions heights x y
     -- "no bit of the sum is rounded away": the float's value is the sum over 2 ^ places, and that has at most 53 bits
     pub value : refusal p cells functions heights x y ≡ 0
-        → HasValue (heightOf (answer p cells functions heights x y)) (negative total) (natAbs total) (2 ^ places p)
+        → HasValue (heightOf (answer p cells functions heights x y)) (negative total) (natAbs total) (2 ^ places (p .levels))
     pub bits : refusal p cells functions heights x y ≡ 0 → natAbs total < 2 ^ 53
 
 -- ---- the functions' values
@@ -42,7 +42,7 @@ cellAt p x y k = cellNumber p (record {
 
 pub record Valued (p : Plan) (x y : ℕ) : Type 0 where
   -- on every level the same number of a product's parts makes a millimetre
-  pub millimetre : (k : ℕ) → k < p .levels → 16 ^ k * oneAt p k ≡ 2 ^ places p
+  pub millimetre : (k : ℕ) → k < p .levels → 16 ^ k * oneAt p k ≡ 2 ^ places (p .levels)
   -- no value is above 1, and the values of a level make 1
   pub most : (f : ℕ) → f < functionTotal p → valueAt p x y (functionPlace p f) ≤ oneAt p (functionLevel p f)
   pub one : (k : ℕ) → k < p .levels

@@ -37,19 +37,21 @@ valueAt p x y f =
 unfoldable pub oneAt : Plan → ℕ → ℕ
 oneAt p k = 2 * eighths p k * eighths p k * (2 * eighths p k * eighths p k)
 
--- "height times B-spline value" of an active function; "Inactive functions' heights are ignored"
-unfoldable pub productOf : Plan → List ℕ → List ℤ → ℕ → ℕ → ℕ → ℤ
-productOf p functions heights x y f =
-    cond (active functions f) (getD heights f (pos 0) *ℤ pos (valueAt p x y (functionPlace p f))) (pos 0)
+-- "height times B-spline value" of function f, where its value is v; "Inactive functions' heights are ignored"
+unfoldable pub productOf : List ℕ → List ℤ → ℕ → ℕ → ℤ
+productOf functions heights f v = cond (active functions f) (getD heights f (pos 0) *ℤ pos v) (pos 0)
+
+abbrev pub productAt : Plan → List ℕ → List ℤ → ℕ → ℕ → ℕ → ℤ
+productAt p functions heights x y f = productOf functions heights f (valueAt p x y (functionPlace p f))
 
 -- "the sum over active functions"
 unfoldable pub heightSum : Plan → List ℕ → List ℤ → ℕ → ℕ → ℤ
-heightSum p functions heights x y = sumℤ (functionTotal p) (productOf p functions heights x y)
+heightSum p functions heights x y = sumℤ (functionTotal p) (productAt p functions heights x y)
 
--- "at level k the unit is 16^-k mm": 16 ^ k * oneAt p k of a product's parts make a millimetre. That is 2 ^ places on every level
+-- "at level k the unit is 16^-k mm": 16 ^ k * oneAt p k of a product's parts make a millimetre. Of L levels that is 2 ^ places L on each
 -- (`Demands`, millimetre), so the products are summed as they are
-unfoldable pub places : Plan → ℕ
-places p = 10 + 4 * p .levels
+abbrev pub places : ℕ → ℕ
+places L = 10 + 4 * L
 
 -- ---- the refusals that concern heights
 
@@ -61,9 +63,12 @@ inexact p = ltb 2 (p .«degree_across») || (ltb 2 (p .«degree_up») || ltb 4 (
 unfoldable pub low : ℕ → ℤ → Bool
 low k h = leb (natAbs h) (65536 * 16 ^ k)
 
--- "an active height exceeds 65,536 mm either way" is its opposite
-unfoldable pub lowAt : Plan → List ℕ → List ℤ → ℕ → Bool
-lowAt p functions heights f = implies (active functions f) (low (functionLevel p f) (getD heights f (pos 0)))
+-- "an active height exceeds 65,536 mm either way" is its opposite: of function f, on level k
+unfoldable pub lowOn : ℕ → List ℕ → List ℤ → ℕ → Bool
+lowOn k functions heights f = implies (active functions f) (low k (getD heights f (pos 0)))
+
+abbrev pub lowAt : Plan → List ℕ → List ℤ → ℕ → Bool
+lowAt p functions heights f = lowOn (functionLevel p f) functions heights f
 
 unfoldable pub allLow : Plan → List ℕ → List ℤ → Bool
 allLow p functions heights = every (functionTotal p) (lowAt p functions heights)
@@ -88,7 +93,7 @@ refusal p cells functions heights x y =
 unfoldable pub answer : Plan → List ℕ → List ℕ → List ℤ → ℕ → ℕ → Height
 answer p cells functions heights x y =
     cond (eqb (refusal p cells functions heights x y) 0)
-    (At (dyadic (places p) (heightSum p functions heights x y)))
+    (At (dyadic (places (p .levels)) (heightSum p functions heights x y)))
     (Refused (refusal p cells functions heights x y))
 
 -- an answer's number, 0 for a height, and its height, 0 with a refusal

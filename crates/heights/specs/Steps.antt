@@ -1,29 +1,22 @@
 -- What the steps of a call have: heights of a level that are low, a row and a level of the functions over a point. Definitions only.
 use mathlib.Core.Path.{_≡_}
-use mathlib.Core.Bool.{Bool, cond}
 use mathlib.Core.List.{List}
 use Prim.Native.Nat.{ℕ, _+_, _*_, _^_, _≤_, _<_}
 use lib.Dec.{T}
-use lib.IntN.{ℤ, pos, negℤ, natAbs, _*ℤ_}
+use lib.IntN.{ℤ, pos, negℤ, natAbs}
 use lib.Ieee.{Float}
-use lib.ListN.{length, getD}
+use lib.ListN.{length}
 use Rattle.exact.specs.Dyadic.{dyadic}
 use Rattle.exact.specs.Sums.{sumℤ}
-use Rattle.facts.specs.Bounded.{implies}
 use Rattle.grid.specs.declared.Plan.{Plan}
 use Rattle.grid.specs.Plan.{functionColumnsAt, functionRowsAt, functionOffset, functionTotal}
 use Rattle.grid.specs.Range.{InRange}
-use Rattle.mesh.specs.Mesh.{active}
 use Rattle.splines.specs.declared.LocalValues.{LocalValues}
 use Rattle.splines.specs.Local.{pieceOf}
 use Rattle.heights.specs.declared.limits.Limits.{Limits}
-use Rattle.heights.specs.Heights.{onMesh, productOf, low, allLow}
+use Rattle.heights.specs.Heights.{onMesh, productOf, productAt, places, allLow}
 
 -- ---- low heights
-
--- the function f, of level k
-unfoldable pub lowOn : ℕ → List ℕ → List ℤ → ℕ → Bool
-lowOn k functions heights f = implies (active functions f) (low k (getD heights f (pos 0)))
 
 -- what is low on level k
 pub record Limit (k : ℕ) (r : Limits) : Type 0 where
@@ -50,18 +43,14 @@ pub record OnSurface (p : Plan) (functions : List ℕ) (heights : List ℤ) (x y
 -- what the functions of level k add
 unfoldable pub levelPart : Plan → List ℕ → List ℤ → ℕ → ℕ → ℕ → ℤ
 levelPart p functions heights x y k =
-    sumℤ (functionRowsAt p k * functionColumnsAt p k) (λ i. productOf p functions heights x y (functionOffset p k + i))
+    sumℤ (functionRowsAt p k * functionColumnsAt p k) (λ i. productAt p functions heights x y (functionOffset p k + i))
 
 -- ---- the functions over a point
 
 module _ (functions : List ℕ) (heights : List ℤ) where
-  -- what function f adds where its value is v
-  unfoldable pub added : ℕ → ℕ → ℤ
-  added f v = cond (active functions f) (getD heights f (pos 0) *ℤ pos v) (pos 0)
-
   -- a row of functions, of which the first over the point is `first`, and whose value up is v
   unfoldable pub rowSum : ℕ → LocalValues → ℕ → ℤ
-  rowSum first across v = sumℤ (across .degree + 1) (λ j. added (first + j) (pieceOf across j * v))
+  rowSum first across v = sumℤ (across .degree + 1) (λ j. productOf functions heights (first + j) (pieceOf across j * v))
 
   -- the rows over the point, w functions to a row
   unfoldable pub levelSum : ℕ → ℕ → LocalValues → LocalValues → ℤ
@@ -74,7 +63,7 @@ most = 4398046511104
 -- a sum's parts: `unit` is one of them
 pub record Unit (levels : ℕ) (unit : Float) : Type 0 where
   pub levels≤ : levels ≤ 4
-  pub is : unit ≡ dyadic (10 + 4 * levels) (pos 1)
+  pub is : unit ≡ dyadic (places levels) (pos 1)
 
 -- the functions over a point in one row lie in the tables, and what they add is small
 pub record Row (functions : List ℕ) (heights : List ℤ) (first : ℕ) (across : LocalValues) (v : ℕ) : Type 0 where
@@ -83,7 +72,7 @@ pub record Row (functions : List ℕ) (heights : List ℤ) (first : ℕ) (across
   pub in-heights : first + across .degree < length heights
   pub up≤ : v ≤ 8192
   pub across≤ : (j : ℕ) → j ≤ across .degree → pieceOf across j ≤ 8192
-  pub small : (j : ℕ) → j ≤ across .degree → natAbs (added functions heights (first + j) (pieceOf across j * v)) ≤ most
+  pub small : (j : ℕ) → j ≤ across .degree → natAbs (productOf functions heights (first + j) (pieceOf across j * v)) ≤ most
 
 -- the rows of a level
 pub record Rows (functions : List ℕ) (heights : List ℤ) (first w : ℕ) (across up : LocalValues) : Type 0 where

@@ -56,7 +56,7 @@ fn eighths(plan: Plan, level: u32) -> u32
 // One part of a sum, in millimetres.
 fn unit(levels: u32) -> f64
     requires { ⌜ levels ≤ 4 ⌝ }
-    ensures { λ r. ⌜ r ≡ dyadic (10 + 4 * levels) (pos 1) ⌝ }
+    ensures { λ r. ⌜ r ≡ dyadic (places levels) (pos 1) ⌝ }
 {
     let mut unit = 0.0009765625;
     let mut level = 0;
@@ -80,7 +80,7 @@ fn level_height(
     requires { ⌜ OnSurface plan (now functions) (now heights) across up ⌝ }
     requires { ⌜ level < plan .levels ⌝ }
     requires { ⌜ Unit (plan .levels) unit ⌝ }
-    ensures { λ r. ⌜ r ≡ dyadic (places plan) (levelPart plan (now (functions .entry)) (now (heights .entry)) across up level) ⌝ }
+    ensures { λ r. ⌜ r ≡ dyadic (places (plan .levels)) (levelPart plan (now (functions .entry)) (now (heights .entry)) across up level) ⌝ }
 {
     let parts = eighths(plan, level);
     let columns = plan.across_at(level);
@@ -106,7 +106,7 @@ fn level_height(
 // The height at a point of the mesh, for heights that are not refused.
 pub fn height_at(plan: Plan, functions: &[u8], heights: &[i32], across: u32, up: u32) -> f64
     requires { ⌜ OnSurface plan (now functions) (now heights) across up ⌝ }
-    ensures { λ r. ⌜ r ≡ dyadic (places plan) (heightSum plan (now (functions .entry)) (now (heights .entry)) across up) ⌝ }
+    ensures { λ r. ⌜ r ≡ dyadic (places (plan .levels)) (heightSum plan (now (functions .entry)) (now (heights .entry)) across up) ⌝ }
 {
     let levels = plan.levels;
     let unit = unit(levels);

@@ -6,8 +6,8 @@ ghost use lib.ListN.{length};
 ghost use Rattle.facts.specs.Ranges.{everyFrom};
 ghost use Rattle.grid.specs.Plan.{functionColumnsAt, functionRowsAt, functionOffset, functionTotal};
 ghost use Rattle.grid.specs.Range.{InRange};
-ghost use Rattle.heights.specs.Heights.{low, lowAt};
-ghost use Rattle.heights.specs.Steps.{Limit, lowOn};
+ghost use Rattle.heights.specs.Heights.{low, lowOn, lowAt};
+ghost use Rattle.heights.specs.Steps.{Limit};
 
 // The lowest and the highest.
 pub struct Limits {

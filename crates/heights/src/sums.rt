@@ -4,13 +4,14 @@ ghost use mathlib.Core.Path.{_≡_};
 ghost use Prim.Native.Nat.{_+_, _*_, _≤_, _<_};
 ghost use lib.IntN.{pos, natAbs, _*ℤ_};
 ghost use Rattle.exact.specs.Dyadic.{dyadic, Exact};
+ghost use Rattle.heights.specs.Heights.{places};
 ghost use Rattle.heights.specs.Steps.{Unit, Row, Rows, rowSum, levelSum, most};
 
 // A height times a value, both whole numbers.
 fn product(height: i32, value: u32, levels: u32, unit: f64) -> f64
     requires { ⌜ Unit levels unit ⌝ }
     requires { ⌜ natAbs height * value ≤ most ⌝ }
-    ensures { λ r. ⌜ Exact (10 + 4 * levels) (height *ℤ pos value) r ⌝ }
+    ensures { λ r. ⌜ Exact (places levels) (height *ℤ pos value) r ⌝ }
 {
     let h = height as f64;
     let v = value as f64;
@@ -29,7 +30,7 @@ fn row(
 ) -> f64
     requires { ⌜ Row (now functions) (now heights) first across value ⌝ }
     requires { ⌜ Unit levels unit ⌝ }
-    ensures { λ r. ⌜ r ≡ dyadic (10 + 4 * levels) (rowSum (now (functions .entry)) (now (heights .entry)) first across value) ⌝ }
+    ensures { λ r. ⌜ r ≡ dyadic (places levels) (rowSum (now (functions .entry)) (now (heights .entry)) first across value) ⌝ }
 {
     let degree = across.degree;
     let mut sum = 0.0;
@@ -57,7 +58,7 @@ pub fn rows(
 ) -> f64
     requires { ⌜ Rows (now functions) (now heights) first width across up ⌝ }
     requires { ⌜ Unit levels unit ⌝ }
-    ensures { λ r. ⌜ r ≡ dyadic (10 + 4 * levels) (levelSum (now (functions .entry)) (now (heights .entry)) first width across up) ⌝ }
+    ensures { λ r. ⌜ r ≡ dyadic (places levels) (levelSum (now (functions .entry)) (now (heights .entry)) first width across up) ⌝ }
 {
     let degree = up.degree;
     let mut sum = 0.0;

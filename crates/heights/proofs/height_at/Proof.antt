@@ -5,14 +5,14 @@ use native.Mathlib.Omega.{arith}
 use Rattle.exact.specs.Dyadic.{dyadic}
 use Rattle.exact.specs.Sums.{sumℤ}
 use Rattle.grid.specs.Plan.{functionOffset}
-use Rattle.heights.specs.Heights.{productOf, places}
+use Rattle.heights.specs.Heights.{places, productAt}
 use Rattle.heights.proofs.Turns.{start-level, turn-level, up-all}
 use borrow.Author.Needs.{needs}
 use Rattle.heights.proofs.height_at.Statement.{statement}
 use Rattle.heights.proofs.height_at.Tie as tie
 
 abbrev Inv-loop : tie.InvT-loop
-Inv-loop plan functions heights across up levels unit sum₀ level₀ sum level = (level ≤ plan .levels) × (sum ≡ dyadic (places plan) (sumℤ (functionOffset plan level) (productOf plan functions heights across up)))
+Inv-loop plan functions heights across up levels unit sum₀ level₀ sum level = (level ≤ plan .levels) × (sum ≡ dyadic (places (plan .levels)) (sumℤ (functionOffset plan level) (productAt plan functions heights across up)))
 
 abbrev μ-loop : tie.MeasureT-loop
 μ-loop plan functions heights across up levels unit sum₀ level₀ sum level = plan .levels - level
@@ -44,7 +44,7 @@ returns : tie.Need-returns Inv-loop μ-loop
 returns c =
     let s = c .before .before .before .before in
     let k : c .before .loop .level ≡ s .args .plan .levels = omega arith in
-    rw k at (c .before .loop .inv .1) ∙ ap (dyadic (places (s .args .plan))) (up-all (s .pre))
+    rw k at (c .before .loop .inv .1) ∙ ap (dyadic (places (s .args .plan .levels))) (up-all (s .pre))
 
 pub height-at-spec : {M : Type 1} → statement M
 height-at-spec =

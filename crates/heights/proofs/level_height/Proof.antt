@@ -65,11 +65,10 @@ rows-requires c κs =
     )
 
 returns : tie.Need-returns
-unfolding places
 returns c =
     let s = c .before .before .before .before .before .before .before .before .before .before .before .before in
     c .rows .ensures
-    ∙ ap (dyadic (places (s .args .plan)))
+    ∙ ap (dyadic (places (s .args .plan .levels)))
     (sum-found (s .pre .0) (s .pre .1 .0) (c .before .before .before .before .before .before .before .before .before .before .eighths .ensures .0) (c .before .before .before .before .before .before .before .before .before .across-at .ensures) (c .before .before .before .before .before .before .before .before .up-at .ensures) (c .before .before .before .before .before .before .before .locate .ensures) (c .before .before .before .before .before .before .locate2 .ensures)
     (c .before .before .before .before .before .first-over .ensures) (c .before .before .before .before .first-over2 .ensures) (c .before .before .before .function-number .ensures) (c .before .before .function-columns-at .ensures))
 

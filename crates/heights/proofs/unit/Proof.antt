@@ -1,17 +1,18 @@
 -- `unit` meets its contract: a sixteenth for each level. Assumes nothing.
 use mathlib.Core.Path.{_≡_}
-use Prim.Native.Nat.{_+_, _-_, _*_, _≤_}
+use Prim.Native.Nat.{_-_, _≤_}
 use native.Mathlib.Omega.{arith}
 use lib.IntN.{pos}
 use lib.Ieee.{ofBits}
 use Rattle.exact.specs.Dyadic.{dyadic}
+use Rattle.heights.specs.Heights.{places}
 use Rattle.heights.proofs.Turns.{sixteenth}
 use borrow.Author.Needs.{needs}
 use Rattle.heights.proofs.unit.Statement.{statement}
 use Rattle.heights.proofs.unit.Tie as tie
 
 abbrev Inv-loop : tie.InvT-loop
-Inv-loop levels unit₀ level₀ unit level = (level ≤ levels) × (unit ≡ dyadic (10 + 4 * level) (pos 1))
+Inv-loop levels unit₀ level₀ unit level = (level ≤ levels) × (unit ≡ dyadic (places level) (pos 1))
 
 abbrev μ-loop : tie.MeasureT-loop
 μ-loop levels unit₀ level₀ unit level = levels - level

@@ -4,7 +4,7 @@ use Prim.Native.Nat.{_-_, _≤_}
 use native.Mathlib.Omega.{arith}
 use Rattle.facts.specs.Ranges.{everyFrom}
 use Rattle.facts.proofs.Rows.{from-zero}
-use Rattle.heights.specs.Steps.{lowOn}
+use Rattle.heights.specs.Heights.{lowOn}
 use Rattle.heights.proofs.Lows.{run-turn}
 use borrow.Author.Needs.{needs}
 use Rattle.heights.proofs.limits.run_low.Statement.{statement}

@@ -9,14 +9,15 @@ use lib.ListN.{getD}
 use Rattle.exact.specs.Dyadic.{dyadic}
 use Rattle.exact.specs.Sums.{sumℤ}
 use Rattle.splines.specs.Local.{pieceOf}
-use Rattle.heights.specs.Steps.{added, rowSum}
+use Rattle.heights.specs.Heights.{places, productOf}
+use Rattle.heights.specs.Steps.{rowSum}
 use Rattle.heights.proofs.Turns.{element, piece-fits, active-size, turn-active, turn-idle}
 use borrow.Author.Needs.{needs}
 use Rattle.heights.proofs.sums.row.Statement.{statement}
 use Rattle.heights.proofs.sums.row.Tie as tie
 
 abbrev Inv-loop : tie.InvT-loop
-Inv-loop functions heights first across value levels unit degree sum₀ j₀ sum j = (j ≤ across .degree + 1) × (sum ≡ dyadic (10 + 4 * levels) (sumℤ j (λ i. added functions heights (first + i) (pieceOf across i * value))))
+Inv-loop functions heights first across value levels unit degree sum₀ j₀ sum j = (j ≤ across .degree + 1) × (sum ≡ dyadic (places levels) (sumℤ j (λ i. productOf functions heights (first + i) (pieceOf across i * value))))
 
 abbrev μ-loop : tie.MeasureT-loop
 μ-loop functions heights first across value levels unit degree sum₀ j₀ sum j = across .degree + 1 - j

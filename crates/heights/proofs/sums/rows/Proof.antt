@@ -6,6 +6,7 @@ use lib.Ieee.{ofBits}
 use Rattle.exact.specs.Dyadic.{dyadic}
 use Rattle.exact.specs.Sums.{sumℤ}
 use Rattle.splines.specs.Local.{pieceOf}
+use Rattle.heights.specs.Heights.{places}
 use Rattle.heights.specs.Steps.{rowSum, levelSum}
 use Rattle.heights.proofs.Turns.{turn-row}
 use borrow.Author.Needs.{needs}
@@ -13,7 +14,7 @@ use Rattle.heights.proofs.sums.rows.Statement.{statement}
 use Rattle.heights.proofs.sums.rows.Tie as tie
 
 abbrev Inv-loop : tie.InvT-loop
-Inv-loop functions heights first width across up levels unit degree sum₀ i₀ sum i = (i ≤ up .degree + 1) × (sum ≡ dyadic (10 + 4 * levels) (sumℤ i (λ n. rowSum functions heights (first + n * width) across (pieceOf up n))))
+Inv-loop functions heights first width across up levels unit degree sum₀ i₀ sum i = (i ≤ up .degree + 1) × (sum ≡ dyadic (places levels) (sumℤ i (λ n. rowSum functions heights (first + n * width) across (pieceOf up n))))
 
 abbrev μ-loop : tie.MeasureT-loop
 μ-loop functions heights first width across up levels unit degree sum₀ i₀ sum i = up .degree + 1 - i
