@@ -2,7 +2,7 @@
 -- Assumes nothing.
 use mathlib.Core.Path.{_≡_, sym, _∙_}
 use mathlib.Core.Bool.{Bool, true, false, cond}
-use Prim.Native.Nat.{ℕ, suc, _+_, _-_, _*_, _<_, _≤_}
+use Prim.Native.Nat.{ℕ, zero, suc, _+_, _-_, _*_, _<_, _≤_}
 use native.Mathlib.Omega.{arith}
 use lib.Dec.{T, eqb, eqb→eq}
 use Rattle.facts.specs.Bounded.{sum}
@@ -16,7 +16,9 @@ use Rattle.grid.proofs.Spans.{covers-test}
 use Rattle.splines.specs.Knots.{timesOn, knotOn}
 use Rattle.splines.specs.Values.{scale, cellOf, value, valueOn}
 use Rattle.splines.specs.Local.{full, outer, localOf, pieceOf}
-use Rattle.splines.specs.Claims.{OnSide, Values}
+use Rattle.splines.specs.Claims.{OnSide, WholeFactors, Values}
+use Rattle.splines.proofs.Knots.{knot-next}
+use Rattle.splines.proofs.Recursion.{whole-factors}
 use Rattle.splines.proofs.Three.{three, three-0, three-1, three-2, three-off, places, three-most, three-sum}
 use Rattle.splines.proofs.Cells.{cell-inside, cell-point}
 use Rattle.splines.proofs.Opened.{open-times, knots-to, knots-all}
@@ -133,6 +135,16 @@ module _ (s : Side) (h x : ℕ) (on : OnSide s h x) where
       ∙ three-sum (functions s) f _ _ _ (omega (arith, over-last, on .degree≥)) (λ e. third-0 (omega (arith, over-last, on .degree≥)))
       ∙ make
 
+  near-knots : (d i : ℕ) → i + d < functions s + (p + 1) → knotOn s (i + d) ≤ knotOn s i + d
+  near-knots zero i b = let e : i + 0 ≡ i = omega arith in rw e (omega arith)
+  near-knots (suc d) i b =
+      let e : i + suc d ≡ suc (i + d) = omega arith in
+      let o = open-times p (s .cells) (on .degree≥) (on .cells≥) in
+      rw e (omega (arith, knot-next (timesOn s) (s .cells) (o .least) (i + d) (omega (arith, all)), near-knots d i (omega arith)))
+
+  value-factors : (d i : ℕ) → 1 ≤ d → d ≤ p → i + d < functions s + (p + 1) → knotOn s i < knotOn s (i + d) → WholeFactors h d (knotOn s i) (knotOn s (i + d)) x
+  value-factors d i g l b m = whole-factors h d (knotOn s i) (knotOn s (i + d)) x m (omega (arith, near-knots d i b)) (omega (arith, on .degree≤))
+
   value-whole : (i : ℕ) → valueOn s h i x * scale h p ≡ value h (s .cells) p (knotOn s) i x * (2 * h * h)
   unfolding valueOn
   value-whole i = whole p (on .degree≥) (on .degree≤) h (s .cells) (knotOn s) i x (on .parts≥)
@@ -143,6 +155,7 @@ module _ (s : Side) (h x : ℕ) (on : OnSide s h x) where
 
   pub values : Values s h x
   values = record {
+    factors = value-factors;
     whole = value-whole;
     most = value-most;
     one = value-one;

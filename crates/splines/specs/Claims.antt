@@ -1,14 +1,14 @@
 -- What is claimed of the values at a point of a side. Definitions only.
 use mathlib.Core.Path.{_≡_}
 use mathlib.Core.Bool.{not}
-use Prim.Native.Nat.{ℕ, _*_, _≤_, _<_}
+use Prim.Native.Nat.{ℕ, _+_, _-_, _*_, _≤_, _<_}
 use lib.Dec.{T}
 use Rattle.facts.specs.Bounded.{sum}
 use Rattle.grid.specs.declared.Side.{Side}
 use Rattle.grid.specs.Plan.{covers}
 use Rattle.grid.specs.Side.{functions}
 use Rattle.splines.specs.Knots.{knotOn}
-use Rattle.splines.specs.Values.{scale, cellOf, value, valueOn}
+use Rattle.splines.specs.Values.{rise, fall, scale, cellOf, value, valueOn}
 
 -- degree 1 or 2, h parts to a cell, x a point up to the far edge
 pub record OnSide (s : Side) (h x : ℕ) : Type 0 where
@@ -18,7 +18,16 @@ pub record OnSide (s : Side) (h x : ℕ) : Type 0 where
   pub parts≥ : 1 ≤ h
   pub point≤ : x ≤ s .cells * h
 
+-- the recursion's factors at step d between the knots a and b, where there is something between them, are whole numbers: nothing is
+-- rounded away
+pub record WholeFactors (h d a b x : ℕ) : Type 0 where
+  pub rising : rise h d a b x * (b - a) ≡ (x - a * h) * d
+  pub falling : fall h d a b x * (b - a) ≡ (b * h - x) * d
+
 pub record Values (s : Side) (h x : ℕ) : Type 0 where
+  -- of every step up to the degree, from any knot on
+  pub factors : (d i : ℕ) → 1 ≤ d → d ≤ s .degree → i + d < functions s + (s .degree + 1) → knotOn s i < knotOn s (i + d)
+      → WholeFactors h d (knotOn s i) (knotOn s (i + d)) x
   -- values in common parts are the recursion's, with nothing rounded away
   pub whole : (i : ℕ) → valueOn s h i x * scale h (s .degree) ≡ value h (s .cells) (s .degree) (knotOn s) i x * (2 * h * h)
   -- none is above 1, and together they make 1
