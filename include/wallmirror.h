@@ -355,8 +355,9 @@ WallmirrorWritten wallmirror_write(WallmirrorPlan plan,
                                    uint8_t *file, size_t file_len);
 
 /* The height of the surface at a point, exactly; what heights and points are is said at the top.
- * Where it is 0 it is 0.0 and never -0.0, in the default rounding mode; in others only that sign may
- * differ. Refuses 1 to 6; then 3 where there is not one height for each function; then 14; then 15. */
+ * Where it is 0 it is 0.0 and never -0.0, in the default rounding mode; in others only that sign
+ * may differ. Refuses 1 to 6; then 3 where there is not one height for each function; then 14; then
+ * 15. */
 WallmirrorHeight wallmirror_height(WallmirrorPlan plan,
                                    const uint8_t *cells, size_t cells_len,
                                    const uint8_t *functions, size_t functions_len,
