@@ -1,6 +1,6 @@
 // The four calls: refine and coarsen, by cells and by functions. Each takes any plan, tables, marks and lists; what document 01
-// refuses gets its number and nothing is written. The marks are judged, and each cell that they mean gets a flag; the new tables
-// are made beside the old ones and are taken over once 10 and 11 are decided.
+// refuses gets its number and nothing is written. The marks are judged, and each cell that they mean gets a flag; then follow the two
+// steps of document 000's algorithm 1: the mesh is settled, and the functions are relabelled from it.
 use grid::MOST_CELLS;
 use grid::MOST_FUNCTIONS;
 use grid::Plan;
@@ -12,10 +12,11 @@ ghost use lib.ListN.{length};
 ghost use Rattle.grid.specs.Bounds.{mostCells};
 ghost use Rattle.grid.specs.Plan.{cellTotal, functionTotal};
 ghost use Rattle.grid.specs.Range.{InRange};
-ghost use Rattle.mesh.specs.Mesh.{labels, check};
+ghost use Rattle.mesh.specs.Mesh.{check};
 ghost use Rattle.outcomes.specs.Calls as calls;
-ghost use Rattle.outcomes.specs.Calls.{settle, outcome};
-ghost use Rattle.outcomes.specs.Contracts.{left, Meets};
+ghost use Rattle.outcomes.specs.Calls.{outcome};
+ghost use Rattle.outcomes.specs.Steps.{settleCells};
+ghost use Rattle.outcomes.specs.Contracts.{leftCells, Meets};
 ghost use Rattle.closure.specs.Ready.{Ready};
 ghost use Rattle.calls.specs.Parts.{directionOf, byOf, Eligible, Kept, Scratch, Flags, renewed, Applicable};
 
@@ -173,39 +174,31 @@ fn renew(direction: Direction, plan: Plan, cells: &mut [u8], flags: &[u8])
     }
 }
 
-// Makes the new tables beside the old ones, and settles.
-fn apply(
+// The first step of a call: the cells of the new mesh are made beside the old ones; then 10 and 11, or they are taken over with their list.
+fn settle_mesh(
     direction: Direction,
     plan: Plan,
     cells: &mut [u8],
-    functions: &mut [u8],
+    functions: &[u8],
     cell_list: &mut [u32],
-    function_list: &mut [u32],
+    room: usize,
     flags: &[u8],
-    new_functions: &mut [u8],
+    made: &mut [u8],
 ) -> Answer
-    requires { ⌜ Applicable (directionOf direction) plan (now cells) (now functions) (now flags) (now «new_functions») ⌝ }
-    ensures { λ r. ⌜ left r cells functions «cell_list» «function_list» ≡ settle plan (now (cells .entry)) (now (functions .entry)) (now («cell_list» .entry)) (now («function_list» .entry)) (renewed (directionOf direction) plan (now (cells .entry)) (now (flags .entry))) (labels plan (renewed (directionOf direction) plan (now (cells .entry)) (now (flags .entry)))) ⌝ }
+    requires { ⌜ Applicable (directionOf direction) plan (now cells) (now functions) (now flags) (now made) ⌝ }
+    ensures { λ r. ⌜ leftCells r cells «cell_list» ≡ settleCells plan (now (cells .entry)) (now (functions .entry)) (now («cell_list» .entry)) room (renewed (directionOf direction) plan (now (cells .entry)) (now (flags .entry))) ⌝ }
 {
     let total = plan.cell_total() as usize;
-    let mut room = [0u8; MOST_CELLS];
-    let new_cells = &mut room[..total];
+    let mut cell_room = [0u8; MOST_CELLS];
+    let new_cells = &mut cell_room[..total];
     changes::copy_bytes(new_cells, cells);
     renew(direction, plan, new_cells, flags);
-    labels::write_labels(plan, new_cells, new_functions);
-    changes::settle(
-        plan,
-        cells,
-        functions,
-        cell_list,
-        function_list,
-        new_cells,
-        new_functions,
-    )
+    changes::settle_cells(plan, cells, functions, cell_list, room, new_cells, made)
 }
 
 // A call, when its tables are checked. The caller checks them, so that the rooms of the check and those of the change are not on the stack
-// at the same time. Both rooms are used twice: for the flags, and for what the functions weigh and then their new table.
+// at the same time. The room for a byte of each function is used for what they weigh, and then for their new labels. Behind
+// `settle_mesh` no cell is written: `relabel` may only read them.
 pub fn change(
     checked: u32,
     call: Call,
@@ -233,14 +226,15 @@ pub fn change(
         return changes::refuse(judged);
     }
     let direction = call.0;
-    apply(
-        direction,
-        plan,
-        cells,
-        functions,
-        cell_list,
-        function_list,
-        flags,
-        values,
-    )
+    let room = function_list.len();
+    let settled = settle_mesh(direction, plan, cells, functions, cell_list, room, flags, values);
+    if settled.number != 0 {
+        return settled;
+    }
+    let count = changes::relabel(plan, cells, functions, function_list, values);
+    Answer {
+        number: 0,
+        cells: settled.cells,
+        functions: count,
+    }
 }

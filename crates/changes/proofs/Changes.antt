@@ -14,11 +14,11 @@ use Rattle.grid.specs.declared.Plan.{Plan}
 use Rattle.grid.specs.Plan.{cellTotal, functionTotal}
 use Rattle.mesh.specs.Mesh.{refined}
 use Rattle.outcomes.specs.declared.Answer.{Answer}
-use Rattle.outcomes.specs.Calls.{changed, written, refused, settle}
+use Rattle.outcomes.specs.Calls.{changed, written}
 use Rattle.outcomes.specs.Contracts.{outcomeOf}
 use Rattle.compare.specs.Agree.{agree}
 use Rattle.compare.proofs.Agree.{agree-at}
-use Rattle.changes.specs.Changes.{ListedTo, Sizes}
+use Rattle.changes.specs.Changes.{ListedTo}
 use Rattle.grid.specs.Bounds.{mostCells, mostFunctions}
 
 pub beq-true : (b : Bool) → Bool·beq true b ≡ b
@@ -101,37 +101,3 @@ module _ (old new list₀ : List ℕ) (from : ℕ) {list : List ℕ} (e : list �
   pub block-more : (to : ℕ) {list′ : List ℕ} → from ≤ to → list′ ≡ written (changed to old new) list → list′ ≡ written (changed to old new) list₀
   block-more to l d = d ∙ ap (written (changed to old new)) e ∙ over (changed from old new) (changed to old new) list₀ (changed-le old new from to l)
 
--- ---- the outcomes
-
--- n cells and m functions changed; cl and fl are the lent lists
-pub record Counted (p : Plan) (cs fs cl fl cs′ fs′ : List ℕ) (n m : ℕ) : Type 0 where
-  pub sizes : Sizes p cs fs cs′ fs′
-  pub cells-counted : n ≡ length (changed (length cs) cs cs′)
-  pub functions-counted : m ≡ length (changed (length fs) fs fs′)
-
-module _ {p : Plan} {cs fs cl fl cs′ fs′ : List ℕ} {n m : ℕ} (C : Counted p cs fs cl fl cs′ fs′ n m) where
-  cells-are : length (changed (cellTotal p) cs cs′) ≡ n
-  cells-are = sym (C .cells-counted ∙ ap (λ (k : ℕ). length (changed k cs cs′)) (C .sizes .cells-are))
-
-  functions-are : length (changed (functionTotal p) fs fs′) ≡ m
-  functions-are = sym (C .functions-counted ∙ ap (λ (k : ℕ). length (changed k fs fs′)) (C .sizes .functions-are))
-
-  pub counts-small : (n ≤ mostCells) × (m ≤ mostFunctions)
-  counts-small = (omega (arith, C .sizes, cells-are, changed-short cs cs′ (cellTotal p)), omega (arith, C .sizes, functions-are, changed-short fs fs′ (functionTotal p)))
-
-  pub refuses-10 : {a : Answer} → a ≡ record { number = 10; cells = 0; functions = 0 } → length cl < n
-      → outcomeOf a cs fs cl fl ≡ settle p cs fs cl fl cs′ fs′
-  unfolding settle refused
-  refuses-10 e h = rw (e, cells-are, lt-ltb _ _ h)
-
-  pub refuses-11 : {a : Answer} → a ≡ record { number = 11; cells = 0; functions = 0 } → n ≤ length cl → length fl < m
-      → outcomeOf a cs fs cl fl ≡ settle p cs fs cl fl cs′ fs′
-  unfolding settle refused
-  refuses-11 e h k = rw (e, cells-are, functions-are, le-ltb _ _ h, lt-ltb _ _ k)
-
-  pub accepts : {cs″ fs″ cl′ fl′ : List ℕ} → n ≤ length cl → m ≤ length fl
-      → cl′ ≡ written (changed (length cs) cs cs′) cl → fl′ ≡ written (changed (length fs) fs fs′) fl → cs″ ≡ cs′ → fs″ ≡ fs′
-      → outcomeOf (record { number = 0; cells = n; functions = m }) cs″ fs″ cl′ fl′ ≡ settle p cs fs cl fl cs′ fs′
-  unfolding settle
-  accepts h k ec ef ecs efs =
-      rw (ec, ef, ecs, efs, C .sizes .cells-are, C .sizes .functions-are, cells-are, functions-are, le-ltb _ _ h, le-ltb _ _ k)

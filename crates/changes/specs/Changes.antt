@@ -26,16 +26,14 @@ pub record ListedTo (from : ℕ) (old new : List ℕ) (n : ℕ) (list : List ℕ
   pub count : n ≡ length (changed from old new)
   pub begins : list ≡ written (changed from old new) list
 
--- the old and the new tables of a plan: T and F bytes (document 01: T is at most 21,845; F, then, at most 26,220)
-pub record Sizes (p : Plan) (cells functions newCells newFunctions : List ℕ) : Type 0 where
-  pub cells-are : length cells ≡ cellTotal p
+-- the function table of a plan and room for its new labels: F bytes each (document 01: T is at most 21,845; F, then, at most 26,220)
+pub record Rooms (p : Plan) (functions made : List ℕ) : Type 0 where
   pub functions-are : length functions ≡ functionTotal p
-  pub newCells-are : length newCells ≡ cellTotal p
-  pub newFunctions-are : length newFunctions ≡ functionTotal p
+  pub made-is : length made ≡ functionTotal p
   pub cells-small : cellTotal p ≤ mostCells
-  pub functions-small : functionTotal p ≤ mostFunctions
 
--- a table took over the new bytes, and its list the numbers that changed
-pub record Taken (table list : Lent) (new : List ℕ) : Type 0 where
+-- a table took over the new bytes, and its list the numbers that changed, n of them
+pub record Taken (table list : Lent) (new : List ℕ) (n : ℕ) : Type 0 where
+  pub count : n ≡ length (changed (length (table .entry .now)) (table .entry .now) new)
   pub bytes : table .exit .now ≡ new
   pub listed : list .exit .now ≡ written (changed (length (table .entry .now)) (table .entry .now) new) (list .entry .now)

@@ -1,14 +1,17 @@
-// What follows when the new tables of a call are known: the numbers that changed, refusals 10 and 11, and what is written.
-// Document 01, "The calls" and "The refusal table".
+// What follows when the cells of the new mesh are known, in the two steps of document 000's algorithm 1: the cells are settled, then the
+// functions are relabelled. Document 01, "The calls" and "The refusal table"; document 02, Req 04.
 ghost use mathlib.Core.Path.{_≡_};
 ghost use mathlib.Core.Bool.{not, Bool·beq};
 ghost use Prim.Native.Nat.{_+_, _≤_, _<_};
-ghost use lib.Dec.{eqb};
+ghost use lib.Dec.{eqb, ltb};
 ghost use lib.ListN.{length};
-ghost use Rattle.outcomes.specs.Calls.{changed, written, settle};
-ghost use Rattle.changes.specs.Changes.{Block, ListRoom, ListedTo, Sizes, Taken};
-ghost use Rattle.outcomes.specs.Contracts.{left};
+ghost use Rattle.grid.specs.Plan.{cellTotal, functionTotal};
 ghost use Rattle.mesh.specs.Mesh.{labels};
+ghost use Rattle.nesting.specs.Table.{MeshTable};
+ghost use Rattle.outcomes.specs.Calls.{changed, written};
+ghost use Rattle.outcomes.specs.Steps.{settleCells, relabel};
+ghost use Rattle.outcomes.specs.Contracts.{leftCells, leftFunctions};
+ghost use Rattle.changes.specs.Changes.{Block, ListRoom, ListedTo, Rooms, Taken};
 use grid::Plan;
 use outcomes::Answer;
 
@@ -124,9 +127,10 @@ fn list_block(old: &[u8], new: &[u8], list: &mut [u32], n: usize, from: usize, t
     list_bytes(old, new, list, n, from, to)
 }
 
-// The numbers that changed, in rising order; the entries past them stay.
-fn list_changed(old: &[u8], new: &[u8], list: &mut [u32])
+// The numbers that changed, in rising order; the entries past them stay. Answers how many they are.
+fn list_changed(old: &[u8], new: &[u8], list: &mut [u32]) -> usize
     requires { ⌜ ListRoom (now old) (now new) (now list) ⌝ }
+    ensures { λ r. ⌜ r ≡ length (changed (length (now (old .entry))) (now (old .entry)) (now (new .entry))) ⌝ }
     ensures { λ _. ⌜ now (list .exit) ≡ written (changed (length (now (old .entry))) (now (old .entry)) (now (new .entry))) (now (list .entry)) ⌝ }
 {
     let mut n = 0;
@@ -136,6 +140,7 @@ fn list_changed(old: &[u8], new: &[u8], list: &mut [u32])
         n = list_block(old, new, list, n, at, end);
         at = end;
     }
+    n
 }
 
 // A refusal answers its number, with zero lengths.
@@ -149,51 +154,84 @@ pub fn refuse(number: u32) -> Answer
     }
 }
 
-// The list gets the numbers that changed, and the table the new bytes.
-fn take_over(table: &mut [u8], list: &mut [u32], new: &[u8])
+// Whether so many entries are too few for the numbers that changed. As many as the table has never are, and nothing is counted then.
+fn is_short(old: &[u8], new: &[u8], room: usize) -> bool
+    requires { ⌜ length (now old) ≡ length (now new) ⌝ }
+    ensures { λ r. ⌜ r ≡ ltb room (length (changed (length (now (old .entry))) (now (old .entry)) (now (new .entry)))) ⌝ }
+{
+    if old.len() <= room {
+        return false;
+    }
+    room < count_changed(old, new)
+}
+
+// The same of the functions that relabelling from these cells will change. The labels are made in `made` only if they must be counted.
+fn is_short_for_labels(plan: Plan, cells: &[u8], functions: &[u8], room: usize, made: &mut [u8]) -> bool
+    requires { ⌜ MeshTable plan (now cells) ⌝ }
+    requires { ⌜ Rooms plan (now functions) (now made) ⌝ }
+    ensures { λ r. ⌜ r ≡ ltb room (length (changed (functionTotal plan) (now (functions .entry)) (labels plan (now (cells .entry))))) ⌝ }
+{
+    if functions.len() <= room {
+        return false;
+    }
+    labels::write_labels(plan, cells, made);
+    is_short(functions, made, room)
+}
+
+// The list gets the numbers that changed, and the table the new bytes. Answers how many changed.
+fn take_over(table: &mut [u8], list: &mut [u32], new: &[u8]) -> u32
     requires { ⌜ ListRoom (now table) (now new) (now list) ⌝ }
-    ensures { λ _. ⌜ Taken table list (now (new .entry)) ⌝ }
+    ensures { λ r. ⌜ Taken table list (now (new .entry)) r ⌝ }
 {
-    list_changed(table, new, list);
+    let n = list_changed(table, new, list);
     copy_bytes(table, new);
+    n as u32
 }
 
-// The last step, when the cells are settled: the functions and their list get what the cells and the old bytes say.
-fn relabel(plan: Plan, cells: &[u8], functions: &mut [u8], list: &mut [u32], new: &[u8])
-    requires { ⌜ now new ≡ labels plan (now cells) ⌝ }
-    requires { ⌜ ListRoom (now functions) (now new) (now list) ⌝ }
-    ensures { λ _. ⌜ Taken functions list (labels plan (now (cells .entry))) ⌝ }
-{
-    take_over(functions, list, new);
-}
-
-// The changes are counted before anything is written; then refusal 10, refusal 11, or first the cells and then the functions.
-pub fn settle(
+// The first step of a call (document 000, algorithm 1, lines 1 to 6), when the cells of the new mesh are known: 10 and 11, or the cells and
+// their list are written. The functions are only read, and of their list only its length counts.
+pub fn settle_cells(
     plan: Plan,
     cells: &mut [u8],
-    functions: &mut [u8],
+    functions: &[u8],
     cell_list: &mut [u32],
-    function_list: &mut [u32],
+    room: usize,
     new_cells: &[u8],
-    new_functions: &[u8],
+    made: &mut [u8],
 ) -> Answer
-    requires { ⌜ now «new_functions» ≡ labels plan (now «new_cells») ⌝ }
-    requires { ⌜ Sizes plan (now cells) (now functions) (now «new_cells») (now «new_functions») ⌝ }
-    ensures { λ r. ⌜ left r cells functions «cell_list» «function_list» ≡ settle plan (now (cells .entry)) (now (functions .entry)) (now («cell_list» .entry)) (now («function_list» .entry)) (now («new_cells» .entry)) (now («new_functions» .entry)) ⌝ }
+    requires { ⌜ length (now cells) ≡ cellTotal plan ⌝ }
+    requires { ⌜ MeshTable plan (now «new_cells») ⌝ }
+    requires { ⌜ Rooms plan (now functions) (now made) ⌝ }
+    ensures { λ r. ⌜ leftCells r cells «cell_list» ≡ settleCells plan (now (cells .entry)) (now (functions .entry)) (now («cell_list» .entry)) room (now («new_cells» .entry)) ⌝ }
 {
-    let cell_count = count_changed(cells, new_cells);
-    let function_count = count_changed(functions, new_functions);
-    if cell_list.len() < cell_count {
+    if is_short(cells, new_cells, cell_list.len()) {
         return refuse(10);
     }
-    if function_list.len() < function_count {
+    if is_short_for_labels(plan, new_cells, functions, room, made) {
         return refuse(11);
     }
-    take_over(cells, cell_list, new_cells);
-    relabel(plan, cells, functions, function_list, new_functions);
+    let count = take_over(cells, cell_list, new_cells);
     Answer {
         number: 0,
-        cells: cell_count as u32,
-        functions: function_count as u32,
+        cells: count,
+        functions: 0,
     }
+}
+
+// The second step (lines 7 to 12): the functions and their list get what the settled cells and the old function bytes say. The cells are
+// only read. Answers how many functions changed.
+pub fn relabel(
+    plan: Plan,
+    cells: &[u8],
+    functions: &mut [u8],
+    list: &mut [u32],
+    made: &mut [u8],
+) -> u32
+    requires { ⌜ MeshTable plan (now cells) ⌝ }
+    requires { ⌜ Rooms plan (now functions) (now made) ⌝ }
+    requires { ⌜ length (changed (functionTotal plan) (now functions) (labels plan (now cells))) ≤ length (now list) ⌝ }
+    ensures { λ r. ⌜ leftFunctions r functions list ≡ relabel plan (now (cells .entry)) (now (functions .entry)) (now (list .entry)) ⌝ }
+{
+    labels::write_labels(plan, cells, made);
+    take_over(functions, list, made)
 }

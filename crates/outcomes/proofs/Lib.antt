@@ -6,3 +6,4 @@ pub mod Results
 pub mod Undo
 pub mod UndoByCells
 pub mod UndoByFunctions
+pub mod Steps

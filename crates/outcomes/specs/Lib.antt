@@ -2,3 +2,4 @@ pub mod Calls
 pub mod Contracts
 pub mod Runs
 pub mod Demands
+pub mod Steps

@@ -48,7 +48,7 @@ returns : tie.Need-returns Inv-loop μ-loop
 returns c =
     let a = c .before .before .before .before .before .args in
     let e : c .before .loop .at ≡ length (a .old .now) = omega arith in
-    rw e at (c .before .loop .inv .3)
+    (rw e at (c .before .loop .inv .1), rw e at (c .before .loop .inv .3))
 
 pub list-changed-spec : {M : Type 1} → statement M
 list-changed-spec =

@@ -1,15 +1,27 @@
--- `relabel` meets its contract: the new bytes are the labels that the cells fix. Assumes nothing.
-use mathlib.Core.Path.{ap, _∙_}
-use mathlib.Core.List.{List}
-use Prim.Native.Nat.{ℕ}
+-- `relabel` meets its contract: what is taken over are the labels that the settled cells fix. Assumes nothing.
+use mathlib.Core.Path.{sym, ap, _∙_}
+use native.Mathlib.Omega.{arith}
 use lib.ListN.{length}
-use Rattle.outcomes.specs.Calls.{changed, written}
+use Rattle.mesh.proofs.Bridge.{length-labels}
+use Rattle.grid.proofs.Totals.{functions-bound}
+use Rattle.changes.proofs.Steps.{relabels}
 use borrow.Author.Needs.{needs}
 use Rattle.changes.proofs.relabel.Statement.{statement}
 use Rattle.changes.proofs.relabel.Tie as tie
 
+write-labels-requires : tie.Need-write-labels-requires
+write-labels-requires c κs = search needs
+
 take-over-requires : tie.Need-take-over-requires
-take-over-requires c κs = search needs
+take-over-requires c κs =
+    let s = c .before .before .before .before .before .before .before .before .before .before .before in
+    let e = c .before .before .before .before .before .write-labels .ensures in
+    let F = s .pre .1 .0 in
+    record {
+      same = F .functions-are ∙ sym (ap length e ∙ length-labels (s .args .plan) (s .args .cells .now));
+      small = omega (arith, F .functions-are, functions-bound (s .args .plan) (s .pre .0 .sized .range) (F .cells-small));
+      room = rw (e, F .functions-are) (s .pre .1 .1);
+    }
 
 same-length : tie.Need-same-length
 same-length c = search needs
@@ -17,15 +29,22 @@ same-length c = search needs
 same-length-2 : tie.Need-same-length-2
 same-length-2 c = search needs
 
+same-length-3 : tie.Need-same-length-3
+same-length-3 c = search needs
+
 returns : tie.Need-returns
 returns c =
-    let s = c .before .before .before .before .before .before .before .before .before .before .before in
-    let fs = s .args .functions .now in
+    let s = c .before .before .before .before .before .before .before .before .before .before .before .before .before .before .before .before in
     let t = c .before .before .before .before .take-over .ensures in
-    record {
-      bytes = t .bytes ∙ s .pre .0;
-      listed = t .listed ∙ ap (λ (n : List ℕ). written (changed (length fs) fs n) (s .args .list .now)) (s .pre .0);
-    }
+    relabels (s .args .plan) (s .args .cells .now) (s .args .functions .now) (s .args .list .now) (s .pre .1 .0 .functions-are) (c .before .before .before .before .before .before .before .before .before .before .write-labels .ensures) (t .count) (t .bytes) (t .listed)
 
 pub relabel-spec : {M : Type 1} → statement M
-relabel-spec = tie.close (tie.spec take-over-requires same-length same-length-2 returns)
+relabel-spec =
+    tie.close
+    (tie.spec
+    write-labels-requires
+    take-over-requires
+    same-length
+    same-length-2
+    same-length-3
+    returns)
