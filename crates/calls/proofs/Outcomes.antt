@@ -2,7 +2,7 @@
 use mathlib.Core.Path.{_≡_, sym, ap, _∙_, subst}
 use mathlib.Core.Logic.{_≢_}
 use mathlib.Core.List.{List}
-use Prim.Native.Nat.{ℕ}
+use Prim.Native.Nat.{ℕ, _≤_}
 use lib.Dec.{T}
 use lib.ListN.{length}
 use Rattle.facts.specs.Numbers.{elem, first}
@@ -10,18 +10,18 @@ use Rattle.facts.proofs.Tests.{T-true}
 use Rattle.facts.proofs.Numbers.{first-zero}
 use Rattle.grid.specs.declared.Plan.{Plan}
 use Rattle.grid.specs.Plan.{functionTotal}
-use Rattle.grid.proofs.Totals.{functions-bound}
 use Rattle.mesh.specs.Mesh.{isMesh, labels, check}
-use Rattle.mesh.proofs.Bridge.{Good, check-good, is-mesh, length-labels}
+use Rattle.mesh.proofs.Bridge.{Good, check-good, is-mesh}
 use Rattle.outcomes.specs.declared.Answer.{Answer}
-use Rattle.outcomes.specs.Calls.{Direction, By, markRefusal, refused, settle, newCells, outcome}
+use Rattle.outcomes.specs.Calls.{Direction, By, markRefusal, changed, refused, newCells, outcome}
+use Rattle.outcomes.specs.Steps.{Settled, Relabelled, settleCells, relabel, inSteps}
 use Rattle.outcomes.specs.Contracts.{outcomeOf}
 use Rattle.outcomes.proofs.Marks.{Fits, fits-e, refusal-mark, selected-may}
-use Rattle.outcomes.proofs.Results.{outcome-settled, outcome-check, outcome-mark, new-good}
+use Rattle.outcomes.proofs.Results.{outcome-check, outcome-mark, new-good}
+use Rattle.outcomes.proofs.Steps.{settled-cells, stopped, finished, call-in-steps}
 use Rattle.nesting.specs.Table.{MeshTable}
 use Rattle.closure.specs.Ready.{Ready}
 use Rattle.closure.proofs.Marked.{good-ready, flags-mean}
-use Rattle.changes.specs.Changes.{Sizes}
 use Rattle.calls.specs.Parts.{Flags, renewed, Applicable}
 
 -- ---- refused
@@ -70,21 +70,31 @@ module _ (d : Direction) (by : By) (p : Plan) (cs fs marks flags : List ℕ) (k 
     room-is = r;
   }
 
-  pub settled : (cl fl : List ℕ) → settle p cs fs cl fl (renewed d p cs flags) (labels p (renewed d p cs flags)) ≡ outcome d by p cs fs marks cl fl
-  settled cl fl = ap (λ u. settle p cs fs cl fl u (labels p u)) new-is ∙ sym (outcome-settled d by p cs fs marks cl fl (refusal-mark d by p cs fs marks k ∙ fine))
+  -- the two steps of the call, where s is what the first leaves
+  module _ (cl fl : List ℕ) {s : Settled} (e : s ≡ settleCells p cs fs cl (length fl) (renewed d p cs flags)) where
+    steps-are : inSteps p cs fs cl fl (renewed d p cs flags) ≡ outcome d by p cs fs marks cl fl
+    steps-are = ap (inSteps p cs fs cl fl) new-is ∙ sym (call-in-steps d by p cs fs marks cl fl (refusal-mark d by p cs fs marks k ∙ fine))
 
--- ---- the new tables
+    pub stops : s .answer .number ≢ 0 → outcomeOf (s .answer) (s .cells) fs (s .cellList) fl ≡ outcome d by p cs fs marks cl fl
+    stops n = ap (λ (u : Settled). outcomeOf (u .answer) (u .cells) fs (u .cellList) fl) e ∙ stopped p cs fs cl fl (renewed d p cs flags) (λ z. n (ap (λ (u : Settled). u .answer .number) e ∙ z)) ∙ steps-are
 
-module _ {d : Direction} {p : Plan} {cs fs flags room : List ℕ} (A : Applicable d p cs fs flags room) where
-  pub new-sizes : {new labelled : List ℕ} → new ≡ renewed d p cs flags → labelled ≡ labels p new → Sizes p cs fs new labelled
-  new-sizes {new} e f = record {
-    cells-are = A .ready .size;
-    functions-are = A .functions-are;
-    newCells-are = ap length e ∙ A .mesh .sized .size;
-    newFunctions-are = ap length f ∙ length-labels p new;
-    cells-small = A .ready .small;
-    functions-small = functions-bound p (A .ready .range) (A .ready .small);
-  }
+    module _ (zero : s .answer .number ≡ 0) where
+      settled : (s .cells ≡ renewed d p cs flags) × (length (changed (functionTotal p) fs (labels p (renewed d p cs flags))) ≤ length fl)
+      settled = subst (λ (u : Settled). (u .cells ≡ renewed d p cs flags) × (length (changed (functionTotal p) fs (labels p (renewed d p cs flags))) ≤ length fl)) (sym e)
+          (settled-cells p cs fs cl (length fl) (renewed d p cs flags) (ap (λ (u : Settled). u .answer .number) (sym e) ∙ zero))
+
+      pub settled-mesh : MeshTable p (s .cells)
+      settled-mesh = rw (settled .0) new-mesh
+
+      pub settled-room : length (changed (functionTotal p) fs (labels p (s .cells))) ≤ length fl
+      settled-room = rw (settled .0) (settled .1)
+
+      pub ends : {r : Relabelled} → r ≡ relabel p (s .cells) fs fl
+          → outcomeOf (record { number = 0; cells = s .answer .cells; functions = r .count }) (s .cells) (r .functions) (s .cellList) (r .functionList) ≡ outcome d by p cs fs marks cl fl
+      ends {r} f =
+          ap (λ (u : Settled). outcomeOf (record { number = 0; cells = u .answer .cells; functions = r .count }) (u .cells) (r .functions) (u .cellList) (r .functionList)) e
+          ∙ finished p cs fs cl fl (renewed d p cs flags) (ap (λ (u : Settled). u .answer .number) (sym e) ∙ zero) (f ∙ ap (λ (u : Settled). relabel p (u .cells) fs fl) e)
+          ∙ steps-are
 
 pub ready-are : {d : Direction} {p : Plan} {cs table flags : List ℕ} → table ≡ cs → Ready d p cs flags → Ready d p table flags
 ready-are a R = rw a R

@@ -227,7 +227,16 @@ pub fn change(
     }
     let direction = call.0;
     let room = function_list.len();
-    let settled = settle_mesh(direction, plan, cells, functions, cell_list, room, flags, values);
+    let settled = settle_mesh(
+        direction,
+        plan,
+        cells,
+        functions,
+        cell_list,
+        room,
+        flags,
+        values,
+    );
     if settled.number != 0 {
         return settled;
     }

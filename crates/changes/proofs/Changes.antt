@@ -100,4 +100,3 @@ module _ (old new list₀ : List ℕ) (from : ℕ) {list : List ℕ} (e : list �
 
   pub block-more : (to : ℕ) {list′ : List ℕ} → from ≤ to → list′ ≡ written (changed to old new) list → list′ ≡ written (changed to old new) list₀
   block-more to l d = d ∙ ap (written (changed to old new)) e ∙ over (changed from old new) (changed to old new) list₀ (changed-le old new from to l)
-

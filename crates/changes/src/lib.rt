@@ -166,7 +166,13 @@ fn is_short(old: &[u8], new: &[u8], room: usize) -> bool
 }
 
 // The same of the functions that relabelling from these cells will change. The labels are made in `made` only if they must be counted.
-fn is_short_for_labels(plan: Plan, cells: &[u8], functions: &[u8], room: usize, made: &mut [u8]) -> bool
+fn is_short_for_labels(
+    plan: Plan,
+    cells: &[u8],
+    functions: &[u8],
+    room: usize,
+    made: &mut [u8],
+) -> bool
     requires { ⌜ MeshTable plan (now cells) ⌝ }
     requires { ⌜ Rooms plan (now functions) (now made) ⌝ }
     ensures { λ r. ⌜ r ≡ ltb room (length (changed (functionTotal plan) (now (functions .entry)) (labels plan (now (cells .entry))))) ⌝ }

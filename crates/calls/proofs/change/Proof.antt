@@ -1,118 +1,144 @@
+-- `change` meets its contract: each refusal is the outcome's, and so are the settled mesh and the labels made of it. Assumes nothing.
+use mathlib.Core.Path.{_≡_, sym, ap, _∙_}
+use Prim.Native.Nat.{_≤_}
+use native.Mathlib.Omega.{arith}
+use lib.ListN.{length}
+use Rattle.facts.proofs.Zeros.{zeros, part-length}
+use Rattle.grid.specs.Bounds.{mostCells, mostFunctions}
+use Rattle.grid.specs.Plan.{functionTotal}
+use Rattle.grid.proofs.Totals.{functions-bound}
+use Rattle.mesh.specs.Mesh.{check}
+use Rattle.mesh.proofs.Bridge.{Passed, check-passed}
+use Rattle.calls.specs.Parts.{directionOf, byOf}
+use Rattle.calls.proofs.Outcomes.{check-refused, mark-refused, applicable, stops, settled-mesh, settled-room, ends}
 use borrow.Author.Needs.{needs}
 use Rattle.calls.proofs.change.Statement.{statement}
 use Rattle.calls.proofs.change.Tie as tie
-use Rattle.calls.proofs.change.Reads as reads
-use Rattle.calls.proofs.change.Lts as lts
-use Rattle.calls.proofs.flag_marks.Reads as flag-marks-reads
-use Rattle.calls.proofs.settle_mesh.Reads as settle-mesh-reads
-use Rattle.changes.proofs.refuse.Reads as refuse-reads
-use Rattle.changes.proofs.relabel.Reads as relabel-reads
-use Rattle.grid.proofs.Plan.cell_total.Reads as cell-total-reads
-use Rattle.grid.proofs.Plan.function_total.Reads as function-total-reads
 
--- src/lib.rt:216:9
 refuse-requires : tie.Need-refuse-requires
 refuse-requires c κs = search needs
 
--- src/lib.rt:216:9
 returns : tie.Need-returns
-returns c = ?
+returns c =
+    let s = c .before .before .before .before .before .before .before in
+    check-refused (directionOf (s .args .call .0)) (byOf (s .args .call .1)) _ _ _ _ _ _ _ _ (c .refuse .ensures) (c .before .if1 .taken) (s .pre)
 
--- src/lib.rt:218:17
+-- past the first test the tables pass check
+passes : (c : tie.Else1) → let a = c .before .before .before .before .before .before .args in check (a .plan) (a .cells .now) (a .functions .now) ≡ 0
+passes c = sym (c .before .before .before .before .before .before .pre) ∙ c .if1 .left
+
+passed : (c : tie.Else1) → let a = c .before .before .before .before .before .before .args in Passed (a .plan) (a .cells .now) (a .functions .now)
+passed c = check-passed _ _ _ (passes c)
+
+few : (c : tie.Else1) → functionTotal (c .before .before .before .before .before .before .args .plan) ≤ mostFunctions
+few c = functions-bound _ (passed c .range) (passed c .small)
+
 cell-total-requires : tie.Need-cell-total-requires
-cell-total-requires c κs = ?
+cell-total-requires c κs = passed c .range
 
--- src/lib.rt:218:17
 cast-total : tie.Need-cast-total
 cast-total c = search needs
 
--- src/lib.rt:219:17
 function-total-requires : tie.Need-function-total-requires
-function-total-requires c κs = ?
+function-total-requires c κs = passed (c .before) .range
 
--- src/lib.rt:219:17
 cast-count : tie.Need-cast-count
 cast-count c = search needs
 
--- src/lib.rt:222:17
 array-borrow-prefix-cell-room : tie.Need-array-borrow-prefix-cell-room
-array-borrow-prefix-cell-room c = ?
+array-borrow-prefix-cell-room c = omega (arith, passed (c .before .before) .small)
 
--- src/lib.rt:222:9
 slice-aggregate-flags : tie.Need-slice-aggregate-flags
-slice-aggregate-flags c = ?
+slice-aggregate-flags c = zeros mostCells (c .before .before .cell-total .result) (omega (arith, passed (c .before .before .before) .small))
 
--- src/lib.rt:223:18
 array-borrow-prefix-function-room : tie.Need-array-borrow-prefix-function-room
-array-borrow-prefix-function-room c = ?
+array-borrow-prefix-function-room c = omega (arith, few (c .before .before .before))
 
--- src/lib.rt:223:9
 slice-aggregate-values : tie.Need-slice-aggregate-values
-slice-aggregate-values c = ?
+slice-aggregate-values c = zeros mostFunctions (c .before .before .function-total .result) (omega (arith, few (c .before .before .before .before)))
 
--- src/lib.rt:224:9
 flag-marks-requires : tie.Need-flag-marks-requires
-flag-marks-requires c κs = ?
+flag-marks-requires c κs =
+    let k = c .before .before .before .before .before .before .before .before in (
+      passes k,
+      record {
+        flags-are = part-length mostCells _ (c .before .before .before .before .before .before .before .cell-total .ensures) (passed k .small);
+        values-are = part-length mostFunctions _ (c .before .before .before .before .before .before .function-total .ensures) (few k);
+      },
+    )
 
--- src/lib.rt:226:9
 refuse-requires-2 : tie.Need-refuse-requires-2
 refuse-requires-2 c κs = search needs
 
--- src/lib.rt:226:9
 same-length : tie.Need-same-length
 same-length c = search needs
 
--- src/lib.rt:226:9
 same-length-2 : tie.Need-same-length-2
 same-length-2 c = search needs
 
--- src/lib.rt:226:9
 returns-2 : tie.Need-returns-2
-returns-2 c = ?
+returns-2 c =
+    let a = c .before .before .before .before .before .before .before .before .before .before .before .before .before .before .before .before .before .before .before .before .before .before .before .args in
+    mark-refused (directionOf (a .call .0)) (byOf (a .call .1)) _ _ _ _ _ _ _ _ (c .refuse2 .ensures) (c .before .before .before .if2 .taken) (passes (c .before .before .before .before .before .before .before .before .before .before .before .before .before .before .before .before .before)) (c .before .before .before .before .before .before .before .before .flag-marks .ensures .number)
 
--- src/lib.rt:230:9
+-- the room for a byte of each function
+values-are : (c : tie.After-flag-marks) → length (c .flag-marks .last .1 .1 .1 .1 .1 .1 .0) ≡ functionTotal (c .before .before .before .before .before .before .before .before .before .before .before .before .before .before .before .args .plan)
+values-are c = c .flag-marks .kept .1 .1 .1 .1 .1 .1 .0 ∙ part-length mostFunctions _ (c .before .before .before .before .before .before .before .function-total .ensures) (few (c .before .before .before .before .before .before .before .before .before))
+
 settle-mesh-requires : tie.Need-settle-mesh-requires
-settle-mesh-requires c κs = ?
+settle-mesh-requires c κs =
+    let k = c .before .before .before .before .before .before .before .before .before .before .before .before .before .before .before .before .before .before .before in
+    let a = c .before .before .before .before .before .before .before .before .before .before .before .before .before .before .before .before .before .before .before .before .before .before .before .before .before .args in
+    let f = c .before .before .before .before .before .before .before .before .before .before .flag-marks in
+    applicable (directionOf (a .call .0)) (byOf (a .call .1)) (a .plan) _ _ _ _ (passes k) (f .ensures) (c .before .before .before .before .before .if2 .left) _ (passed k .functions) (values-are (c .before .before .before .before .before .before .before .before .before .before))
 
--- src/lib.rt:232:9
 same-length-3 : tie.Need-same-length-3
 same-length-3 c = search needs
 
--- src/lib.rt:232:9
 same-length-4 : tie.Need-same-length-4
 same-length-4 c = search needs
 
--- src/lib.rt:232:9
 same-length-5 : tie.Need-same-length-5
 same-length-5 c = search needs
 
--- src/lib.rt:232:9
 returns-3 : tie.Need-returns-3
-returns-3 c = ?
+returns-3 c =
+    let a = c .before .before .before .before .before .before .before .before .before .before .before .before .before .before .before .before .before .before .before .before .before .before .before .before .before .before .before .before .before .before .before .before .before .before .before .before .args in
+    let w = c .before .before .before .before .before .before .before .before .before .before .settle-mesh .ensures in
+    stops (directionOf (a .call .0)) (byOf (a .call .1)) (a .plan) _ _ _ _ (passes (c .before .before .before .before .before .before .before .before .before .before .before .before .before .before .before .before .before .before .before .before .before .before .before .before .before .before .before .before .before .before)) (c .before .before .before .before .before .before .before .before .before .before .before .before .before .before .before .before .before .before .before .before .before .flag-marks .ensures) (c .before .before .before .before .before .before .before .before .before .before .before .before .before .before .before .before .if2 .left) _ _ w (c .before .if3 .taken)
 
--- src/lib.rt:234:9
 relabel-requires : tie.Need-relabel-requires
-relabel-requires c κs = ?
+relabel-requires c κs =
+    let a = c .before .before .before .before .before .before .before .before .before .before .before .before .before .before .before .before .before .before .before .before .before .before .before .before .before .before .before .before .before .before .before .before .before .before .before .before .before .before .args in
+    let k = c .before .before .before .before .before .before .before .before .before .before .before .before .before .before .before .before .before .before .before .before .before .before .before .before .before .before .before .before .before .before .before .before in
+    let f = c .before .before .before .before .before .before .before .before .before .before .before .before .before .before .before .before .before .before .before .before .before .before .before .flag-marks in
+    let n = c .before .before .before .before .before .before .before .before .before .before .before .before .before .before .before .before .before .before .if2 .left in
+    let w = c .before .before .before .before .before .before .before .before .before .before .before .before .settle-mesh in
+    let z = c .before .before .before .if3 .left in (
+      settled-mesh (directionOf (a .call .0)) (byOf (a .call .1)) (a .plan) _ _ _ _ (passes k) (f .ensures) n (a .cell-list .now) (a .function-list .now) (w .ensures) z,
+      (
+        record { functions-are = passed k .functions; made-is = w .kept .1 .1 .1 .1 .1 .1 .1 .0 ∙ values-are (c .before .before .before .before .before .before .before .before .before .before .before .before .before .before .before .before .before .before .before .before .before .before .before); cells-small = passed k .small },
+        settled-room (directionOf (a .call .0)) (byOf (a .call .1)) (a .plan) _ _ _ _ (passes k) (f .ensures) n (a .cell-list .now) (a .function-list .now) (w .ensures) z,
+      ),
+    )
 
--- src/lib.rt:202:1
 same-length-6 : tie.Need-same-length-6
 same-length-6 c = search needs
 
--- src/lib.rt:202:1
 same-length-7 : tie.Need-same-length-7
 same-length-7 c = search needs
 
--- src/lib.rt:202:1
 same-length-8 : tie.Need-same-length-8
 same-length-8 c = search needs
 
--- src/lib.rt:202:1
 same-length-9 : tie.Need-same-length-9
 same-length-9 c = search needs
 
--- src/lib.rt:202:1
 returns-4 : tie.Need-returns-4
-returns-4 c = ?
+returns-4 c =
+    let a = c .before .before .before .before .before .before .before .before .before .before .before .before .before .before .before .before .before .before .before .before .before .before .before .before .before .before .before .before .before .before .before .before .before .before .before .before .before .before .before .before .before .before .before .before .args in
+    let w = c .before .before .before .before .before .before .before .before .before .before .before .before .before .before .before .before .before .before .settle-mesh .ensures in
+    ends (directionOf (a .call .0)) (byOf (a .call .1)) (a .plan) _ _ _ _ (passes (c .before .before .before .before .before .before .before .before .before .before .before .before .before .before .before .before .before .before .before .before .before .before .before .before .before .before .before .before .before .before .before .before .before .before .before .before .before .before)) (c .before .before .before .before .before .before .before .before .before .before .before .before .before .before .before .before .before .before .before .before .before .before .before .before .before .before .before .before .before .flag-marks .ensures) (c .before .before .before .before .before .before .before .before .before .before .before .before .before .before .before .before .before .before .before .before .before .before .before .before .if2 .left) _ _ w (c .before .before .before .before .before .before .before .before .before .if3 .left) (c .before .before .before .before .before .relabel .ensures)
 
 pub change-spec : {M : Type 1} → statement M
 change-spec =

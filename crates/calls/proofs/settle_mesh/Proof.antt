@@ -1,56 +1,62 @@
+-- `settle_mesh` meets its contract: what is settled are the cells of the new mesh. Assumes nothing.
+use mathlib.Core.Path.{_≡_, sym, ap, _∙_}
+use mathlib.Core.List.{List}
+use Prim.Native.Nat.{ℕ}
+use native.Mathlib.Omega.{arith}
+use Rattle.facts.proofs.Zeros.{zeros, part-length}
+use Rattle.grid.specs.Bounds.{mostCells}
+use Rattle.outcomes.specs.Steps.{settleCells}
+use Rattle.calls.specs.Parts.{directionOf, renewed}
+use Rattle.calls.proofs.Outcomes.{ready-are, mesh-are}
 use borrow.Author.Needs.{needs}
 use Rattle.calls.proofs.settle_mesh.Statement.{statement}
 use Rattle.calls.proofs.settle_mesh.Tie as tie
-use Rattle.calls.proofs.settle_mesh.Reads as reads
-use Rattle.calls.proofs.settle_mesh.Lts as lts
-use Rattle.calls.proofs.renew.Reads as renew-reads
-use Rattle.changes.proofs.copy_bytes.Reads as copy-bytes-reads
-use Rattle.changes.proofs.settle_cells.Reads as settle-cells-reads
-use Rattle.grid.proofs.Plan.cell_total.Reads as cell-total-reads
 
--- src/lib.rt:191:17
 cell-total-requires : tie.Need-cell-total-requires
 cell-total-requires c κs = search needs
 
--- src/lib.rt:191:17
 cast-total : tie.Need-cast-total
 cast-total c = search needs
 
--- src/lib.rt:193:21
 array-borrow-prefix-cell-room : tie.Need-array-borrow-prefix-cell-room
 array-borrow-prefix-cell-room c = search needs
 
--- src/lib.rt:193:9
 slice-aggregate-new-cells : tie.Need-slice-aggregate-new-cells
-slice-aggregate-new-cells c = ?
+slice-aggregate-new-cells c = zeros mostCells (c .before .cell-total .result) (omega (arith, c .before .before .before .before .before .before .before .pre .ready .small))
 
--- src/lib.rt:194:5
 copy-bytes-requires : tie.Need-copy-bytes-requires
-copy-bytes-requires c κs = ?
+copy-bytes-requires c κs =
+    let R = c .before .before .before .before .before .before .before .before .before .pre .ready in
+    part-length mostCells _ (c .before .before .before .cell-total .ensures) (R .small) ∙ sym (R .size)
 
--- src/lib.rt:195:5
 renew-requires : tie.Need-renew-requires
-renew-requires c κs = ?
+renew-requires c κs = ready-are (c .before .before .before .copy-bytes .ensures) (c .before .before .before .before .before .before .before .before .before .before .before .before .before .pre .ready)
 
--- src/lib.rt:196:5
+-- the new cells
+new : (c : tie.After-renew) → let a = c .before .before .before .before .before .before .before .before .before .before .before .before .before .before .args in c .renew .last .1 .1 .0 ≡ renewed (directionOf (a .direction)) (a .plan) (a .cells .now) (a .flags .now)
+new c =
+    let a = c .before .before .before .before .before .before .before .before .before .before .before .before .before .before .args in
+    c .renew .ensures ∙ ap (λ (u : List ℕ). renewed (directionOf (a .direction)) (a .plan) u (a .flags .now)) (c .before .before .before .before .copy-bytes .ensures)
+
 settle-cells-requires : tie.Need-settle-cells-requires
-settle-cells-requires c κs = ?
+settle-cells-requires c κs =
+    let A = c .before .before .before .before .before .before .before .before .before .before .before .before .before .before .before .before .before .before .before .before .pre in
+    (A .ready .size, (mesh-are (new (c .before .before .before .before .before .before)) (A .mesh), record { functions-are = A .functions-are; made-is = A .room-is; cells-small = A .ready .small }))
 
--- src/lib.rt:178:1
 same-length : tie.Need-same-length
 same-length c = search needs
 
--- src/lib.rt:178:1
 same-length-2 : tie.Need-same-length-2
 same-length-2 c = search needs
 
--- src/lib.rt:178:1
 same-length-3 : tie.Need-same-length-3
 same-length-3 c = search needs
 
--- src/lib.rt:178:1
 returns : tie.Need-returns
-returns c = ?
+returns c =
+    let a = c .before .before .before .before .before .before .before .before .before .before .before .before .before .before .before .before .before .before .before .before .before .before .before .before .before .before .before .before .args in
+    c .before .before .before .before .before .before .before .settle-cells .ensures
+    ∙ ap (settleCells (a .plan) (a .cells .now) (a .functions .now) (a .cell-list .now) (a .room)) (new (c .before .before .before .before .before .before .before .before .before .before .before .before .before .before))
 
 pub settle-mesh-spec : {M : Type 1} → statement M
 settle-mesh-spec =
