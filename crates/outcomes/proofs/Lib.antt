@@ -1,3 +1,4 @@
+pub mod Computed
 pub mod Examples
 pub mod Runs
 pub mod Sets
@@ -7,3 +8,4 @@ pub mod Undo
 pub mod UndoByCells
 pub mod UndoByFunctions
 pub mod Steps
+pub mod Printed

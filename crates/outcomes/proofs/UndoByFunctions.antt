@@ -1,15 +1,15 @@
 -- Demand 3 by functions: in class 0, every run of refinements by functions, from a mesh whose refined cells are covered by
 -- deactivated functions of their level, is undone by its own function lists. Assumes nothing.
-use mathlib.Core.Path.{_≡_, sym, ap, _∙_, subst}
-use mathlib.Core.Bool.{Bool, true, not, _&&_, _||_, Bool·beq}
+use mathlib.Core.Path.{_≡_, refl, sym, ap, _∙_, subst}
+use mathlib.Core.Bool.{Bool, true, false, not, _&&_, _||_, Bool·beq}
 use mathlib.Core.List.{List}
 use Prim.Native.Nat.{ℕ, zero, suc, _<_, _≤_}
 use native.Mathlib.Omega.{arith}
 use lib.Dec.{T, eqb, eqb→eq}
 use lib.ListN.{getD}
-use Rattle.facts.specs.Bounded.{implies, some}
+use Rattle.facts.specs.Bounded.{implies, some, every}
 use Rattle.facts.specs.Numbers.{elem}
-use Rattle.facts.proofs.Tests.{and-i, and-l, and-r, or-l, or-r, or-e, not-i, not-e, cases, same, T-true, implies-i, implies-e}
+use Rattle.facts.proofs.Tests.{and-i, and-l, and-r, or-l, or-r, or-e, not-i, not-e, cases, same, eqb-of, T-true, T-false, implies-i, implies-e}
 use Rattle.facts.proofs.Bounded.{some-i, some-e, every-i, every-e}
 use Rattle.facts.proofs.Numbers.{listed→, →listed}
 use Rattle.hierarchy.specs.Hierarchy.{Cells, closure}
@@ -34,22 +34,22 @@ module _ (p : Plan) (zero-class : p .class ≡ 0) (cs : List ℕ) (G : Good p cs
   ungraded : (X : Cells) → Admissible (hierarchy p) X
   ungraded X q c i s n = absurd (near-places p (G .range) q c n .graded zero-class)
 
-  closure-is : (X : Cells) (c : ℕ) → c < cellTotal p → closure (hierarchy p) X c ≡ X c
+  pub closure-is : (X : Cells) (c : ℕ) → c < cellTotal p → closure (hierarchy p) X c ≡ X c
   closure-is X c i = closure-same (hierarchy p) (lawful p (G .range)) X (ungraded X) c i
 
 -- ---- labels as facts
 
 module _ (p : Plan) (cs : List ℕ) (f : ℕ) (i : f < functionTotal p) where
-  label-e : T (deactivated (labels p cs) f) → (c : ℕ) → c < cellTotal p → T (supported p f c) → T (refined cs c)
+  pub label-e : T (deactivated (labels p cs) f) → (c : ℕ) → c < cellTotal p → T (supported p f c) → T (refined cs c)
   unfolding refined
   label-e t = deactivated-e p cs f (subst (λ n. T (eqb n 2)) (getD-labels p cs f i) t)
 
-  label-i : ((c : ℕ) → c < cellTotal p → T (supported p f c) → T (refined cs c)) → T (deactivated (labels p cs) f)
+  pub label-i : ((c : ℕ) → c < cellTotal p → T (supported p f c) → T (refined cs c)) → T (deactivated (labels p cs) f)
   unfolding refined
   label-i h = subst (λ n. T (eqb n 2)) (sym (getD-labels p cs f i)) (deactivated-i p cs f h)
 
   -- a function that is not deactivated has a cell that is not refined
-  not-label : (T (deactivated (labels p cs) f) → ⊥) → (c : ℕ) × (c < cellTotal p) × T (supported p f c) × (T (refined cs c) → ⊥)
+  pub not-label : (T (deactivated (labels p cs) f) → ⊥) → (c : ℕ) × (c < cellTotal p) × T (supported p f c) × (T (refined cs c) → ⊥)
   not-label n =
       let test : ℕ → Bool = λ c. supported p f c && not (refined cs c) in
       cases (some (cellTotal p) test)
@@ -58,7 +58,7 @@ module _ (p : Plan) (cs : List ℕ) (f : ℕ) (i : f < functionTotal p) where
       absurd (not-e (some (cellTotal p) test) t (some-i (cellTotal p) test c j (and-i (supported p f c) (not (refined cs c)) s r))))))))
 
   -- the cells of an active function are present
-  active-present : T (active (labels p cs) f) → (c : ℕ) → c < cellTotal p → T (supported p f c) → T (absent cs c) → ⊥
+  pub active-present : T (active (labels p cs) f) → (c : ℕ) → c < cellTotal p → T (supported p f c) → T (absent cs c) → ⊥
   unfolding active labelOf
   active-present t c j s a =
       let test : ℕ → Bool = λ c. supported p f c && absent cs c in
@@ -67,12 +67,21 @@ module _ (p : Plan) (cs : List ℕ) (f : ℕ) (i : f < functionTotal p) where
       let z : _≡_ {A = ℕ} 0 1 = rw e at o in
       omega arith
 
-  active-not : T (active (labels p cs) f) → T (deactivated (labels p cs) f) → ⊥
+  -- a function is active where none of its cells is absent and not all are refined
+  pub active-label : ((c : ℕ) → c < cellTotal p → T (supported p f c) → T (absent cs c) → ⊥) → (T (deactivated (labels p cs) f) → ⊥) → T (active (labels p cs) f)
+  unfolding active labelOf
+  active-label h n =
+      let test : ℕ → Bool = λ c. supported p f c && absent cs c in
+      let a : some (cellTotal p) test ≡ false = T-false (some (cellTotal p) test) (λ t. let (c, j, u) = some-e (cellTotal p) test t in h c j (and-l (supported p f c) _ u) (and-r (supported p f c) _ u)) in
+      let r : every (cellTotal p) (λ c. implies (supported p f c) (refined cs c)) ≡ false = T-false _ (λ t. n (label-i (λ c j s. implies-e (supported p f c) (refined cs c) (every-e (cellTotal p) (λ c. implies (supported p f c) (refined cs c)) t c j) s))) in
+      eqb-of _ _ (getD-labels p cs f i ∙ rw (a, r) refl)
+
+  pub active-not : T (active (labels p cs) f) → T (deactivated (labels p cs) f) → ⊥
   unfolding active refined
   active-not a r = omega (arith, eqb→eq (getD (labels p cs) f 0) 1 a, eqb→eq (getD (labels p cs) f 0) 2 r)
 
 -- a cell that is neither absent nor refined is active
-present-active : (p : Plan) (cs : List ℕ) → Good p cs → (c : ℕ) → c < cellTotal p → (T (absent cs c) → ⊥) → (T (refined cs c) → ⊥) → T (active cs c)
+pub present-active : (p : Plan) (cs : List ℕ) → Good p cs → (c : ℕ) → c < cellTotal p → (T (absent cs c) → ⊥) → (T (refined cs c) → ⊥) → T (active cs c)
 unfolding absent refined active
 present-active p cs G c i a r = go (getD cs c 0) (byte-at-most p cs G c i) a r
   where

@@ -3,3 +3,4 @@ pub mod Contracts
 pub mod Runs
 pub mod Demands
 pub mod Steps
+pub mod Printed

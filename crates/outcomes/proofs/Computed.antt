@@ -1,0 +1,98 @@
+-- The two steps of a call, and the sets of the printed algorithms, computed from their definitions on walls of document 01.
+-- Assumes nothing.
+use mathlib.Core.List.{List, [], _∷_}
+use mathlib.Core.Path.{_≡_, refl}
+use Prim.Native.Nat.{ℕ}
+use Rattle.facts.specs.Bounded.{some, every}
+use Rattle.facts.specs.Numbers.{elem, tabulate, listed}
+use Rattle.grid.specs.declared.Plan.{Plan}
+use Rattle.grid.specs.Numbering.{offset, number, levelOf, placeOn, place}
+use Rattle.grid.specs.Plan.{between, ratio, grown, above, below, parent, covers, supportedAt, supported, cellTotal, functionTotal, planOf}
+use Rattle.mesh.specs.Mesh.{absent, active, refined, tableOf, labelOf, labels}
+use Rattle.outcomes.specs.Calls.{changed, written, Outcome}
+use Rattle.outcomes.specs.Steps.{Settled, Relabelled, unsettled, settleCells, relabel, inSteps}
+use Rattle.outcomes.specs.Printed.{isNew, isActiveCell, isDeactivatedCell, isToDeactivate, isCandidate, isActiveFunction, isDeactivatedFunction}
+
+-- document 01's W0 and W2, by their class, and the cells of the wall in which just these are refined
+abbrev W : ℕ → Plan
+W m = planOf (3 ∷ 1 ∷ 3 ∷ 1 ∷ 1 ∷ m ∷ [])
+
+abbrev wall : List ℕ → List ℕ
+wall xs = tableOf (W 0) (λ c. elem c xs)
+
+abbrev labelled : List ℕ → List ℕ
+labelled xs = labels (W 0) (wall xs)
+
+-- what there is to see of each step: numbers, deactivated or refined ones, lists
+abbrev seenSettled : Settled → List (List ℕ)
+seenSettled s = (s .answer .number ∷ s .answer .cells ∷ s .answer .functions ∷ []) ∷ listed 63 (refined (s .cells)) ∷ s .cellList ∷ []
+
+abbrev seenRelabelled : Relabelled → List (List ℕ)
+seenRelabelled r = (r .count ∷ []) ∷ listed 94 (refined (r .functions)) ∷ r .functionList ∷ []
+
+abbrev seen : Outcome → List (List ℕ)
+seen o =
+    (o .answer .number ∷ o .answer .cells ∷ o .answer .functions ∷ []) ∷ listed 63 (refined (o .cells)) ∷ listed 94 (refined (o .functions)) ∷ o .cellList ∷ o .functionList ∷ []
+
+-- P7's second split, of 3: cells 1 and 3 become refined, functions 1, 5 and 8 deactivated
+pub relabelled :
+    -- from the settled cells; from the cells as they were nothing changes
+    seenRelabelled (relabel (W 2) (wall (0 ∷ 1 ∷ 3 ∷ [])) (labelled (0 ∷ [])) (7 ∷ 7 ∷ 7 ∷ 7 ∷ []))
+    ∷ seenRelabelled (relabel (W 2) (wall (0 ∷ [])) (labelled (0 ∷ [])) (7 ∷ 7 ∷ 7 ∷ 7 ∷ []))
+    ∷ []
+    ≡ ((3 ∷ []) ∷ (0 ∷ 1 ∷ 4 ∷ 5 ∷ 8 ∷ []) ∷ (1 ∷ 5 ∷ 8 ∷ 7 ∷ []) ∷ [])
+    ∷ ((0 ∷ []) ∷ (0 ∷ 4 ∷ []) ∷ (7 ∷ 7 ∷ 7 ∷ 7 ∷ []) ∷ [])
+    ∷ []
+unfolding some every elem tabulate listed offset number levelOf placeOn place between ratio grown above below parent covers supportedAt supported absent active refined tableOf labelOf labels changed written relabel
+relabelled = refl
+
+pub settled :
+    -- room for all, and one entry more in the cell list; a function list one entry short; a cell list one entry short, and then 10 comes first
+    seenSettled (settleCells (W 2) (wall (0 ∷ [])) (labelled (0 ∷ [])) (7 ∷ 7 ∷ 7 ∷ []) 3 (wall (0 ∷ 1 ∷ 3 ∷ [])))
+    ∷ seenSettled (settleCells (W 2) (wall (0 ∷ [])) (labelled (0 ∷ [])) (7 ∷ 7 ∷ 7 ∷ []) 2 (wall (0 ∷ 1 ∷ 3 ∷ [])))
+    ∷ seenSettled (settleCells (W 2) (wall (0 ∷ [])) (labelled (0 ∷ [])) (7 ∷ []) 2 (wall (0 ∷ 1 ∷ 3 ∷ [])))
+    ∷ []
+    ≡ ((0 ∷ 2 ∷ 0 ∷ []) ∷ (0 ∷ 1 ∷ 3 ∷ []) ∷ (1 ∷ 3 ∷ 7 ∷ []) ∷ [])
+    ∷ ((11 ∷ 0 ∷ 0 ∷ []) ∷ (0 ∷ []) ∷ (7 ∷ 7 ∷ 7 ∷ []) ∷ [])
+    ∷ ((10 ∷ 0 ∷ 0 ∷ []) ∷ (0 ∷ []) ∷ (7 ∷ []) ∷ [])
+    ∷ []
+unfolding some every elem tabulate listed offset number levelOf placeOn place between ratio grown above below parent covers supportedAt supported absent active refined tableOf labelOf labels changed written unsettled settleCells
+settled = refl
+
+pub both-steps :
+    seen (inSteps (W 2) (wall (0 ∷ [])) (labelled (0 ∷ [])) (7 ∷ 7 ∷ 7 ∷ []) (7 ∷ 7 ∷ 7 ∷ 7 ∷ []) (wall (0 ∷ 1 ∷ 3 ∷ [])))
+    ∷ seen (inSteps (W 2) (wall (0 ∷ [])) (labelled (0 ∷ [])) (7 ∷ 7 ∷ 7 ∷ []) (7 ∷ []) (wall (0 ∷ 1 ∷ 3 ∷ [])))
+    ∷ []
+    ≡ ((0 ∷ 2 ∷ 3 ∷ []) ∷ (0 ∷ 1 ∷ 3 ∷ []) ∷ (0 ∷ 1 ∷ 4 ∷ 5 ∷ 8 ∷ []) ∷ (1 ∷ 3 ∷ 7 ∷ []) ∷ (1 ∷ 5 ∷ 8 ∷ 7 ∷ []) ∷ [])
+    ∷ ((11 ∷ 0 ∷ 0 ∷ []) ∷ (0 ∷ []) ∷ (0 ∷ 4 ∷ []) ∷ (7 ∷ 7 ∷ 7 ∷ []) ∷ (7 ∷ []) ∷ [])
+    ∷ []
+unfolding some every elem tabulate listed offset number levelOf placeOn place between ratio grown above below parent covers supportedAt supported absent active refined tableOf labelOf labels changed written unsettled settleCells relabel inSteps
+both-steps = refl
+
+-- the printed sets of a refinement of the cells of ME, in the wall where `old` are refined, to that where `new` are: NE; the deactivated
+-- cells, and the active ones of levels 0 and 1; MF; F^C; the active functions of levels 0 and 1, and the deactivated ones
+abbrev setsOf : List ℕ → List ℕ → List ℕ → List (List ℕ)
+setsOf old ME new =
+    listed 63 (isNew (W 0) ME)
+    ∷ listed 63 (isDeactivatedCell (wall old) ME)
+    ∷ listed 15 (isActiveCell (W 0) (wall old) ME)
+    ∷ listed 94 (isToDeactivate (W 0) (wall new) (labelled old) ME)
+    ∷ listed 94 (isCandidate (W 0) (wall new) (labelled old) ME)
+    ∷ listed 29 (isActiveFunction (W 0) (wall new) (labelled old) ME)
+    ∷ listed 94 (isDeactivatedFunction (W 0) (wall new) (labelled old) ME)
+    ∷ []
+
+pub printed :
+    -- P1 W0 fresh, split 0: 0; 0 4. Functions newly active: 8 9 15 16 22 23
+    setsOf [] (0 ∷ []) (0 ∷ [])
+    -- P2 W0 fresh, split 1: 1; none. Newly active: 11 18 25
+    ∷ setsOf [] (1 ∷ []) (1 ∷ [])
+    -- P7 W2, split 0, then split 3: 1 3; 1 5 8. Function 0 stays deactivated, and its child 8 is not active
+    ∷ setsOf (0 ∷ []) (1 ∷ 3 ∷ []) (0 ∷ 1 ∷ 3 ∷ [])
+    ∷ []
+    ≡ ((3 ∷ 4 ∷ 9 ∷ 10 ∷ []) ∷ (0 ∷ []) ∷ (1 ∷ 2 ∷ 3 ∷ 4 ∷ 9 ∷ 10 ∷ []) ∷ (0 ∷ 4 ∷ []) ∷ (8 ∷ 9 ∷ 15 ∷ 16 ∷ 22 ∷ 23 ∷ []) ∷ (1 ∷ 2 ∷ 3 ∷ 5 ∷ 6 ∷ 7 ∷ 8 ∷ 9 ∷ 15 ∷ 16 ∷ 22 ∷ 23 ∷ []) ∷ (0 ∷ 4 ∷ []) ∷ [])
+    ∷ ((5 ∷ 6 ∷ 11 ∷ 12 ∷ []) ∷ (1 ∷ []) ∷ (0 ∷ 2 ∷ 5 ∷ 6 ∷ 11 ∷ 12 ∷ []) ∷ [] ∷ (11 ∷ 18 ∷ 25 ∷ []) ∷ (0 ∷ 1 ∷ 2 ∷ 3 ∷ 4 ∷ 5 ∷ 6 ∷ 7 ∷ 11 ∷ 18 ∷ 25 ∷ []) ∷ [] ∷ [])
+    ∷ ((5 ∷ 6 ∷ 11 ∷ 12 ∷ 15 ∷ 16 ∷ 27 ∷ 28 ∷ []) ∷ (0 ∷ 1 ∷ 3 ∷ []) ∷ (2 ∷ 4 ∷ 5 ∷ 6 ∷ 9 ∷ 10 ∷ 11 ∷ 12 ∷ []) ∷ (1 ∷ 5 ∷ 8 ∷ []) ∷ (10 ∷ 11 ∷ 17 ∷ 18 ∷ 24 ∷ 25 ∷ 29 ∷ 30 ∷ 42 ∷ 43 ∷ []) ∷ (2 ∷ 3 ∷ 6 ∷ 7 ∷ 9 ∷ 10 ∷ 11 ∷ 15 ∷ 16 ∷ 17 ∷ 18 ∷ 22 ∷ 23 ∷ 24 ∷ 25 ∷ []) ∷ (0 ∷ 1 ∷ 4 ∷ 5 ∷ 8 ∷ []) ∷ [])
+    ∷ []
+unfolding some every elem tabulate listed offset number levelOf placeOn place between ratio grown above below parent covers supportedAt supported absent active refined tableOf labelOf labels isNew isActiveCell isDeactivatedCell isToDeactivate isCandidate isActiveFunction isDeactivatedFunction
+printed = refl

@@ -1,0 +1,290 @@
+-- An accepted refinement does what algorithms 1 to 4 and 6 of document 000 print. Assumes nothing.
+use mathlib.Core.Path.{_≡_, refl, sym, ap, ap₂, _∙_, subst}
+use mathlib.Core.Bool.{Bool, true, false, not, _&&_, _||_, Bool·beq}
+use mathlib.Core.List.{List}
+use Prim.Native.Nat.{ℕ, suc, _≤_, _<_}
+use native.Mathlib.Omega.{arith}
+use lib.Dec.{T, eqb, eqb→eq}
+use lib.ListN.{length, getD, take}
+use Rattle.facts.specs.Bounded.{implies, some, every}
+use Rattle.facts.specs.Numbers.{elem}
+use Rattle.facts.proofs.Tests.{and-i, and-l, and-r, or-l, or-r, or-e, not-i, not-e, cases, same, positive, eqb-of, T-true, T-false, implies-i, implies-e}
+use Rattle.facts.proofs.Bounded.{some-i, some-e, every-i, every-e}
+use Rattle.hierarchy.specs.Hierarchy.{closure}
+use Rattle.hierarchy.proofs.Sets.{_∪_}
+use Rattle.hierarchy.proofs.Undo as undo
+use Rattle.grid.specs.declared.Plan.{Plan}
+use Rattle.grid.specs.Plan.{cellTotal, functionTotal, cellLevel, parent, supported, hierarchy}
+use Rattle.grid.proofs.Laws.{lawful, parent-lt}
+use Rattle.mesh.specs.Mesh.{absent, active, refined, deactivated, labelOf, labels}
+use Rattle.mesh.proofs.Bridge.{Good, check-good, getD-labels, rooted, present-of, active-is, apart-bytes, deactivated-grow, deactivated-is}
+use Rattle.outcomes.specs.Calls.{refine, By, selected, changed, Outcome, refused, newCells, outcome}
+use Rattle.outcomes.specs.Printed.{isNew, isActiveCell, isDeactivatedCell, isToDeactivate, isCandidate, isActiveFunction, isDeactivatedFunction, cellsOf, functionsOf, AsPrinted}
+use Rattle.outcomes.proofs.Sets.{differs}
+use Rattle.outcomes.proofs.Marks.{Fits, refusal-e}
+use Rattle.outcomes.proofs.Results.{may, new-good, new-refined, new-difference, accepted, Made, refusal-of, accepted-as, made, written-take}
+use Rattle.outcomes.proofs.Undo.{elem-changed}
+use Rattle.outcomes.proofs.UndoByFunctions.{closure-is, label-e, label-i, not-label, active-present, active-label, active-not, present-active}
+
+apart-absent : (cs : List ℕ) (c : ℕ) → T (absent cs c) → T (refined cs c) → ⊥
+unfolding absent refined
+apart-absent cs c a r = omega (arith, eqb→eq (getD cs c 0) 0 a, eqb→eq (getD cs c 0) 2 r)
+
+active-absent : (cs : List ℕ) (c : ℕ) → T (absent cs c) → T (active cs c) → ⊥
+unfolding absent active
+active-absent cs c a r = omega (arith, eqb→eq (getD cs c 0) 0 a, eqb→eq (getD cs c 0) 1 r)
+
+-- ---- a mesh cs, a refined mesh cs′, and the list ME of what was refined, all of it active before
+
+module _ (p : Plan) (cs cs′ ME : List ℕ) (G : Good p cs) (N : Good p cs′)
+    (keeps : (c : ℕ) → c < cellTotal p → T (refined cs c) → T (refined cs′ c))
+    (added : (c : ℕ) → c < cellTotal p → T (refined cs′ c) → (T (refined cs c) → ⊥) → T (active cs c))
+    (is : (c : ℕ) → c < cellTotal p → elem c ME ≡ refined cs′ c && not (refined cs c)) where
+  -- ---- cells
+
+  module _ (c : ℕ) (i : c < cellTotal p) where
+    me-e : T (elem c ME) → T (refined cs′ c) × (T (refined cs c) → ⊥)
+    me-e t = let u = subst T (is c i) t in (and-l (refined cs′ c) _ u, not-e (refined cs c) (and-r (refined cs′ c) _ u))
+
+    me-i : T (refined cs′ c) → (T (refined cs c) → ⊥) → T (elem c ME)
+    me-i r n = subst T (sym (is c i)) (and-i (refined cs′ c) _ r (not-i (refined cs c) n))
+
+    old-e : (T (absent cs c) → ⊥) → T (rooted p (refined cs) c)
+    old-e a = subst T (present-of p cs G c i) (not-i (absent cs c) a)
+
+    old-i : T (rooted p (refined cs) c) → T (absent cs c) → ⊥
+    old-i t = not-e (absent cs c) (subst T (sym (present-of p cs G c i)) t)
+
+    new-e : (T (absent cs′ c) → ⊥) → T (rooted p (refined cs′) c)
+    new-e a = subst T (present-of p cs′ N c i) (not-i (absent cs′ c) a)
+
+    new-i : T (rooted p (refined cs′) c) → T (absent cs′ c) → ⊥
+    new-i t = not-e (absent cs′ c) (subst T (sym (present-of p cs′ N c i)) t)
+
+    -- what was present is present
+    stays : (T (absent cs c) → ⊥) → T (absent cs′ c) → ⊥
+    stays a = new-i (cases (eqb (cellLevel p c) 0)
+        (λ z. or-l (eqb (cellLevel p c) 0) _ z)
+        (λ z. or-r (eqb (cellLevel p c) 0) _ (or-e (eqb (cellLevel p c) 0) (refined cs (parent p c)) (old-e a)
+        (λ y. absurd (not-e (eqb (cellLevel p c) 0) z y))
+        (keeps (parent p c) (parent-lt p (G .range) c i (positive (cellLevel p c) z))))))
+
+    -- a child of a cell that was refined was absent, and is active
+    born : T (isNew p ME c) → T (absent cs c) × T (active cs′ c)
+    unfolding isNew
+    born t =
+        let z = and-l (not (eqb (cellLevel p c) 0)) _ t in
+        let l = positive (cellLevel p c) z in
+        let j = parent-lt p (G .range) c i l in
+        let u = subst T (is (parent p c) j) (and-r (not (eqb (cellLevel p c) 0)) _ t) in
+        let n = not-e (refined cs (parent p c)) (and-r (refined cs′ (parent p c)) _ u) in
+        let a : (T (absent cs c) → ⊥) → ⊥ = λ h. or-e (eqb (cellLevel p c) 0) (refined cs (parent p c)) (old-e h) (not-e (eqb (cellLevel p c) 0) z) n in
+        let gone : T (absent cs c) = cases (absent cs c) (λ h. h) (λ h. absurd (a (not-e (absent cs c) h))) in (
+          gone,
+          present-active p cs′ N c i (new-i (or-r (eqb (cellLevel p c) 0) _ (and-l (refined cs′ (parent p c)) _ u)))
+              (λ r. active-absent cs c gone (added c i r (apart-absent cs c gone))),
+        )
+
+    -- and what appears is such a child
+    born-i : T (absent cs c) → (T (absent cs′ c) → ⊥) → T (isNew p ME c)
+    unfolding isNew
+    born-i a b =
+        let z : T (eqb (cellLevel p c) 0) → ⊥ = λ y. old-i (or-l (eqb (cellLevel p c) 0) _ y) a in
+        let y = not-i (eqb (cellLevel p c) 0) z in
+        let j = parent-lt p (G .range) c i (positive (cellLevel p c) y) in
+        let r = or-e (eqb (cellLevel p c) 0) (refined cs′ (parent p c)) (new-e b) (λ y. absurd (z y)) (λ u. u) in
+        and-i (not (eqb (cellLevel p c) 0)) _ y
+        (subst T (sym (is (parent p c) j)) (and-i (refined cs′ (parent p c)) _ r (not-i (refined cs (parent p c)) (λ s. old-i (or-r (eqb (cellLevel p c) 0) _ s) a))))
+
+    pub deactivated-cell : refined cs′ c ≡ isDeactivatedCell cs ME c
+    unfolding isDeactivatedCell
+    deactivated-cell = same _ _
+        (λ r. cases (refined cs c) (or-l (refined cs c) _) (λ n. or-r (refined cs c) _ (me-i r (not-e (refined cs c) n))))
+        (λ t. or-e (refined cs c) (elem c ME) t (keeps c i) (λ u. me-e u .0))
+
+    pub active-cell : active cs′ c ≡ isActiveCell p cs ME c
+    unfolding isActiveCell
+    active-cell = same _ _
+        (λ a. and-i (active cs c || isNew p ME c) _
+        (cases (absent cs c)
+        (λ h. or-r (active cs c) _ (born-i h (λ b. active-absent cs′ c b a)))
+        (λ h. or-l (active cs c) _ (present-active p cs G c i (not-e (absent cs c) h) (λ r. apart-bytes p cs′ N c a (keeps c i r)))))
+        (not-i (elem c ME) (λ u. apart-bytes p cs′ N c a (me-e u .0))))
+        (λ t. let n = not-e (elem c ME) (and-r (active cs c || isNew p ME c) _ t) in
+        or-e (active cs c) (isNew p ME c) (and-l (active cs c || isNew p ME c) _ t)
+        (λ a. present-active p cs′ N c i (stays (λ h. active-absent cs c h a)) (λ r. n (me-i r (apart-bytes p cs G c a))))
+        (λ u. born u .1))
+
+  -- ---- functions
+
+  module _ (f : ℕ) (j : f < functionTotal p) where
+    abbrev fs : List ℕ
+    fs = labels p cs
+
+    abbrev fs′ : List ℕ
+    fs′ = labels p cs′
+
+    falls : T (deactivated fs f) → T (deactivated fs′ f)
+    falls = deactivated-grow p cs cs′ keeps f j
+
+    abbrev over : ℕ → Bool
+    over c = supported p f c && elem c ME
+
+    abbrev alive : ℕ → Bool
+    alive c = supported p f c && active cs′ c
+
+    -- MF: what becomes deactivated
+    pub falls-i : T (deactivated fs′ f) → (T (deactivated fs f) → ⊥) → T (isToDeactivate p cs′ fs ME f)
+    unfolding isToDeactivate
+    falls-i d n =
+        let all = label-e p cs′ f j d in
+        let (c, i, s, r) = not-label p cs f j n in
+        and-i (some (cellTotal p) over) _ (some-i (cellTotal p) over c i (and-i (supported p f c) _ s (me-i c i (all c i s) r)))
+        (and-i (active fs f) _
+        (active-label p cs f j (λ c i s a. active-absent cs c a (added c i (all c i s) (apart-absent cs c a))) n)
+        (not-i (some (cellTotal p) alive) (λ t. let (c, i, u) = some-e (cellTotal p) alive t in
+        apart-bytes p cs′ N c (and-r (supported p f c) _ u) (all c i (and-l (supported p f c) _ u)))))
+
+    pub falls-e : T (isToDeactivate p cs′ fs ME f) → T (deactivated fs′ f) × (T (deactivated fs f) → ⊥)
+    unfolding isToDeactivate
+    falls-e t =
+        let u = and-r (some (cellTotal p) over) _ t in
+        let a = and-l (active fs f) _ u in
+        let none = not-e (some (cellTotal p) alive) (and-r (active fs f) _ u) in (
+          label-i p cs′ f j (λ c i s. cases (refined cs′ c) (λ r. r) (λ r.
+              absurd (none (some-i (cellTotal p) alive c i (and-i (supported p f c) _ s
+              (present-active p cs′ N c i (stays c i (active-present p cs f j a c i s)) (not-e (refined cs′ c) r))))))),
+          active-not p cs f j a,
+        )
+
+    pub deactivated-function : deactivated fs′ f ≡ isDeactivatedFunction p cs′ fs ME f
+    unfolding isDeactivatedFunction
+    deactivated-function = same _ _
+        (λ d. cases (deactivated fs f) (or-l (deactivated fs f) _) (λ n. or-r (deactivated fs f) _ (falls-i d (not-e (deactivated fs f) n))))
+        (λ t. or-e (deactivated fs f) (isToDeactivate p cs′ fs ME f) t falls (λ u. falls-e u .0))
+
+    abbrev gone : ℕ → Bool
+    gone c = supported p f c && absent cs c
+
+    abbrev near : ℕ → Bool
+    near c = supported p f c && isNew p ME c
+
+    abbrev whole : ℕ → Bool
+    whole c = implies (supported p f c) (active cs′ c || refined cs′ c)
+
+    -- F^C: what was passive and is active
+    rises : T (active fs′ f) → (T (active fs f) → ⊥) → T (isCandidate p cs′ fs ME f)
+    unfolding isCandidate
+    rises a n =
+        let new = active-present p cs′ f j a in
+        and-i (some (cellTotal p) near) _
+        (cases (some (cellTotal p) gone)
+        (λ t. let (c, i, u) = some-e (cellTotal p) gone t in
+        let s = and-l (supported p f c) _ u in
+        some-i (cellTotal p) near c i (and-i (supported p f c) _ s (born-i c i (and-r (supported p f c) _ u) (new c i s))))
+        (λ t. absurd (n (active-label p cs f j
+        (λ c i s h. not-e (some (cellTotal p) gone) t (some-i (cellTotal p) gone c i (and-i (supported p f c) _ s h)))
+        (λ d. active-not p cs′ f j a (falls d))))))
+        (and-i (not (active fs f)) _ (not-i (active fs f) n)
+        (every-i (cellTotal p) whole (λ c i. implies-i (supported p f c) _ (λ s. cases (refined cs′ c)
+        (or-r (active cs′ c) (refined cs′ c))
+        (λ r. or-l (active cs′ c) _ (present-active p cs′ N c i (new c i s) (not-e (refined cs′ c) r)))))))
+
+    rises-e : T (isCandidate p cs′ fs ME f) → T (active fs′ f)
+    unfolding isCandidate
+    rises-e t =
+        let (c, i, u) = some-e (cellTotal p) near (and-l (some (cellTotal p) near) _ t) in
+        let w = and-r (not (active fs f)) _ (and-r (some (cellTotal p) near) _ t) in
+        active-label p cs′ f j
+        (λ c i s h. or-e (active cs′ c) (refined cs′ c) (implies-e (supported p f c) _ (every-e (cellTotal p) whole w c i) s) (active-absent cs′ c h) (apart-absent cs′ c h))
+        (λ d. apart-bytes p cs′ N c (born c i (and-r (supported p f c) _ u) .1) (label-e p cs′ f j d c i (and-l (supported p f c) _ u)))
+
+    pub active-function : active fs′ f ≡ isActiveFunction p cs′ fs ME f
+    unfolding isActiveFunction
+    active-function = same _ _
+        (λ a. and-i (active fs f || isCandidate p cs′ fs ME f) _
+        (cases (active fs f) (or-l (active fs f) _) (λ n. or-r (active fs f) _ (rises a (not-e (active fs f) n))))
+        (not-i (isToDeactivate p cs′ fs ME f) (λ u. active-not p cs′ f j a (falls-e u .0))))
+        (λ t. let n = not-e (isToDeactivate p cs′ fs ME f) (and-r (active fs f || isCandidate p cs′ fs ME f) _ t) in
+        or-e (active fs f) (isCandidate p cs′ fs ME f) (and-l (active fs f || isCandidate p cs′ fs ME f) _ t)
+        (λ a. active-label p cs′ f j (λ c i s. stays c i (active-present p cs f j a c i s)) (λ d. n (falls-i d (active-not p cs f j a))))
+        rises-e)
+
+    pub to-deactivate : elem f (changed (functionTotal p) fs fs′) ≡ isToDeactivate p cs′ fs ME f
+    to-deactivate = elem-changed (functionTotal p) fs fs′ f j ∙ differs (deactivated fs f) (deactivated fs′ f) falls
+        ∙ same _ _
+        (λ t. falls-i (and-l (deactivated fs′ f) _ t) (not-e (deactivated fs f) (and-r (deactivated fs′ f) _ t)))
+        (λ u. and-i (deactivated fs′ f) _ (falls-e u .0) (not-i (deactivated fs f) (falls-e u .1)))
+
+-- ---- an accepted refinement
+
+module _ (by : By) (p : Plan) (cs fs marks : List ℕ) (G : Good p cs) (fit : (x : ℕ) → T (elem x marks) → Fits refine by p cs fs x) where
+  abbrev M : ℕ → Bool
+  M = selected refine by p cs fs marks
+
+  abbrev cs₁ : List ℕ
+  cs₁ = newCells refine by p cs fs marks
+
+  refined-is : (c : ℕ) → refined cs₁ c ≡ closure (hierarchy p) (refined cs ∪ M) c
+  refined-is c = ap (λ X. X c) (new-refined refine by p cs fs marks G fit)
+
+  keeps-refined : (c : ℕ) → c < cellTotal p → T (refined cs c) → T (refined cs₁ c)
+  keeps-refined c i r = subst T (sym (refined-is c)) (undo.refine-keeps (hierarchy p) (lawful p (G .range)) (refined cs) M (G .admissible) (G .mesh) (may refine by p cs fs marks G fit) c i r)
+
+  added-active : (c : ℕ) → c < cellTotal p → T (refined cs₁ c) → (T (refined cs c) → ⊥) → T (active cs c)
+  added-active c i r n = subst T (sym (active-is p cs G c i))
+      (undo.refine-added (hierarchy p) (lawful p (G .range)) (refined cs) M (G .admissible) (G .mesh) (may refine by p cs fs marks G fit) c i
+      (and-i (closure (hierarchy p) (refined cs ∪ M) c) _ (subst T (refined-is c) r) (not-i (refined cs c) n)) .0)
+
+  listed-is : (c : ℕ) → c < cellTotal p → elem c (changed (cellTotal p) cs cs₁) ≡ refined cs₁ c && not (refined cs c)
+  listed-is c i = elem-changed (cellTotal p) cs cs₁ c i ∙ differs (refined cs c) (refined cs₁ c) (keeps-refined c i)
+
+  marked-bits : (s m : Bool) → (T m → T s → ⊥) → (s || m) && not s ≡ m
+  marked-bits true true h = absurd (h tt tt)
+  marked-bits true false h = refl
+  marked-bits false true h = refl
+  marked-bits false false h = refl
+
+  marked-is : p .class ≡ 0 → (c : ℕ) → c < cellTotal p → elem c (changed (cellTotal p) cs cs₁) ≡ M c
+  marked-is z c i =
+      listed-is c i ∙ ap (λ b. b && not (refined cs c)) (refined-is c ∙ closure-is p z cs G (refined cs ∪ M) c i)
+      ∙ marked-bits (refined cs c) (M c) (λ m. apart-bytes p cs G c (subst T (sym (active-is p cs G c i)) (may refine by p cs fs marks G fit c i m .0)))
+
+  abbrev ME : List ℕ
+  ME = changed (cellTotal p) cs cs₁
+
+  module _ (o : Outcome) (labelled : fs ≡ labels p cs) (ec : o .cells ≡ cs₁) (ef : o .functions ≡ labels p cs₁)
+      (lc : cellsOf o ≡ ME) (lf : functionsOf o ≡ changed (functionTotal p) fs (labels p cs₁)) where
+    N : Good p cs₁
+    N = new-good refine by p cs fs marks G fit
+
+    -- from the labels of the old cells to the old functions, and to what the outcome holds
+    told : (test : List ℕ → List ℕ → List ℕ → Bool) → test cs₁ (labels p cs) ME ≡ test (o .cells) fs (cellsOf o)
+    told test = ap (λ v. test cs₁ v ME) (sym labelled) ∙ ap₂ (λ u m. test u fs m) (sym ec) (sym lc)
+
+    printed : AsPrinted by p cs fs marks o
+    printed = record {
+      marked = λ z c i. ap (elem c) lc ∙ marked-is z c i;
+      activeCells = λ c i. ap (λ u. active u c) ec ∙ active-cell p cs cs₁ ME G N keeps-refined added-active listed-is c i ∙ told (λ u v m. isActiveCell p cs m c);
+      deactivatedCells = λ c i. ap (λ u. refined u c) ec ∙ deactivated-cell p cs cs₁ ME G N keeps-refined added-active listed-is c i ∙ told (λ u v m. isDeactivatedCell cs m c);
+      toDeactivate = λ f i.
+          ap (elem f) (lf ∙ ap (λ v. changed (functionTotal p) v (labels p cs₁)) labelled)
+          ∙ to-deactivate p cs cs₁ ME G N keeps-refined added-active listed-is f i ∙ told (λ u v m. isToDeactivate p u v m f);
+      activeFunctions = λ f i. ap (λ u. active u f) ef ∙ active-function p cs cs₁ ME G N keeps-refined added-active listed-is f i ∙ told (λ u v m. isActiveFunction p u v m f);
+      deactivatedFunctions = λ f i. ap (λ u. deactivated u f) ef ∙ deactivated-function p cs cs₁ ME G N keeps-refined added-active listed-is f i ∙ told (λ u v m. isDeactivatedFunction p u v m f);
+    }
+
+module _ (by : By) (p : Plan) (cs fs marks cl fl : List ℕ) where
+  made-printed : (o : Outcome) → Made refine by p cs fs marks cl fl o → o .answer .number ≡ 0 → AsPrinted by p cs fs marks o
+  unfolding accepted refused
+  made-printed o (refusal-of n e) z = absurd (let k : suc n ≡ 0 = ap (λ o. o .answer .number) (sym e) ∙ z in omega arith)
+  made-printed o (accepted-as cs′ fs′ ec ef r a b e) z =
+      let (k, fit) = refusal-e refine by p cs fs marks r in
+      let (G, l) = check-good p cs fs k in
+      let n : fs′ ≡ labels p (newCells refine by p cs fs marks) = ef ∙ ap (labels p) ec in
+      printed by p cs fs marks G fit o l (ap (λ o. o .cells) e ∙ ec) (ap (λ o. o .functions) e ∙ n)
+      (ap cellsOf e ∙ written-take (changed (cellTotal p) cs cs′) cl ∙ ap (changed (cellTotal p) cs) ec)
+      (ap functionsOf e ∙ written-take (changed (functionTotal p) fs fs′) fl ∙ ap (changed (functionTotal p) fs) n)
+
+  pub call-as-printed : outcome refine by p cs fs marks cl fl .answer .number ≡ 0 → AsPrinted by p cs fs marks (outcome refine by p cs fs marks cl fl)
+  call-as-printed = made-printed (outcome refine by p cs fs marks cl fl) (made refine by p cs fs marks cl fl)
