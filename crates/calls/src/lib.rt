@@ -227,7 +227,7 @@ pub fn change(
     }
     let direction = call.0;
     let room = function_list.len();
-    let settled = settle_mesh(
+    let mesh = settle_mesh(
         direction,
         plan,
         cells,
@@ -237,13 +237,13 @@ pub fn change(
         flags,
         values,
     );
-    if settled.number != 0 {
-        return settled;
+    if mesh.number != 0 {
+        return mesh;
     }
-    let count = changes::relabel(plan, cells, functions, function_list, values);
+    let relabelled = changes::relabel(plan, cells, functions, function_list, values);
     Answer {
         number: 0,
-        cells: settled.cells,
-        functions: count,
+        cells: mesh.cells,
+        functions: relabelled,
     }
 }

@@ -9,7 +9,7 @@ ghost use Rattle.grid.specs.Plan.{cellTotal, functionTotal};
 ghost use Rattle.mesh.specs.Mesh.{labels};
 ghost use Rattle.nesting.specs.Table.{MeshTable};
 ghost use Rattle.outcomes.specs.Calls.{changed, written};
-ghost use Rattle.outcomes.specs.Steps.{settleCells, relabel};
+ghost use Rattle.outcomes.specs.Steps.{roomRefusal, settleCells, relabel};
 ghost use Rattle.outcomes.specs.Contracts.{leftCells, leftFunctions};
 ghost use Rattle.changes.specs.Changes.{Block, ListRoom, ListedTo, Rooms, Taken};
 use grid::Plan;
@@ -162,7 +162,8 @@ fn is_short(old: &[u8], new: &[u8], room: usize) -> bool
     if old.len() <= room {
         return false;
     }
-    room < count_changed(old, new)
+    let count = count_changed(old, new);
+    room < count
 }
 
 // The same of the functions that relabelling from these cells will change. The labels are made in `made` only if they must be counted.
@@ -182,6 +183,30 @@ fn is_short_for_labels(
     }
     labels::write_labels(plan, cells, made);
     is_short(functions, made, room)
+}
+
+// Refusals 10 and 11, or 0: the cells and the functions are only read.
+fn room_refusal(
+    plan: Plan,
+    cells: &[u8],
+    functions: &[u8],
+    cell_room: usize,
+    function_room: usize,
+    new_cells: &[u8],
+    made: &mut [u8],
+) -> u32
+    requires { ⌜ length (now cells) ≡ cellTotal plan ⌝ }
+    requires { ⌜ MeshTable plan (now «new_cells») ⌝ }
+    requires { ⌜ Rooms plan (now functions) (now made) ⌝ }
+    ensures { λ r. ⌜ r ≡ roomRefusal plan (now (cells .entry)) (now (functions .entry)) «cell_room» «function_room» (now («new_cells» .entry)) ⌝ }
+{
+    if is_short(cells, new_cells, cell_room) {
+        return 10;
+    }
+    if is_short_for_labels(plan, new_cells, functions, function_room, made) {
+        return 11;
+    }
+    0
 }
 
 // The list gets the numbers that changed, and the table the new bytes. Answers how many changed.
@@ -210,11 +235,17 @@ pub fn settle_cells(
     requires { ⌜ Rooms plan (now functions) (now made) ⌝ }
     ensures { λ r. ⌜ leftCells r cells «cell_list» ≡ settleCells plan (now (cells .entry)) (now (functions .entry)) (now («cell_list» .entry)) room (now («new_cells» .entry)) ⌝ }
 {
-    if is_short(cells, new_cells, cell_list.len()) {
-        return refuse(10);
-    }
-    if is_short_for_labels(plan, new_cells, functions, room, made) {
-        return refuse(11);
+    let number = room_refusal(
+        plan,
+        cells,
+        functions,
+        cell_list.len(),
+        room,
+        new_cells,
+        made,
+    );
+    if number != 0 {
+        return refuse(number);
     }
     let count = take_over(cells, cell_list, new_cells);
     Answer {
@@ -231,13 +262,13 @@ pub fn relabel(
     cells: &[u8],
     functions: &mut [u8],
     list: &mut [u32],
-    made: &mut [u8],
+    new_functions: &mut [u8],
 ) -> u32
     requires { ⌜ MeshTable plan (now cells) ⌝ }
-    requires { ⌜ Rooms plan (now functions) (now made) ⌝ }
+    requires { ⌜ Rooms plan (now functions) (now «new_functions») ⌝ }
     requires { ⌜ length (changed (functionTotal plan) (now functions) (labels plan (now cells))) ≤ length (now list) ⌝ }
     ensures { λ r. ⌜ leftFunctions r functions list ≡ relabel plan (now (cells .entry)) (now (functions .entry)) (now (list .entry)) ⌝ }
 {
-    labels::write_labels(plan, cells, made);
-    take_over(functions, list, made)
+    labels::write_labels(plan, cells, new_functions);
+    take_over(functions, list, new_functions)
 }

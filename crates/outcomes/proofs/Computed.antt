@@ -10,8 +10,38 @@ use Rattle.grid.specs.Numbering.{offset, number, levelOf, placeOn, place}
 use Rattle.grid.specs.Plan.{between, ratio, grown, above, below, parent, covers, supportedAt, supported, cellTotal, functionTotal, planOf}
 use Rattle.mesh.specs.Mesh.{absent, active, refined, tableOf, labelOf, labels}
 use Rattle.outcomes.specs.Calls.{changed, written, Outcome}
-use Rattle.outcomes.specs.Steps.{Settled, Relabelled, unsettled, settleCells, relabel, inSteps}
+use Rattle.outcomes.specs.Steps.{Settled, Relabelled, roomRefusal, settleCells, relabel, inSteps}
 use Rattle.outcomes.specs.Printed.{isNew, isActiveCell, isDeactivatedCell, isToDeactivate, isCandidate, isActiveFunction, isDeactivatedFunction}
+
+-- ---- both steps, on two cells of two levels: cell 0 is split, and functions 0 and 3 are those over it alone
+
+abbrev S : Plan
+S = planOf (2 ∷ 1 ∷ 2 ∷ 1 ∷ 1 ∷ 0 ∷ [])
+
+abbrev small : List ℕ → List ℕ
+small xs = tableOf S (λ c. elem c xs)
+
+abbrev seen : Outcome → List (List ℕ)
+seen o =
+    (o .answer .number ∷ o .answer .cells ∷ o .answer .functions ∷ [])
+    ∷ listed 10 (refined (o .cells))
+    ∷ listed 21 (refined (o .functions))
+    ∷ o .cellList
+    ∷ o .functionList
+    ∷ []
+
+pub both-steps :
+    seen (inSteps S (small []) (labels S (small [])) (7 ∷ 7 ∷ []) (7 ∷ 7 ∷ 7 ∷ []) (small (0 ∷ [])))
+    -- a function list one entry short
+    ∷ seen (inSteps S (small []) (labels S (small [])) (7 ∷ 7 ∷ []) (7 ∷ []) (small (0 ∷ [])))
+    ∷ []
+    ≡ ((0 ∷ 1 ∷ 2 ∷ []) ∷ (0 ∷ []) ∷ (0 ∷ 3 ∷ []) ∷ (0 ∷ 7 ∷ []) ∷ (0 ∷ 3 ∷ 7 ∷ []) ∷ [])
+    ∷ ((11 ∷ 0 ∷ 0 ∷ []) ∷ [] ∷ [] ∷ (7 ∷ 7 ∷ []) ∷ (7 ∷ []) ∷ [])
+    ∷ []
+unfolding some every elem tabulate listed offset number levelOf placeOn place between ratio grown above below parent covers supportedAt supported absent active refined tableOf labelOf labels changed written roomRefusal settleCells relabel inSteps
+both-steps = refl
+
+-- ---- each step, on P7's second split, of 3: cells 1 and 3 become refined, functions 1, 5 and 8 deactivated
 
 -- document 01's W0 and W2, by their class, and the cells of the wall in which just these are refined
 abbrev W : ℕ → Plan
@@ -30,11 +60,6 @@ seenSettled s = (s .answer .number ∷ s .answer .cells ∷ s .answer .functions
 abbrev seenRelabelled : Relabelled → List (List ℕ)
 seenRelabelled r = (r .count ∷ []) ∷ listed 94 (refined (r .functions)) ∷ r .functionList ∷ []
 
-abbrev seen : Outcome → List (List ℕ)
-seen o =
-    (o .answer .number ∷ o .answer .cells ∷ o .answer .functions ∷ []) ∷ listed 63 (refined (o .cells)) ∷ listed 94 (refined (o .functions)) ∷ o .cellList ∷ o .functionList ∷ []
-
--- P7's second split, of 3: cells 1 and 3 become refined, functions 1, 5 and 8 deactivated
 pub relabelled :
     -- from the settled cells; from the cells as they were nothing changes
     seenRelabelled (relabel (W 2) (wall (0 ∷ 1 ∷ 3 ∷ [])) (labelled (0 ∷ [])) (7 ∷ 7 ∷ 7 ∷ 7 ∷ []))
@@ -56,20 +81,12 @@ pub settled :
     ∷ ((11 ∷ 0 ∷ 0 ∷ []) ∷ (0 ∷ []) ∷ (7 ∷ 7 ∷ 7 ∷ []) ∷ [])
     ∷ ((10 ∷ 0 ∷ 0 ∷ []) ∷ (0 ∷ []) ∷ (7 ∷ []) ∷ [])
     ∷ []
-unfolding some every elem tabulate listed offset number levelOf placeOn place between ratio grown above below parent covers supportedAt supported absent active refined tableOf labelOf labels changed written unsettled settleCells
+unfolding some every elem tabulate listed offset number levelOf placeOn place between ratio grown above below parent covers supportedAt supported absent active refined tableOf labelOf labels changed written roomRefusal settleCells
 settled = refl
 
-pub both-steps :
-    seen (inSteps (W 2) (wall (0 ∷ [])) (labelled (0 ∷ [])) (7 ∷ 7 ∷ 7 ∷ []) (7 ∷ 7 ∷ 7 ∷ 7 ∷ []) (wall (0 ∷ 1 ∷ 3 ∷ [])))
-    ∷ seen (inSteps (W 2) (wall (0 ∷ [])) (labelled (0 ∷ [])) (7 ∷ 7 ∷ 7 ∷ []) (7 ∷ []) (wall (0 ∷ 1 ∷ 3 ∷ [])))
-    ∷ []
-    ≡ ((0 ∷ 2 ∷ 3 ∷ []) ∷ (0 ∷ 1 ∷ 3 ∷ []) ∷ (0 ∷ 1 ∷ 4 ∷ 5 ∷ 8 ∷ []) ∷ (1 ∷ 3 ∷ 7 ∷ []) ∷ (1 ∷ 5 ∷ 8 ∷ 7 ∷ []) ∷ [])
-    ∷ ((11 ∷ 0 ∷ 0 ∷ []) ∷ (0 ∷ []) ∷ (0 ∷ 4 ∷ []) ∷ (7 ∷ 7 ∷ 7 ∷ []) ∷ (7 ∷ []) ∷ [])
-    ∷ []
-unfolding some every elem tabulate listed offset number levelOf placeOn place between ratio grown above below parent covers supportedAt supported absent active refined tableOf labelOf labels changed written unsettled settleCells relabel inSteps
-both-steps = refl
+-- ---- the printed sets
 
--- the printed sets of a refinement of the cells of ME, in the wall where `old` are refined, to that where `new` are: NE; the deactivated
+-- of a refinement of the cells of ME, in the wall where `old` are refined, to that where `new` are: NE; the deactivated
 -- cells, and the active ones of levels 0 and 1; MF; F^C; the active functions of levels 0 and 1, and the deactivated ones
 abbrev setsOf : List ℕ → List ℕ → List ℕ → List (List ℕ)
 setsOf old ME new =

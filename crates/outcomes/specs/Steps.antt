@@ -20,18 +20,22 @@ pub record Settled : Type 0 where
   pub cells : List ℕ
   pub cellList : List ℕ
 
--- a refusal, with zero lengths: cells and list keep their bytes
-unfoldable pub unsettled : ℕ → List ℕ → List ℕ → Settled
-unsettled n cs cl = record { answer = record { number = n; cells = 0; functions = 0 }; cells = cs; cellList = cl }
+-- 10: the cell list is too short; 11: the function list is. cs′ are the cells of the refined (or coarsened) mesh, `cellRoom` and
+-- `functionRoom` the lengths of the lent lists; for 11 the functions that the second step will change are counted
+unfoldable pub roomRefusal : Plan → List ℕ → List ℕ → ℕ → ℕ → List ℕ → ℕ
+roomRefusal p cs fs cellRoom functionRoom cs′ =
+    cond (ltb cellRoom (length (changed (cellTotal p) cs cs′))) 10
+    (cond (ltb functionRoom (length (changed (functionTotal p) fs (labels p cs′)))) 11 0)
 
--- cs′ are the cells of the refined (or coarsened) mesh, `room` the length of the lent function list. 10 and 11 are decided here, before
--- anything is written; for 11 the functions that the second step will change are counted
+-- a refusal answers its number, with zero lengths; cells and list keep their bytes. Else the cells are those of the new mesh, and the list
+-- has those that changed
 unfoldable pub settleCells : Plan → List ℕ → List ℕ → List ℕ → ℕ → List ℕ → Settled
-settleCells p cs fs cl room cs′ =
+settleCells p cs fs cl functionRoom cs′ =
+    let n = roomRefusal p cs fs (length cl) functionRoom cs′ in
     let dc = changed (cellTotal p) cs cs′ in
-    cond (ltb (length cl) (length dc)) (unsettled 10 cs cl)
-    (cond (ltb room (length (changed (functionTotal p) fs (labels p cs′)))) (unsettled 11 cs cl)
-    (record { answer = record { number = 0; cells = length dc; functions = 0 }; cells = cs′; cellList = written dc cl }))
+    cond (eqb n 0)
+    (record { answer = record { number = 0; cells = length dc; functions = 0 }; cells = cs′; cellList = written dc cl })
+    (record { answer = record { number = n; cells = 0; functions = 0 }; cells = cs; cellList = cl })
 
 -- ---- lines 7 to 12: the functions are relabelled
 
@@ -62,3 +66,7 @@ inSteps p cs fs cl fl cs′ =
       functionList = r .functionList;
     })
     (record { answer = s .answer; cells = s .cells; functions = fs; cellList = s .cellList; functionList = fl })
+
+-- what an outcome has of the second step
+abbrev pub relabelledBy : Outcome → Relabelled
+relabelledBy o = record { count = o .answer .functions; functions = o .functions; functionList = o .functionList }

@@ -14,6 +14,8 @@ use Rattle.mesh.proofs.Bridge.{check-good, is-mesh}
 use Rattle.mesh.proofs.Fresh.{opened-checked}
 use Rattle.outcomes.specs.Calls.{Direction, By, outcome}
 use Rattle.outcomes.proofs.Results.{call-accepted, call-refused}
+use Rattle.outcomes.proofs.Steps.{call-in-steps, call-relabelled}
+use Rattle.outcomes.proofs.Printed.{call-as-printed}
 use Rattle.outcomes.proofs.UndoByCells.{undone-by-cells}
 use Rattle.outcomes.proofs.UndoByFunctions.{undone-by-functions}
 use Rattle.basis.specs.Basis.{Published}
@@ -43,6 +45,9 @@ main = record {
   publishedCall = call-published;
   undoneByCells = undone-by-cells;
   undoneByFunctions = undone-by-functions;
+  inTwoSteps = call-in-steps;
+  relabelledCall = call-relabelled;
+  printedCall = call-as-printed;
   area = count-area;
   opened = opened-checked;
   fewLevels = λ p cs fs checked classed. few-levels p cs fs checked (omega (arith, classed));

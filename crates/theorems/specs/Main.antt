@@ -12,7 +12,9 @@ use Rattle.facts.specs.Numbers.{elem}
 use Rattle.grid.specs.declared.Plan.{Plan}
 use Rattle.grid.specs.Plan.{functionTotal}
 use Rattle.mesh.specs.Mesh.{check, openMesh, count}
-use Rattle.outcomes.specs.Calls.{Direction, By, cells, functions, Outcome, refused, outcome}
+use Rattle.outcomes.specs.Calls.{Direction, refine, By, cells, functions, Outcome, refused, newCells, refusal, outcome}
+use Rattle.outcomes.specs.Steps.{relabel, inSteps, relabelledBy}
+use Rattle.outcomes.specs.Printed.{AsPrinted}
 use Rattle.outcomes.specs.Demands.{Accepted, Refused}
 use Rattle.outcomes.specs.Runs.{Tables, LentLists, Call, log, backwards, LongEnough, Undone, covered, RefinesByFunctions}
 use Rattle.basis.specs.Basis.{Published}
@@ -66,6 +68,17 @@ pub record Main : Type 0 where
   pub undoneByFunctions : (p : Plan) → p .class ≡ 0 → (t : Tables) (run : List Call) (rooms : List LentLists)
       → check p (t .cells) (t .functions) ≡ 0 → T (covered p (t .cells) (t .functions)) → RefinesByFunctions run
       → LongEnough (backwards (log p t run)) rooms → Undone functions p t run rooms
+  -- Document 02, Req 04: "settles the whole mesh first and relabels functions afterwards". A call that 1 to 9 do not refuse is these two
+  -- steps, one behind the other
+  pub inTwoSteps : (d : Direction) (by : By) (p : Plan) (cs fs marks cl fl : List ℕ) → refusal d by p cs fs marks ≡ 0
+      → outcome d by p cs fs marks cl fl ≡ inSteps p cs fs cl fl (newCells d by p cs fs marks)
+  -- Req 04: "what the functions and their list get follows from the settled cells and the old function bytes alone"
+  pub relabelledCall : (d : Direction) (by : By) (p : Plan) (cs fs marks cl fl : List ℕ) → outcome d by p cs fs marks cl fl .answer .number ≡ 0
+      → relabelledBy (outcome d by p cs fs marks cl fl) ≡ relabel p (outcome d by p cs fs marks cl fl .cells) fs fl
+  -- Req 04: "Our shapers read along with document 000": the cells and functions of an accepted refinement are those that its algorithms
+  -- 1 to 4 and 6 print, its cell list the cells, and its function list the functions, that they deactivate
+  pub printedCall : (by : By) (p : Plan) (cs fs marks cl fl : List ℕ) → outcome refine by p cs fs marks cl fl .answer .number ≡ 0
+      → AsPrinted by p cs fs marks (outcome refine by p cs fs marks cl fl)
   -- Document 01: "The area of a wall is A·B·4^(L-1)": what count answers wherever it is not refused
   pub area : (p : Plan) (cs fs : List ℕ) → count p cs fs .number ≡ 0 → count p cs fs .area ≡ p .columns * p .rows * 4 ^ (p .levels - 1)
   -- Demand 3 begins with a "wall that check passes": one that was opened is such a wall, for every plan that open does not refuse

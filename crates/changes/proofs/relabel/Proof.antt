@@ -1,8 +1,11 @@
 -- `relabel` meets its contract: what is taken over are the labels that the settled cells fix. Assumes nothing.
-use mathlib.Core.Path.{sym, ap, _∙_}
+use mathlib.Core.Path.{sym, subst}
+use mathlib.Core.List.{List}
+use Prim.Native.Nat.{ℕ, _≤_}
 use native.Mathlib.Omega.{arith}
 use lib.ListN.{length}
-use Rattle.mesh.proofs.Bridge.{length-labels}
+use Rattle.mesh.specs.Mesh.{labels}
+use Rattle.outcomes.specs.Calls.{changed}
 use Rattle.grid.proofs.Totals.{functions-bound}
 use Rattle.changes.proofs.Steps.{relabels}
 use borrow.Author.Needs.{needs}
@@ -15,12 +18,14 @@ write-labels-requires c κs = search needs
 take-over-requires : tie.Need-take-over-requires
 take-over-requires c κs =
     let s = c .before .before .before .before .before .before .before .before .before .before .before in
-    let e = c .before .before .before .before .before .write-labels .ensures in
+    let w = c .before .before .before .before .before .write-labels in
     let F = s .pre .1 .0 in
+    let fs = s .args .functions .now in
+    let r : length (changed (length fs) fs (labels (s .args .plan) (s .args .cells .now))) ≤ length (s .args .list .now) = rw (F .functions-are) (s .pre .1 .1) in
     record {
-      same = F .functions-are ∙ sym (ap length e ∙ length-labels (s .args .plan) (s .args .cells .now));
+      same = search needs;
       small = omega (arith, F .functions-are, functions-bound (s .args .plan) (s .pre .0 .sized .range) (F .cells-small));
-      room = rw (e, F .functions-are) (s .pre .1 .1);
+      room = subst (λ (u : List ℕ). length (changed (length fs) fs u) ≤ length (s .args .list .now)) (sym (w .ensures)) r;
     }
 
 same-length : tie.Need-same-length
