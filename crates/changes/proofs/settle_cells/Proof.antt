@@ -1,5 +1,6 @@
 -- `settle_cells` meets its contract: where no list is too short, the cells take over the new bytes. Assumes nothing.
 use mathlib.Core.Path.{_≡_, sym, _∙_}
+use mathlib.Core.Logic.{_≢_}
 use native.Mathlib.Omega.{arith}
 use Rattle.changes.proofs.Steps.{stops, cell-room, ends}
 use borrow.Author.Needs.{needs}
@@ -19,7 +20,9 @@ same-length-2 : tie.Need-same-length-2
 same-length-2 c = search needs
 
 returns : tie.Need-returns
-returns c = stops _ _ _ _ _ _ (c .before .before .before .before .room-refusal .ensures) (c .before .if1 .taken) (c .refuse .ensures)
+returns c =
+    let n : c .before .before .before .before .room-refusal .result ≢ 0 = λ z. absurd (omega (arith, z, c .before .if1 .taken)) in
+    stops _ _ _ _ _ _ (c .before .before .before .before .room-refusal .ensures) n (c .refuse .ensures)
 
 take-over-requires : tie.Need-take-over-requires
 take-over-requires c κs =

@@ -1,0 +1,222 @@
+/*
+ * The order in which a call writes, watched by the machine: in an accepted call no cell byte and no
+ * entry of the cell list is written after the first function byte, and a refused call writes not a
+ * byte. Tables and lists lie on pages of their own. While a call runs, the functions and their list
+ * may only be read; at its first write to them they are opened, and the cells and their list are
+ * shut. The output is to be that of order.expected.
+ */
+#ifndef _GNU_SOURCE
+#define _GNU_SOURCE
+#endif
+#include <signal.h>
+#include <stdio.h>
+#include <string.h>
+#include <sys/mman.h>
+#include <unistd.h>
+
+#include "wallmirror.h"
+
+#define MARKS 6
+#define CALLS 150 /* for each plan */
+
+typedef WallmirrorAnswer (*Call)(WallmirrorPlan, uint8_t *, size_t, uint8_t *, size_t,
+                                 const uint32_t *, size_t, uint32_t *, size_t, uint32_t *, size_t);
+
+static const Call calls[] = {wallmirror_refine_cells, wallmirror_refine_functions,
+                             wallmirror_coarsen_cells, wallmirror_coarsen_functions};
+
+/* both tables and both lists; a list has an entry for each number of its table */
+struct lent {
+    uint8_t *cells, *functions;
+    uint32_t *cell_list, *function_list;
+};
+
+static uint8_t cells[WALLMIRROR_MAX_CELLS], functions[WALLMIRROR_MAX_FUNCTIONS];
+static uint32_t cell_list[WALLMIRROR_MAX_CELLS], function_list[WALLMIRROR_MAX_FUNCTIONS];
+static struct lent watched;                   /* on pages of their own */
+static size_t cell_pages, function_pages;     /* bytes of one table's pages, and of its list's */
+static size_t cell_entries, function_entries; /* T, F */
+static volatile sig_atomic_t opened, late;
+static unsigned long accepted, refused, tens, elevens, wrong;
+
+/* the same numbers on every machine */
+static uint32_t random_below(uint32_t n)
+{
+    static uint32_t state = 20261116;
+    state = state * 1664525u + 1013904223u;
+    return (state >> 8) % n;
+}
+
+/* A table and its list are one mapping: the table's pages, then four times as many for the list. */
+static uint8_t *pages(size_t bytes)
+{
+    void *at = mmap(NULL, 5 * bytes, PROT_READ | PROT_WRITE, MAP_PRIVATE | MAP_ANONYMOUS, -1, 0);
+    return at == MAP_FAILED ? NULL : (uint8_t *)at;
+}
+
+static void allow_cells(int access)
+{
+    if (mprotect(watched.cells, 5 * cell_pages, access) != 0)
+        _exit(3);
+}
+
+static void allow_functions(int access)
+{
+    if (mprotect(watched.functions, 5 * function_pages, access) != 0)
+        _exit(3);
+}
+
+/* A write to what may only be read. */
+static void on_write(int number, siginfo_t *info, void *context)
+{
+    uint8_t *at = (uint8_t *)info->si_addr;
+    (void)number;
+    (void)context;
+    if (at >= watched.functions && at < watched.functions + 5 * function_pages) {
+        opened = opened + 1;
+        allow_functions(PROT_READ | PROT_WRITE);
+        allow_cells(PROT_READ);
+    } else if (at >= watched.cells && at < watched.cells + 5 * cell_pages) {
+        late = late + 1;
+        allow_cells(PROT_READ | PROT_WRITE);
+    } else {
+        _exit(4);
+    }
+}
+
+static WallmirrorAnswer run(Call call, WallmirrorPlan plan, const struct lent *lent,
+                            const uint32_t *marks, size_t n, size_t cell_room, size_t function_room)
+{
+    return call(plan, lent->cells, cell_entries, lent->functions, function_entries, marks, n,
+                lent->cell_list, cell_room, lent->function_list, function_room);
+}
+
+/* Runs a call that is to be refused with the number, where nothing may be written. */
+static void try_refused(Call call, WallmirrorPlan plan, const uint32_t *marks, size_t n,
+                        size_t cell_room, size_t function_room, uint32_t number)
+{
+    WallmirrorAnswer answer;
+    opened = late = 0;
+    allow_cells(PROT_READ);
+    allow_functions(PROT_READ);
+    answer = run(call, plan, &watched, marks, n, cell_room, function_room);
+    if (answer.number != number || answer.cells != 0 || answer.functions != 0 || opened || late)
+        wrong++;
+    refused++;
+    tens += number == WALLMIRROR_CELL_LIST_TOO_SHORT;
+    elevens += number == WALLMIRROR_FUNCTION_LIST_TOO_SHORT;
+    allow_cells(PROT_READ | PROT_WRITE);
+    allow_functions(PROT_READ | PROT_WRITE);
+}
+
+/* Runs a call that is to be accepted, and watches where it writes. */
+static void try_accepted(Call call, WallmirrorPlan plan, const uint32_t *marks, size_t n,
+                         size_t cell_room, size_t function_room)
+{
+    WallmirrorAnswer answer;
+    opened = late = 0;
+    allow_functions(PROT_READ);
+    answer = run(call, plan, &watched, marks, n, cell_room, function_room);
+    allow_cells(PROT_READ | PROT_WRITE);
+    allow_functions(PROT_READ | PROT_WRITE);
+    if (answer.number != WALLMIRROR_ACCEPTED || opened != 1 || late != 0 ||
+        memcmp(cells, watched.cells, cell_entries) != 0 ||
+        memcmp(functions, watched.functions, function_entries) != 0 ||
+        memcmp(cell_list, watched.cell_list, answer.cells * sizeof *cell_list) != 0 ||
+        memcmp(function_list, watched.function_list, answer.functions * sizeof *cell_list) != 0)
+        wrong++;
+    accepted++;
+}
+
+/* Numbers of the table with the byte, or now and then any number. */
+static size_t choose(const uint8_t *table, size_t entries, uint8_t byte, uint32_t *marks)
+{
+    size_t n = random_below(MARKS + 1), i, tries;
+    for (i = 0; i < n; i++) {
+        marks[i] = random_below((uint32_t)entries);
+        for (tries = 0; tries < 400 && table[marks[i]] != byte; tries++)
+            marks[i] = random_below((uint32_t)entries);
+    }
+    return n;
+}
+
+/* One call on plain copies, to know what it answers; then watched, with lists that are too short
+ * and with lists that are just long enough, or as long as the tables. */
+static void step(WallmirrorPlan plan)
+{
+    struct lent copies;
+    uint32_t marks[MARKS];
+    unsigned kind = (unsigned)random_below(4);
+    Call call = calls[kind];
+    uint8_t byte = kind < 2 ? 1 : 2;
+    size_t n = kind % 2 == 0 ? choose(watched.cells, cell_entries, byte, marks)
+                             : choose(watched.functions, function_entries, byte, marks);
+    WallmirrorAnswer answer;
+    int whole = random_below(2) == 0;
+    copies.cells = cells;
+    copies.functions = functions;
+    copies.cell_list = cell_list;
+    copies.function_list = function_list;
+    memcpy(cells, watched.cells, cell_entries);
+    memcpy(functions, watched.functions, function_entries);
+    answer = run(call, plan, &copies, marks, n, cell_entries, function_entries);
+    if (answer.number != WALLMIRROR_ACCEPTED) {
+        try_refused(call, plan, marks, n, cell_entries, function_entries, answer.number);
+        return;
+    }
+    if (answer.cells > 0)
+        try_refused(call, plan, marks, n, answer.cells - 1, function_entries,
+                    WALLMIRROR_CELL_LIST_TOO_SHORT);
+    if (answer.functions > 0)
+        try_refused(call, plan, marks, n, answer.cells, answer.functions - 1,
+                    WALLMIRROR_FUNCTION_LIST_TOO_SHORT);
+    try_accepted(call, plan, marks, n, whole ? cell_entries : answer.cells,
+                 whole ? function_entries : answer.functions);
+}
+
+static int season(WallmirrorPlan plan)
+{
+    size_t page = (size_t)sysconf(_SC_PAGESIZE), i;
+    cell_entries = wallmirror_cells_len(plan);
+    function_entries = wallmirror_functions_len(plan);
+    cell_pages = (cell_entries + page - 1) / page * page;
+    function_pages = (function_entries + page - 1) / page * page;
+    watched.cells = pages(cell_pages);
+    watched.functions = pages(function_pages);
+    if (!watched.cells || !watched.functions)
+        return 0;
+    watched.cell_list = (uint32_t *)(void *)(watched.cells + cell_pages);
+    watched.function_list = (uint32_t *)(void *)(watched.functions + function_pages);
+    if (wallmirror_open(plan, watched.cells, cell_entries, watched.functions, function_entries))
+        return 0;
+    for (i = 0; i < CALLS; i++)
+        step(plan);
+    munmap(watched.cells, 5 * cell_pages);
+    munmap(watched.functions, 5 * function_pages);
+    return 1;
+}
+
+int main(void)
+{
+    static const WallmirrorPlan plans[] = {{3, 1, 3, 1, 1, 0}, {2, 3, 4, 2, 1, 2}, {4, 4, 5, 3, 3, 3}};
+    struct sigaction action;
+    size_t i;
+    memset(&action, 0, sizeof action);
+    action.sa_sigaction = on_write;
+    action.sa_flags = SA_SIGINFO;
+    sigemptyset(&action.sa_mask);
+    if (sigaction(SIGSEGV, &action, NULL) != 0 || sigaction(SIGBUS, &action, NULL) != 0)
+        return 2;
+    for (i = 0; i < sizeof plans / sizeof *plans; i++) {
+        if (!season(plans[i])) {
+            fprintf(stderr, "order: no tables for plan %lu\n", (unsigned long)i);
+            return 2;
+        }
+    }
+    printf("%lu calls accepted, each with its cells settled before the first function byte\n",
+           accepted);
+    printf("%lu calls refused, %lu with 10 and %lu with 11, and not a byte written\n", refused,
+           tens, elevens);
+    printf("%lu wrong\n", wrong);
+    return wrong != 0;
+}
