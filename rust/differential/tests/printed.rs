@@ -247,7 +247,7 @@ fn compare_randomly(kind: Kind, classes: &[u32], seed: u64) {
     let (mut cells, mut functions) = (0, 0);
     for &class in classes {
         for degrees in [(1, 1), (2, 1), (1, 3), (2, 2), (4, 3)] {
-            for most in [40, 120, 250, 500, 1000, 1000] {
+            for most in [40, 120, 250, 500, 1000, 1000].repeat(4) {
                 let plan = deep_plan(&mut random, degrees, class, most);
                 let refined = if random.once_in(2) {
                     random_refined(&mut random, plan)
