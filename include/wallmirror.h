@@ -298,6 +298,9 @@ WallmirrorCount wallmirror_count(WallmirrorPlan plan,
  *   to the cell list the cells that became refined (refining) or ceased to be (coarsening),
  *   to the function list the functions that became deactivated, or ceased to be.
  * Entries past the answered lengths keep their values. They refuse 1 to 11 (coarsening never 9).
+ * The cells and their list are written first; the functions and their list follow from the settled
+ * cells and the old function bytes alone. No cell is written after the first function. Lists of
+ * cells_len and functions_len entries are never too short, and with them a call is fastest.
  * How a run of them is undone is said at the top.
  */
 

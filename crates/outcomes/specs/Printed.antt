@@ -67,7 +67,7 @@ pub record AsPrinted (by : By) (p : Plan) (cs fs marks : List ℕ) (o : Outcome)
   -- line 6
   pub activeCells : (c : ℕ) → c < cellTotal p → active (o .cells) c ≡ isActiveCell p cs (cellsOf o) c
   pub deactivatedCells : (c : ℕ) → c < cellTotal p → refined (o .cells) c ≡ isDeactivatedCell cs (cellsOf o) c
-  -- lines 7 to 11
+  -- lines 7 to 11; for marked functions too, where the paper has algorithm 5
   pub toDeactivate : (f : ℕ) → f < functionTotal p → elem f (functionsOf o) ≡ isToDeactivate p (o .cells) fs (cellsOf o) f
   -- line 12
   pub activeFunctions : (f : ℕ) → f < functionTotal p → active (o .functions) f ≡ isActiveFunction p (o .cells) fs (cellsOf o) f

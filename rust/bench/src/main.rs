@@ -72,6 +72,9 @@ struct Row {
     tuned: Duration,
     model: Duration,
     read: Duration,
+    /// How many times as long the library takes with lists that are just long enough: then the
+    /// changes are counted before anything is written, for which the labels are made once more.
+    counted: Option<f64>,
 }
 
 impl Row {
@@ -326,6 +329,9 @@ fn print_summary(rows: &[Row], points: &[f64]) {
         println!("  greatest ratio to reading {}", greatest(Row::to_read));
         println!("  greatest ratio to C {}", greatest(Row::to_tuned));
     }
+    let counted = rows.iter().filter_map(|row| row.counted.map(|ratio| (ratio, row)));
+    let (ratio, row) = counted.max_by(|a, b| a.0.total_cmp(&b.0)).expect("a row");
+    println!("lists just long enough: at most {ratio:.2} times as long, {}", row.said());
 }
 
 fn microseconds(time: Duration) -> f64 {
@@ -363,7 +369,26 @@ fn time(call: Call, tables: &Tables, marks: &[u32], place: String) -> Row {
     repeat(Duration::from_millis(60), 50, || {
         model = model.min(timed(|| run_model(call, tables, marks, &buffers)));
     });
-    Row { call, place, marks: marks.len(), changed, library, tuned, model, read }
+    let counted = matches!(call, Call::Change(_)).then(|| time_counted(call, tables, marks));
+    Row { call, place, marks: marks.len(), changed, library, tuned, model, read, counted }
+}
+
+/// How many times as long a call takes with lists that are just long enough as with those of T and F
+/// entries.
+fn time_counted(call: Call, tables: &Tables, marks: &[u32]) -> f64 {
+    let mut ample = Buffers::with_room(tables);
+    ample.run(&LIBRARY, call, marks);
+    let [_, cells, functions, ..] = ample.answer;
+    let mut close = Buffers::new(tables, cells as usize, functions as usize, vec![]);
+    let mut least = [Duration::MAX; 2];
+    repeat(Duration::from_millis(100), 300, || {
+        for (buffers, least) in [&mut ample, &mut close].into_iter().zip(&mut least) {
+            buffers.restore(tables);
+            *least = timed(|| buffers.run(&LIBRARY, call, marks)).min(*least);
+        }
+    });
+    assert_eq!(close.answer, ample.answer);
+    least[1].as_secs_f64() / least[0].as_secs_f64()
 }
 
 fn time_vectors(tables: &Tables) -> Duration {
