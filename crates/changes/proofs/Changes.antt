@@ -8,18 +8,12 @@ use native.Mathlib.Omega.{arith}
 use lib.Dec.{eqb}
 use lib.ListN.{length, getD, drop, set}
 use lib.Seq.{drop-append-add, drop-drop}
-use borrow.Author.Tests.{lt-ltb, le-ltb}
 use Rattle.facts.proofs.Turns.{listed-none, listed-no, listed-longer, listed-le, listed-short, listed-write}
-use Rattle.grid.specs.declared.Plan.{Plan}
-use Rattle.grid.specs.Plan.{cellTotal, functionTotal}
 use Rattle.mesh.specs.Mesh.{refined}
-use Rattle.outcomes.specs.declared.Answer.{Answer}
 use Rattle.outcomes.specs.Calls.{changed, written}
-use Rattle.outcomes.specs.Contracts.{outcomeOf}
 use Rattle.compare.specs.Agree.{agree}
 use Rattle.compare.proofs.Agree.{agree-at}
 use Rattle.changes.specs.Changes.{ListedTo}
-use Rattle.grid.specs.Bounds.{mostCells, mostFunctions}
 
 pub beq-true : (b : Bool) → Bool·beq true b ≡ b
 beq-true true = refl

@@ -7,11 +7,11 @@ use Rattle.facts.specs.Bounded.{some, every}
 use Rattle.facts.specs.Numbers.{elem, tabulate, listed}
 use Rattle.grid.specs.declared.Plan.{Plan}
 use Rattle.grid.specs.Numbering.{offset, number, levelOf, placeOn, place}
-use Rattle.grid.specs.Plan.{between, ratio, grown, above, below, parent, covers, supportedAt, supported, cellTotal, functionTotal, planOf}
+use Rattle.grid.specs.Plan.{between, ratio, grown, above, below, parent, covers, supportedAt, supported, planOf}
 use Rattle.mesh.specs.Mesh.{absent, active, refined, tableOf, labelOf, labels}
-use Rattle.outcomes.specs.Calls.{changed, written, Outcome}
+use Rattle.outcomes.specs.Calls.{underMarked, changed, written, Outcome}
 use Rattle.outcomes.specs.Steps.{Settled, Relabelled, roomRefusal, settleCells, relabel, inSteps}
-use Rattle.outcomes.specs.Printed.{isNew, isActiveCell, isDeactivatedCell, isToDeactivate, isCandidate, isActiveFunction, isDeactivatedFunction}
+use Rattle.outcomes.specs.Printed.{isNew, isActiveCell, isDeactivatedCell, isToDeactivate, isNeighbor, isToDeactivateNear, isCandidate, isActiveFunction, isDeactivatedFunction}
 
 -- ---- both steps, on two cells of two levels: cell 0 is split, and functions 0 and 3 are those over it alone
 
@@ -113,3 +113,10 @@ pub printed :
     ∷ []
 unfolding some every elem tabulate listed offset number levelOf placeOn place between ratio grown above below parent covers supportedAt supported absent active refined tableOf labelOf labels isNew isActiveCell isDeactivatedCell isToDeactivate isCandidate isActiveFunction isDeactivatedFunction
 printed = refl
+
+-- P3 W0 fresh, split by function 1: 0 1; 0 1 4 5. Its neighbours are those over cells 0 and 1
+pub neighbors :
+    listed 94 (isNeighbor (W 0) (1 ∷ [])) ∷ listed 94 (isToDeactivateNear (W 0) (wall (0 ∷ 1 ∷ [])) (labelled []) (1 ∷ [])) ∷ []
+    ≡ (0 ∷ 1 ∷ 2 ∷ 4 ∷ 5 ∷ 6 ∷ []) ∷ (0 ∷ 1 ∷ 4 ∷ 5 ∷ []) ∷ []
+unfolding some every elem tabulate listed offset number levelOf placeOn place between ratio grown above below parent covers supportedAt supported absent active refined tableOf labelOf labels underMarked isNeighbor isToDeactivateNear
+neighbors = refl

@@ -1,14 +1,14 @@
--- An accepted refinement does what algorithms 1 to 4 and 6 of document 000 print. Assumes nothing.
+-- An accepted refinement does what algorithms 1 to 6 of document 000 print. Assumes nothing.
 use mathlib.Core.Path.{_≡_, refl, sym, ap, ap₂, _∙_, subst}
-use mathlib.Core.Bool.{Bool, true, false, not, _&&_, _||_, Bool·beq}
+use mathlib.Core.Bool.{Bool, true, false, not, _&&_, _||_}
 use mathlib.Core.List.{List}
-use Prim.Native.Nat.{ℕ, suc, _≤_, _<_}
+use Prim.Native.Nat.{ℕ, suc, _<_}
 use native.Mathlib.Omega.{arith}
 use lib.Dec.{T, eqb, eqb→eq}
-use lib.ListN.{length, getD, take}
-use Rattle.facts.specs.Bounded.{implies, some, every}
+use lib.ListN.{getD}
+use Rattle.facts.specs.Bounded.{implies, some}
 use Rattle.facts.specs.Numbers.{elem}
-use Rattle.facts.proofs.Tests.{and-i, and-l, and-r, or-l, or-r, or-e, not-i, not-e, cases, same, positive, eqb-of, T-true, T-false, implies-i, implies-e}
+use Rattle.facts.proofs.Tests.{and-i, and-l, and-r, or-l, or-r, or-e, not-i, not-e, cases, same, positive, implies-i, implies-e}
 use Rattle.facts.proofs.Bounded.{some-i, some-e, every-i, every-e}
 use Rattle.hierarchy.specs.Hierarchy.{closure}
 use Rattle.hierarchy.proofs.Sets.{_∪_}
@@ -16,13 +16,13 @@ use Rattle.hierarchy.proofs.Undo as undo
 use Rattle.grid.specs.declared.Plan.{Plan}
 use Rattle.grid.specs.Plan.{cellTotal, functionTotal, cellLevel, parent, supported, hierarchy}
 use Rattle.grid.proofs.Laws.{lawful, parent-lt}
-use Rattle.mesh.specs.Mesh.{absent, active, refined, deactivated, labelOf, labels}
-use Rattle.mesh.proofs.Bridge.{Good, check-good, getD-labels, rooted, present-of, active-is, apart-bytes, deactivated-grow, deactivated-is}
-use Rattle.outcomes.specs.Calls.{refine, By, selected, changed, Outcome, refused, newCells, outcome}
-use Rattle.outcomes.specs.Printed.{isNew, isActiveCell, isDeactivatedCell, isToDeactivate, isCandidate, isActiveFunction, isDeactivatedFunction, cellsOf, functionsOf, AsPrinted}
+use Rattle.mesh.specs.Mesh.{absent, active, refined, deactivated, labels}
+use Rattle.mesh.proofs.Bridge.{Good, check-good, rooted, present-of, active-is, apart-bytes, deactivated-grow}
+use Rattle.outcomes.specs.Calls.{refine, By, cells, functions, eligible, underMarked, selected, changed, Outcome, refused, newCells, outcome}
+use Rattle.outcomes.specs.Printed.{isNew, isActiveCell, isDeactivatedCell, isToDeactivate, isNeighbor, isToDeactivateNear, isToDeactivateBy, isCandidate, isActiveFunction, isDeactivatedFunction, cellsOf, functionsOf, AsPrinted}
 use Rattle.outcomes.proofs.Sets.{differs}
 use Rattle.outcomes.proofs.Marks.{Fits, refusal-e}
-use Rattle.outcomes.proofs.Results.{may, new-good, new-refined, new-difference, accepted, Made, refusal-of, accepted-as, made, written-take}
+use Rattle.outcomes.proofs.Results.{may, new-good, new-refined, accepted, Made, refusal-of, accepted-as, made, written-take}
 use Rattle.outcomes.proofs.Undo.{elem-changed}
 use Rattle.outcomes.proofs.UndoByFunctions.{closure-is, label-e, label-i, not-label, active-present, active-label, active-not, present-active}
 
@@ -145,17 +145,18 @@ module _ (p : Plan) (cs cs′ ME : List ℕ) (G : Good p cs) (N : Good p cs′)
         (not-i (some (cellTotal p) alive) (λ t. let (c, i, u) = some-e (cellTotal p) alive t in
         apart-bytes p cs′ N c (and-r (supported p f c) _ u) (all c i (and-l (supported p f c) _ u)))))
 
+    -- an active function without an active cell of the refined mesh becomes deactivated
+    pub starves : T (active fs f) → (T (some (cellTotal p) alive) → ⊥) → T (deactivated fs′ f)
+    starves a none = label-i p cs′ f j (λ c i s. cases (refined cs′ c) (λ r. r) (λ r.
+        absurd (none (some-i (cellTotal p) alive c i (and-i (supported p f c) _ s
+        (present-active p cs′ N c i (stays c i (active-present p cs f j a c i s)) (not-e (refined cs′ c) r)))))))
+
     pub falls-e : T (isToDeactivate p cs′ fs ME f) → T (deactivated fs′ f) × (T (deactivated fs f) → ⊥)
     unfolding isToDeactivate
     falls-e t =
         let u = and-r (some (cellTotal p) over) _ t in
         let a = and-l (active fs f) _ u in
-        let none = not-e (some (cellTotal p) alive) (and-r (active fs f) _ u) in (
-          label-i p cs′ f j (λ c i s. cases (refined cs′ c) (λ r. r) (λ r.
-              absurd (none (some-i (cellTotal p) alive c i (and-i (supported p f c) _ s
-              (present-active p cs′ N c i (stays c i (active-present p cs f j a c i s)) (not-e (refined cs′ c) r))))))),
-          active-not p cs f j a,
-        )
+        (starves a (not-e (some (cellTotal p) alive) (and-r (active fs f) _ u)), active-not p cs f j a)
 
     pub deactivated-function : deactivated fs′ f ≡ isDeactivatedFunction p cs′ fs ME f
     unfolding isDeactivatedFunction
@@ -216,6 +217,41 @@ module _ (p : Plan) (cs cs′ ME : List ℕ) (G : Good p cs) (N : Good p cs′)
         (λ t. falls-i (and-l (deactivated fs′ f) _ t) (not-e (deactivated fs f) (and-r (deactivated fs′ f) _ t)))
         (λ u. and-i (deactivated fs′ f) _ (falls-e u .0) (not-i (deactivated fs f) (falls-e u .1)))
 
+    -- algorithm 5, where the marked functions are active and ME are the active cells under them
+    module _ (marks : List ℕ) (fit : T (elem f marks) → T (active fs f))
+        (means : (c : ℕ) → c < cellTotal p → elem c ME ≡ active cs c && underMarked p marks c) where
+      abbrev shared : ℕ → Bool
+      shared c = supported p f c && underMarked p marks c
+
+      -- all cells of a marked function become refined
+      marked-starves : T (elem f marks) → T (some (cellTotal p) alive) → ⊥
+      unfolding underMarked
+      marked-starves m t =
+          let (c, i, u) = some-e (cellTotal p) alive t in
+          let s = and-l (supported p f c) _ u in
+          let apart = apart-bytes p cs′ N c (and-r (supported p f c) _ u) in
+          let a = present-active p cs G c i (active-present p cs f j (fit m) c i s) (λ r. apart (keeps c i r)) in
+          let under = some-i (functionTotal p) (λ g. elem g marks && supported p g c) f j (and-i (elem f marks) _ m s) in
+          apart (me-e c i (subst T (sym (means c i)) (and-i (active cs c) _ a under)) .0)
+
+      abbrev near₅ : Bool
+      near₅ = isNeighbor p marks f && (active fs f && (not (elem f marks) && not (some (cellTotal p) alive)))
+
+      pub near-is : isToDeactivate p cs′ fs ME f ≡ isToDeactivateNear p cs′ fs marks f
+      unfolding isToDeactivate isNeighbor isToDeactivateNear
+      near-is = same _ _
+          (λ t. let (c, i, u) = some-e (cellTotal p) over (and-l (some (cellTotal p) over) _ t) in
+          let v = and-r (some (cellTotal p) over) _ t in
+          let under = and-r (active cs c) _ (subst T (means c i) (and-r (supported p f c) _ u)) in
+          cases (elem f marks) (or-r near₅ (elem f marks)) (λ n. or-l near₅ (elem f marks)
+          (and-i (isNeighbor p marks f) _ (some-i (cellTotal p) shared c i (and-i (supported p f c) _ (and-l (supported p f c) _ u) under))
+          (and-i (active fs f) _ (and-l (active fs f) _ v) (and-i (not (elem f marks)) _ n (and-r (active fs f) _ v))))))
+          (λ t. or-e near₅ (elem f marks) t
+          (λ u. let v = and-r (isNeighbor p marks f) _ u in
+          let a = and-l (active fs f) _ v in
+          falls-i (starves a (not-e (some (cellTotal p) alive) (and-r (not (elem f marks)) _ (and-r (active fs f) _ v)))) (active-not p cs f j a))
+          (λ m. falls-i (starves (fit m) (marked-starves m)) (active-not p cs f j (fit m))))
+
 -- ---- an accepted refinement
 
 module _ (by : By) (p : Plan) (cs fs marks : List ℕ) (G : Good p cs) (fit : (x : ℕ) → T (elem x marks) → Fits refine by p cs fs x) where
@@ -250,28 +286,57 @@ module _ (by : By) (p : Plan) (cs fs marks : List ℕ) (G : Good p cs) (fit : (x
       listed-is c i ∙ ap (λ b. b && not (refined cs c)) (refined-is c ∙ closure-is p z cs G (refined cs ∪ M) c i)
       ∙ marked-bits (refined cs c) (M c) (λ m. apart-bytes p cs G c (subst T (sym (active-is p cs G c i)) (may refine by p cs fs marks G fit c i m .0)))
 
-  abbrev ME : List ℕ
-  ME = changed (cellTotal p) cs cs₁
+-- ---- algorithm 1, lines 7 to 11, in class 0
 
-  module _ (o : Outcome) (labelled : fs ≡ labels p cs) (ec : o .cells ≡ cs₁) (ef : o .functions ≡ labels p cs₁)
-      (lc : cellsOf o ≡ ME) (lf : functionsOf o ≡ changed (functionTotal p) fs (labels p cs₁)) where
-    N : Good p cs₁
+module _ (p : Plan) (cs fs marks : List ℕ) (G : Good p cs) (labelled : fs ≡ labels p cs) (zero-class : p .class ≡ 0) where
+  deactivated-by : (by : By) (fit : (x : ℕ) → T (elem x marks) → Fits refine by p cs fs x) (f : ℕ) → f < functionTotal p
+      → isToDeactivate p (newCells refine by p cs fs marks) (labels p cs) (changed (cellTotal p) cs (newCells refine by p cs fs marks)) f
+      ≡ isToDeactivateBy by p (newCells refine by p cs fs marks) (labels p cs) (changed (cellTotal p) cs (newCells refine by p cs fs marks)) marks f
+  unfolding isToDeactivateBy eligible selected
+  deactivated-by cells fit f j = refl
+  deactivated-by functions fit f j =
+      near-is p cs (newCells refine functions p cs fs marks) (changed (cellTotal p) cs (newCells refine functions p cs fs marks)) G (new-good refine functions p cs fs marks G fit)
+      (keeps-refined functions p cs fs marks G fit) (added-active functions p cs fs marks G fit) (listed-is functions p cs fs marks G fit) f j marks
+      (λ m. subst (λ v. T (active v f)) labelled (fit f m .kind)) (marked-is functions p cs fs marks G fit zero-class)
+
+-- ---- the claim
+
+module _ (by : By) (p : Plan) (cs fs marks : List ℕ) (G : Good p cs) (fit : (x : ℕ) → T (elem x marks) → Fits refine by p cs fs x) (labelled : fs ≡ labels p cs) where
+  abbrev new : List ℕ
+  new = newCells refine by p cs fs marks
+
+  abbrev ME : List ℕ
+  ME = changed (cellTotal p) cs new
+
+  module _ (o : Outcome) (ec : o .cells ≡ new) (ef : o .functions ≡ labels p new) (lc : cellsOf o ≡ ME) (lf : functionsOf o ≡ changed (functionTotal p) fs (labels p new)) where
+    N : Good p new
     N = new-good refine by p cs fs marks G fit
 
+    keeps : (c : ℕ) → c < cellTotal p → T (refined cs c) → T (refined new c)
+    keeps = keeps-refined by p cs fs marks G fit
+
+    added : (c : ℕ) → c < cellTotal p → T (refined new c) → (T (refined cs c) → ⊥) → T (active cs c)
+    added = added-active by p cs fs marks G fit
+
+    is : (c : ℕ) → c < cellTotal p → elem c ME ≡ refined new c && not (refined cs c)
+    is = listed-is by p cs fs marks G fit
+
     -- from the labels of the old cells to the old functions, and to what the outcome holds
-    told : (test : List ℕ → List ℕ → List ℕ → Bool) → test cs₁ (labels p cs) ME ≡ test (o .cells) fs (cellsOf o)
-    told test = ap (λ v. test cs₁ v ME) (sym labelled) ∙ ap₂ (λ u m. test u fs m) (sym ec) (sym lc)
+    told : (test : List ℕ → List ℕ → List ℕ → Bool) → test new (labels p cs) ME ≡ test (o .cells) fs (cellsOf o)
+    told test = ap (λ v. test new v ME) (sym labelled) ∙ ap₂ (λ u m. test u fs m) (sym ec) (sym lc)
+
+    listed-4 : (f : ℕ) → f < functionTotal p → elem f (functionsOf o) ≡ isToDeactivate p new (labels p cs) ME f
+    listed-4 f i = ap (elem f) (lf ∙ ap (λ v. changed (functionTotal p) v (labels p new)) labelled) ∙ to-deactivate p cs new ME G N keeps added is f i
 
     printed : AsPrinted by p cs fs marks o
     printed = record {
-      marked = λ z c i. ap (elem c) lc ∙ marked-is z c i;
-      activeCells = λ c i. ap (λ u. active u c) ec ∙ active-cell p cs cs₁ ME G N keeps-refined added-active listed-is c i ∙ told (λ u v m. isActiveCell p cs m c);
-      deactivatedCells = λ c i. ap (λ u. refined u c) ec ∙ deactivated-cell p cs cs₁ ME G N keeps-refined added-active listed-is c i ∙ told (λ u v m. isDeactivatedCell cs m c);
-      toDeactivate = λ f i.
-          ap (elem f) (lf ∙ ap (λ v. changed (functionTotal p) v (labels p cs₁)) labelled)
-          ∙ to-deactivate p cs cs₁ ME G N keeps-refined added-active listed-is f i ∙ told (λ u v m. isToDeactivate p u v m f);
-      activeFunctions = λ f i. ap (λ u. active u f) ef ∙ active-function p cs cs₁ ME G N keeps-refined added-active listed-is f i ∙ told (λ u v m. isActiveFunction p u v m f);
-      deactivatedFunctions = λ f i. ap (λ u. deactivated u f) ef ∙ deactivated-function p cs cs₁ ME G N keeps-refined added-active listed-is f i ∙ told (λ u v m. isDeactivatedFunction p u v m f);
+      marked = λ z c i. ap (elem c) lc ∙ marked-is by p cs fs marks G fit z c i;
+      activeCells = λ c i. ap (λ u. active u c) ec ∙ active-cell p cs new ME G N keeps added is c i ∙ told (λ u v m. isActiveCell p cs m c);
+      deactivatedCells = λ c i. ap (λ u. refined u c) ec ∙ deactivated-cell p cs new ME G N keeps added is c i ∙ told (λ u v m. isDeactivatedCell cs m c);
+      toDeactivateBy = λ z f i. listed-4 f i ∙ deactivated-by p cs fs marks G labelled z by fit f i ∙ told (λ u v m. isToDeactivateBy by p u v m marks f);
+      toDeactivate = λ f i. listed-4 f i ∙ told (λ u v m. isToDeactivate p u v m f);
+      activeFunctions = λ f i. ap (λ u. active u f) ef ∙ active-function p cs new ME G N keeps added is f i ∙ told (λ u v m. isActiveFunction p u v m f);
+      deactivatedFunctions = λ f i. ap (λ u. deactivated u f) ef ∙ deactivated-function p cs new ME G N keeps added is f i ∙ told (λ u v m. isDeactivatedFunction p u v m f);
     }
 
 module _ (by : By) (p : Plan) (cs fs marks cl fl : List ℕ) where
@@ -282,7 +347,7 @@ module _ (by : By) (p : Plan) (cs fs marks cl fl : List ℕ) where
       let (k, fit) = refusal-e refine by p cs fs marks r in
       let (G, l) = check-good p cs fs k in
       let n : fs′ ≡ labels p (newCells refine by p cs fs marks) = ef ∙ ap (labels p) ec in
-      printed by p cs fs marks G fit o l (ap (λ o. o .cells) e ∙ ec) (ap (λ o. o .functions) e ∙ n)
+      printed by p cs fs marks G fit l o (ap (λ o. o .cells) e ∙ ec) (ap (λ o. o .functions) e ∙ n)
       (ap cellsOf e ∙ written-take (changed (cellTotal p) cs cs′) cl ∙ ap (changed (cellTotal p) cs) ec)
       (ap functionsOf e ∙ written-take (changed (functionTotal p) fs fs′) fl ∙ ap (changed (functionTotal p) fs) n)
 

@@ -1,4 +1,4 @@
--- Document 000, algorithms 1 to 4 and 6, as printed: what refining does to the sets of active and deactivated cells and functions of each
+-- Document 000, algorithms 1 to 6, as printed: what refining does to the sets of active and deactivated cells and functions of each
 -- level (there E^A, E^D, F^A, F^D), and the claim that an accepted refinement does just this. Definitions only.
 -- cs and fs are the tables before, cs′ are the cells of the refined mesh, ME is the list of "the cells to be deactivated".
 use mathlib.Core.Path.{_≡_}
@@ -12,7 +12,7 @@ use Rattle.facts.specs.Numbers.{elem}
 use Rattle.grid.specs.declared.Plan.{Plan}
 use Rattle.grid.specs.Plan.{cellTotal, functionTotal, cellLevel, parent, supported}
 use Rattle.mesh.specs.Mesh.{active, refined, deactivated}
-use Rattle.outcomes.specs.Calls.{refine, By, selected, Outcome}
+use Rattle.outcomes.specs.Calls.{refine, By, cells, functions, underMarked, selected, Outcome}
 
 -- ---- algorithm 3, refine_hierarchical_mesh
 
@@ -35,6 +35,24 @@ unfoldable pub isToDeactivate : Plan → List ℕ → List ℕ → List ℕ → 
 isToDeactivate p cs′ fs ME f =
     some (cellTotal p) (λ c. supported p f c && elem c ME)
     && (active fs f && not (some (cellTotal p) (λ c. supported p f c && active cs′ c)))
+
+-- ---- algorithm 5, functions_to_deactivate_from_neighbors: MF from marked functions
+
+-- line 2: the function shares a cell with a marked one
+unfoldable pub isNeighbor : Plan → List ℕ → ℕ → Bool
+isNeighbor p marks f = some (cellTotal p) (λ c. supported p f c && underMarked p marks c)
+
+-- lines 3 to 8: the active neighbours that are not marked, less those with an active cell of the refined mesh; line 9: and the marked ones
+unfoldable pub isToDeactivateNear : Plan → List ℕ → List ℕ → List ℕ → ℕ → Bool
+isToDeactivateNear p cs′ fs marks f =
+    (isNeighbor p marks f && (active fs f && (not (elem f marks) && not (some (cellTotal p) (λ c. supported p f c && active cs′ c)))))
+    || elem f marks
+
+-- ---- algorithm 1, lines 7 to 11
+
+unfoldable pub isToDeactivateBy : By → Plan → List ℕ → List ℕ → List ℕ → List ℕ → ℕ → Bool
+isToDeactivateBy cells p cs′ fs ME marks f = isToDeactivate p cs′ fs ME f
+isToDeactivateBy functions p cs′ fs ME marks f = isToDeactivateNear p cs′ fs marks f
 
 -- ---- algorithm 6, refine_hierarchical_space
 
@@ -67,7 +85,8 @@ pub record AsPrinted (by : By) (p : Plan) (cs fs marks : List ℕ) (o : Outcome)
   -- line 6
   pub activeCells : (c : ℕ) → c < cellTotal p → active (o .cells) c ≡ isActiveCell p cs (cellsOf o) c
   pub deactivatedCells : (c : ℕ) → c < cellTotal p → refined (o .cells) c ≡ isDeactivatedCell cs (cellsOf o) c
-  -- lines 7 to 11; for marked functions too, where the paper has algorithm 5
+  -- lines 7 to 11: by algorithm 4 from ME, whatever the class and the marks; by algorithm 5 from marked functions as printed
+  pub toDeactivateBy : p .class ≡ 0 → (f : ℕ) → f < functionTotal p → elem f (functionsOf o) ≡ isToDeactivateBy by p (o .cells) fs (cellsOf o) marks f
   pub toDeactivate : (f : ℕ) → f < functionTotal p → elem f (functionsOf o) ≡ isToDeactivate p (o .cells) fs (cellsOf o) f
   -- line 12
   pub activeFunctions : (f : ℕ) → f < functionTotal p → active (o .functions) f ≡ isActiveFunction p (o .cells) fs (cellsOf o) f

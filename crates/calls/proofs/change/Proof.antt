@@ -1,5 +1,5 @@
 -- `change` meets its contract: each refusal is the outcome's, and so are the settled mesh and the labels made of it. Assumes nothing.
-use mathlib.Core.Path.{_≡_, sym, ap, _∙_}
+use mathlib.Core.Path.{_≡_, sym, _∙_}
 use Prim.Native.Nat.{_≤_}
 use native.Mathlib.Omega.{arith}
 use lib.ListN.{length}
