@@ -70,31 +70,34 @@ module _ (d : Direction) (by : By) (p : Plan) (cs fs marks flags : List ℕ) (k 
     room-is = r;
   }
 
-  -- the two steps of the call, where s is what the first leaves
-  module _ (cl fl : List ℕ) {s : Settled} (e : s ≡ settleCells p cs fs cl (length fl) (renewed d p cs flags)) where
-    steps-are : inSteps p cs fs cl fl (renewed d p cs flags) ≡ outcome d by p cs fs marks cl fl
-    steps-are = ap (inSteps p cs fs cl fl) new-is ∙ sym (call-in-steps d by p cs fs marks cl fl (refusal-mark d by p cs fs marks k ∙ fine))
+  -- the two steps make the call's outcome
+  pub steps-are : (cl fl : List ℕ) → inSteps p cs fs cl fl (renewed d p cs flags) ≡ outcome d by p cs fs marks cl fl
+  steps-are cl fl = ap (inSteps p cs fs cl fl) new-is ∙ sym (call-in-steps d by p cs fs marks cl fl (refusal-mark d by p cs fs marks k ∙ fine))
 
-    pub stops : s .answer .number ≢ 0 → outcomeOf (s .answer) (s .cells) fs (s .cellList) fl ≡ outcome d by p cs fs marks cl fl
-    stops n = ap (λ (u : Settled). outcomeOf (u .answer) (u .cells) fs (u .cellList) fl) e ∙ stopped p cs fs cl fl (renewed d p cs flags) (λ z. n (ap (λ (u : Settled). u .answer .number) e ∙ z)) ∙ steps-are
+-- ---- the two steps, where s is what the first leaves
 
-    module _ (zero : s .answer .number ≡ 0) where
-      settled : (s .cells ≡ renewed d p cs flags) × (length (changed (functionTotal p) fs (labels p (renewed d p cs flags))) ≤ length fl)
-      settled = subst (λ (u : Settled). (u .cells ≡ renewed d p cs flags) × (length (changed (functionTotal p) fs (labels p (renewed d p cs flags))) ≤ length fl)) (sym e)
-          (settled-cells p cs fs cl (length fl) (renewed d p cs flags) (ap (λ (u : Settled). u .answer .number) (sym e) ∙ zero))
+module _ {d : Direction} {p : Plan} {cs fs flags room : List ℕ} (A : Applicable d p cs fs flags room) (cl fl : List ℕ)
+    {s : Settled} (e : s ≡ settleCells p cs fs cl (length fl) (renewed d p cs flags)) where
+  pub stops : s .answer .number ≢ 0 → outcomeOf (s .answer) (s .cells) fs (s .cellList) fl ≡ inSteps p cs fs cl fl (renewed d p cs flags)
+  stops n = ap (λ (u : Settled). outcomeOf (u .answer) (u .cells) fs (u .cellList) fl) e
+      ∙ stopped p cs fs cl fl (renewed d p cs flags) (λ z. n (ap (λ (u : Settled). u .answer .number) e ∙ z))
 
-      pub settled-mesh : MeshTable p (s .cells)
-      settled-mesh = rw (settled .0) new-mesh
+  module _ (none : s .answer .number ≡ 0) where
+    done : settleCells p cs fs cl (length fl) (renewed d p cs flags) .answer .number ≡ 0
+    done = ap (λ (u : Settled). u .answer .number) (sym e) ∙ none
 
-      pub settled-room : length (changed (functionTotal p) fs (labels p (s .cells))) ≤ length fl
-      settled-room = rw (settled .0) (settled .1)
+    cells-are : s .cells ≡ renewed d p cs flags
+    cells-are = ap (λ (u : Settled). u .cells) e ∙ settled-cells p cs fs cl (length fl) (renewed d p cs flags) done .0
 
-      pub ends : {r : Relabelled} → r ≡ relabel p (s .cells) fs fl
-          → outcomeOf (record { number = 0; cells = s .answer .cells; functions = r .count }) (s .cells) (r .functions) (s .cellList) (r .functionList) ≡ outcome d by p cs fs marks cl fl
-      ends {r} f =
-          ap (λ (u : Settled). outcomeOf (record { number = 0; cells = u .answer .cells; functions = r .count }) (u .cells) (r .functions) (u .cellList) (r .functionList)) e
-          ∙ finished p cs fs cl fl (renewed d p cs flags) (ap (λ (u : Settled). u .answer .number) (sym e) ∙ zero) (f ∙ ap (λ (u : Settled). relabel p (u .cells) fs fl) e)
-          ∙ steps-are
+    -- what the second step asks
+    pub relabellable : MeshTable p (s .cells) × (length (changed (functionTotal p) fs (labels p (s .cells))) ≤ length fl)
+    relabellable = rw cells-are (A .mesh, settled-cells p cs fs cl (length fl) (renewed d p cs flags) done .1)
+
+    pub ends : {r : Relabelled} → r ≡ relabel p (s .cells) fs fl
+        → outcomeOf (record { number = 0; cells = s .answer .cells; functions = r .count }) (s .cells) (r .functions) (s .cellList) (r .functionList) ≡ inSteps p cs fs cl fl (renewed d p cs flags)
+    ends {r} f =
+        ap (λ (u : Settled). outcomeOf (record { number = 0; cells = u .answer .cells; functions = r .count }) (u .cells) (r .functions) (u .cellList) (r .functionList)) e
+        ∙ finished p cs fs cl fl (renewed d p cs flags) done (f ∙ ap (λ (u : Settled). relabel p (u .cells) fs fl) e)
 
 pub ready-are : {d : Direction} {p : Plan} {cs table flags : List ℕ} → table ≡ cs → Ready d p cs flags → Ready d p table flags
 ready-are a R = rw a R

@@ -15,8 +15,8 @@ ghost use Rattle.grid.specs.Range.{InRange};
 ghost use Rattle.mesh.specs.Mesh.{check};
 ghost use Rattle.outcomes.specs.Calls as calls;
 ghost use Rattle.outcomes.specs.Calls.{outcome};
-ghost use Rattle.outcomes.specs.Steps.{settleCells};
-ghost use Rattle.outcomes.specs.Contracts.{leftCells, Meets};
+ghost use Rattle.outcomes.specs.Steps.{settleCells, inSteps};
+ghost use Rattle.outcomes.specs.Contracts.{left, leftCells, Meets};
 ghost use Rattle.closure.specs.Ready.{Ready};
 ghost use Rattle.calls.specs.Parts.{directionOf, byOf, Eligible, Kept, Scratch, Flags, renewed, Applicable};
 
@@ -196,9 +196,44 @@ fn settle_mesh(
     changes::settle_cells(plan, cells, functions, cell_list, room, new_cells, made)
 }
 
+// The two steps, one behind the other. Behind the first no cell is written: the second may only read them.
+fn in_steps(
+    direction: Direction,
+    plan: Plan,
+    cells: &mut [u8],
+    functions: &mut [u8],
+    cell_list: &mut [u32],
+    function_list: &mut [u32],
+    flags: &[u8],
+    made: &mut [u8],
+) -> Answer
+    requires { ⌜ Applicable (directionOf direction) plan (now cells) (now functions) (now flags) (now made) ⌝ }
+    ensures { λ r. ⌜ left r cells functions «cell_list» «function_list» ≡ inSteps plan (now (cells .entry)) (now (functions .entry)) (now («cell_list» .entry)) (now («function_list» .entry)) (renewed (directionOf direction) plan (now (cells .entry)) (now (flags .entry))) ⌝ }
+{
+    let room = function_list.len();
+    let mesh = settle_mesh(
+        direction,
+        plan,
+        cells,
+        functions,
+        cell_list,
+        room,
+        flags,
+        made,
+    );
+    if mesh.number != 0 {
+        return mesh;
+    }
+    let relabelled = changes::relabel(plan, cells, functions, function_list, made);
+    Answer {
+        number: 0,
+        cells: mesh.cells,
+        functions: relabelled,
+    }
+}
+
 // A call, when its tables are checked. The caller checks them, so that the rooms of the check and those of the change are not on the stack
-// at the same time. The room for a byte of each function is used for what they weigh, and then for their new labels. Behind
-// `settle_mesh` no cell is written: `relabel` may only read them.
+// at the same time. The room for a byte of each function is used for what they weigh, and then for their new labels.
 pub fn change(
     checked: u32,
     call: Call,
@@ -226,24 +261,14 @@ pub fn change(
         return changes::refuse(judged);
     }
     let direction = call.0;
-    let room = function_list.len();
-    let mesh = settle_mesh(
+    in_steps(
         direction,
         plan,
         cells,
         functions,
         cell_list,
-        room,
+        function_list,
         flags,
         values,
-    );
-    if mesh.number != 0 {
-        return mesh;
-    }
-    let relabelled = changes::relabel(plan, cells, functions, function_list, values);
-    Answer {
-        number: 0,
-        cells: mesh.cells,
-        functions: relabelled,
-    }
+    )
 }

@@ -1,8 +1,7 @@
--- `change` meets its contract: each refusal is the outcome's, and so are the settled mesh and the labels made of it. Assumes nothing.
+-- `change` meets its contract: each refusal is the outcome's, and so are the two steps. Assumes nothing.
 use mathlib.Core.Path.{_≡_, sym, _∙_}
 use Prim.Native.Nat.{_≤_}
 use native.Mathlib.Omega.{arith}
-use lib.ListN.{length}
 use Rattle.facts.proofs.Zeros.{zeros, part-length}
 use Rattle.grid.specs.Bounds.{mostCells, mostFunctions}
 use Rattle.grid.specs.Plan.{functionTotal}
@@ -10,7 +9,7 @@ use Rattle.grid.proofs.Totals.{functions-bound}
 use Rattle.mesh.specs.Mesh.{check}
 use Rattle.mesh.proofs.Bridge.{Passed, check-passed}
 use Rattle.calls.specs.Parts.{directionOf, byOf}
-use Rattle.calls.proofs.Outcomes.{check-refused, mark-refused, applicable, stops, settled-mesh, settled-room, ends}
+use Rattle.calls.proofs.Outcomes.{check-refused, mark-refused, applicable, steps-are}
 use borrow.Author.Needs.{needs}
 use Rattle.calls.proofs.change.Statement.{statement}
 use Rattle.calls.proofs.change.Tie as tie
@@ -81,16 +80,13 @@ returns-2 c =
     let a = c .before .before .before .before .before .before .before .before .before .before .before .before .before .before .before .before .before .before .before .before .before .before .before .args in
     mark-refused (directionOf (a .call .0)) (byOf (a .call .1)) _ _ _ _ _ _ _ _ (c .refuse2 .ensures) (c .before .before .before .if2 .taken) (passes (c .before .before .before .before .before .before .before .before .before .before .before .before .before .before .before .before .before)) (c .before .before .before .before .before .before .before .before .flag-marks .ensures .number)
 
--- the room for a byte of each function
-values-are : (c : tie.After-flag-marks) → length (c .flag-marks .last .1 .1 .1 .1 .1 .1 .0) ≡ functionTotal (c .before .before .before .before .before .before .before .before .before .before .before .before .before .before .before .args .plan)
-values-are c = c .flag-marks .kept .1 .1 .1 .1 .1 .1 .0 ∙ part-length mostFunctions _ (c .before .before .before .before .before .before .before .function-total .ensures) (few (c .before .before .before .before .before .before .before .before .before))
-
-settle-mesh-requires : tie.Need-settle-mesh-requires
-settle-mesh-requires c κs =
+in-steps-requires : tie.Need-in-steps-requires
+in-steps-requires c κs =
     let k = c .before .before .before .before .before .before .before .before .before .before .before .before .before .before .before .before .before .before .before in
     let a = c .before .before .before .before .before .before .before .before .before .before .before .before .before .before .before .before .before .before .before .before .before .before .before .before .before .args in
     let f = c .before .before .before .before .before .before .before .before .before .before .flag-marks in
-    applicable (directionOf (a .call .0)) (byOf (a .call .1)) (a .plan) _ _ _ _ (passes k) (f .ensures) (c .before .before .before .before .before .if2 .left) _ (passed k .functions) (values-are (c .before .before .before .before .before .before .before .before .before .before))
+    applicable (directionOf (a .call .0)) (byOf (a .call .1)) (a .plan) _ _ _ _ (passes k) (f .ensures) (c .before .before .before .before .before .if2 .left) _ (passed k .functions)
+    (f .kept .1 .1 .1 .1 .1 .1 .0 ∙ part-length mostFunctions _ (c .before .before .before .before .before .before .before .before .before .before .before .before .before .before .before .before .before .function-total .ensures) (few k))
 
 same-length-3 : tie.Need-same-length-3
 same-length-3 c = search needs
@@ -101,44 +97,14 @@ same-length-4 c = search needs
 same-length-5 : tie.Need-same-length-5
 same-length-5 c = search needs
 
-returns-3 : tie.Need-returns-3
-returns-3 c =
-    let a = c .before .before .before .before .before .before .before .before .before .before .before .before .before .before .before .before .before .before .before .before .before .before .before .before .before .before .before .before .before .before .before .before .before .before .before .before .args in
-    let w = c .before .before .before .before .before .before .before .before .before .before .settle-mesh .ensures in
-    stops (directionOf (a .call .0)) (byOf (a .call .1)) (a .plan) _ _ _ _ (passes (c .before .before .before .before .before .before .before .before .before .before .before .before .before .before .before .before .before .before .before .before .before .before .before .before .before .before .before .before .before .before)) (c .before .before .before .before .before .before .before .before .before .before .before .before .before .before .before .before .before .before .before .before .before .flag-marks .ensures) (c .before .before .before .before .before .before .before .before .before .before .before .before .before .before .before .before .if2 .left) _ _ w (c .before .if3 .taken)
-
-relabel-requires : tie.Need-relabel-requires
-relabel-requires c κs =
-    let a = c .before .before .before .before .before .before .before .before .before .before .before .before .before .before .before .before .before .before .before .before .before .before .before .before .before .before .before .before .before .before .before .before .before .before .before .before .before .before .args in
-    let k = c .before .before .before .before .before .before .before .before .before .before .before .before .before .before .before .before .before .before .before .before .before .before .before .before .before .before .before .before .before .before .before .before in
-    let f = c .before .before .before .before .before .before .before .before .before .before .before .before .before .before .before .before .before .before .before .before .before .before .before .flag-marks in
-    let n = c .before .before .before .before .before .before .before .before .before .before .before .before .before .before .before .before .before .before .if2 .left in
-    let w = c .before .before .before .before .before .before .before .before .before .before .before .before .settle-mesh in
-    let z = c .before .before .before .if3 .left in (
-      settled-mesh (directionOf (a .call .0)) (byOf (a .call .1)) (a .plan) _ _ _ _ (passes k) (f .ensures) n (a .cell-list .now) (a .function-list .now) (w .ensures) z,
-      (
-        record { functions-are = passed k .functions; made-is = w .kept .1 .1 .1 .1 .1 .1 .1 .0 ∙ values-are (c .before .before .before .before .before .before .before .before .before .before .before .before .before .before .before .before .before .before .before .before .before .before .before); cells-small = passed k .small },
-        settled-room (directionOf (a .call .0)) (byOf (a .call .1)) (a .plan) _ _ _ _ (passes k) (f .ensures) n (a .cell-list .now) (a .function-list .now) (w .ensures) z,
-      ),
-    )
-
 same-length-6 : tie.Need-same-length-6
 same-length-6 c = search needs
 
-same-length-7 : tie.Need-same-length-7
-same-length-7 c = search needs
-
-same-length-8 : tie.Need-same-length-8
-same-length-8 c = search needs
-
-same-length-9 : tie.Need-same-length-9
-same-length-9 c = search needs
-
-returns-4 : tie.Need-returns-4
-returns-4 c =
-    let a = c .before .before .before .before .before .before .before .before .before .before .before .before .before .before .before .before .before .before .before .before .before .before .before .before .before .before .before .before .before .before .before .before .before .before .before .before .before .before .before .before .before .before .before .before .args in
-    let w = c .before .before .before .before .before .before .before .before .before .before .before .before .before .before .before .before .before .before .settle-mesh .ensures in
-    ends (directionOf (a .call .0)) (byOf (a .call .1)) (a .plan) _ _ _ _ (passes (c .before .before .before .before .before .before .before .before .before .before .before .before .before .before .before .before .before .before .before .before .before .before .before .before .before .before .before .before .before .before .before .before .before .before .before .before .before .before)) (c .before .before .before .before .before .before .before .before .before .before .before .before .before .before .before .before .before .before .before .before .before .before .before .before .before .before .before .before .before .flag-marks .ensures) (c .before .before .before .before .before .before .before .before .before .before .before .before .before .before .before .before .before .before .before .before .before .before .before .before .if2 .left) _ _ w (c .before .before .before .before .before .before .before .before .before .if3 .left) (c .before .before .before .before .before .relabel .ensures)
+returns-3 : tie.Need-returns-3
+returns-3 c =
+    let a = c .before .before .before .before .before .before .before .before .before .before .before .before .before .before .before .before .before .before .before .before .before .before .before .before .before .before .before .before .before .before .before .before .before .before .before .before .args in
+    c .before .before .before .before .before .before .before .before .before .before .in-steps .ensures
+    ∙ steps-are (directionOf (a .call .0)) (byOf (a .call .1)) (a .plan) _ _ _ _ (passes (c .before .before .before .before .before .before .before .before .before .before .before .before .before .before .before .before .before .before .before .before .before .before .before .before .before .before .before .before .before .before)) (c .before .before .before .before .before .before .before .before .before .before .before .before .before .before .before .before .before .before .before .before .before .flag-marks .ensures) (c .before .before .before .before .before .before .before .before .before .before .before .before .before .before .before .before .if2 .left) _ _
 
 pub change-spec : {M : Type 1} → statement M
 change-spec =
@@ -159,14 +125,9 @@ change-spec =
     same-length
     same-length-2
     returns-2
-    settle-mesh-requires
+    in-steps-requires
     same-length-3
     same-length-4
     same-length-5
-    returns-3
-    relabel-requires
     same-length-6
-    same-length-7
-    same-length-8
-    same-length-9
-    returns-4)
+    returns-3)
