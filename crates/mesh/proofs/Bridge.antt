@@ -404,11 +404,11 @@ good-check p cs G = unchecked p cs (labels p cs) (record {
 
 -- ---- deactivated functions
 
-module _ (p : Plan) (cs : List ℕ) (f : ℕ) where
-  apart-absent : (c : ℕ) → T (absent cs c) → T (refined cs c) → ⊥
-  unfolding absent refined
-  apart-absent c a r = omega (arith, eqb→eq (getD cs c 0) 0 a, eqb→eq (getD cs c 0) 2 r)
+pub refined-not-absent : (cs : List ℕ) (c : ℕ) → T (absent cs c) → T (refined cs c) → ⊥
+unfolding absent refined
+refined-not-absent cs c a r = omega (arith, eqb→eq (getD cs c 0) 0 a, eqb→eq (getD cs c 0) 2 r)
 
+module _ (p : Plan) (cs : List ℕ) (f : ℕ) where
   abbrev some-absent : Bool
   some-absent = some (cellTotal p) (λ c. supported p f c && absent cs c)
 
@@ -426,7 +426,7 @@ module _ (p : Plan) (cs : List ℕ) (f : ℕ) where
   unfolding labelOf
   deactivated-is = two some-absent all-refined (λ b a.
       let (c, i, u) = some-e (cellTotal p) (λ c. supported p f c && absent cs c) a in
-      apart-absent c (and-r (supported p f c) (absent cs c) u)
+      refined-not-absent cs c (and-r (supported p f c) (absent cs c) u)
       (implies-e (supported p f c) (refined cs c) (every-e (cellTotal p) (λ c. implies (supported p f c) (refined cs c)) b c i) (and-l (supported p f c) _ u)))
 
   pub deactivated-e : T (eqb (labelOf p cs f) 2) → (c : ℕ) → c < cellTotal p → T (supported p f c) → T (refined cs c)

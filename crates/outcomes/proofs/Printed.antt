@@ -17,22 +17,18 @@ use Rattle.grid.specs.declared.Plan.{Plan}
 use Rattle.grid.specs.Plan.{cellTotal, functionTotal, cellLevel, parent, supported, hierarchy}
 use Rattle.grid.proofs.Laws.{lawful, parent-lt}
 use Rattle.mesh.specs.Mesh.{absent, active, refined, deactivated, labels}
-use Rattle.mesh.proofs.Bridge.{Good, check-good, rooted, present-of, active-is, apart-bytes, deactivated-grow}
-use Rattle.outcomes.specs.Calls.{refine, By, cells, functions, eligible, underMarked, selected, changed, Outcome, refused, newCells, outcome}
+use Rattle.mesh.proofs.Bridge.{Good, check-good, rooted, present-of, active-is, apart-bytes, deactivated-grow, refined-not-absent}
+use Rattle.outcomes.specs.Calls.{refine, By, cells, functions, underMarked, selected, changed, Outcome, refused, newCells, outcome}
 use Rattle.outcomes.specs.Printed.{isNew, isActiveCell, isDeactivatedCell, isToDeactivate, isNeighbor, isToDeactivateNear, isToDeactivateBy, isCandidate, isActiveFunction, isDeactivatedFunction, cellsOf, functionsOf, AsPrinted}
 use Rattle.outcomes.proofs.Sets.{differs}
 use Rattle.outcomes.proofs.Marks.{Fits, refusal-e}
 use Rattle.outcomes.proofs.Results.{may, new-good, new-refined, accepted, Made, refusal-of, accepted-as, made, written-take}
 use Rattle.outcomes.proofs.Undo.{elem-changed}
-use Rattle.outcomes.proofs.UndoByFunctions.{closure-is, label-e, label-i, not-label, active-present, active-label, active-not, present-active}
+use Rattle.outcomes.proofs.UndoByFunctions.{closure-is, label-e, label-i, not-label, active-present, active-label, active-not, present-active, marked-done}
 
-apart-absent : (cs : List ℕ) (c : ℕ) → T (absent cs c) → T (refined cs c) → ⊥
-unfolding absent refined
-apart-absent cs c a r = omega (arith, eqb→eq (getD cs c 0) 0 a, eqb→eq (getD cs c 0) 2 r)
-
-active-absent : (cs : List ℕ) (c : ℕ) → T (absent cs c) → T (active cs c) → ⊥
+active-not-absent : (cs : List ℕ) (c : ℕ) → T (absent cs c) → T (active cs c) → ⊥
 unfolding absent active
-active-absent cs c a r = omega (arith, eqb→eq (getD cs c 0) 0 a, eqb→eq (getD cs c 0) 1 r)
+active-not-absent cs c a r = omega (arith, eqb→eq (getD cs c 0) 0 a, eqb→eq (getD cs c 0) 1 r)
 
 -- ---- a mesh cs, a refined mesh cs′, and the list ME of what was refined, all of it active before
 
@@ -82,7 +78,7 @@ module _ (p : Plan) (cs cs′ ME : List ℕ) (G : Good p cs) (N : Good p cs′)
         let gone : T (absent cs c) = cases (absent cs c) (λ h. h) (λ h. absurd (a (not-e (absent cs c) h))) in (
           gone,
           present-active p cs′ N c i (new-i (or-r (eqb (cellLevel p c) 0) _ (and-l (refined cs′ (parent p c)) _ u)))
-              (λ r. active-absent cs c gone (added c i r (apart-absent cs c gone))),
+              (λ r. active-not-absent cs c gone (added c i r (refined-not-absent cs c gone))),
         )
 
     -- and what appears is such a child
@@ -107,12 +103,12 @@ module _ (p : Plan) (cs cs′ ME : List ℕ) (G : Good p cs) (N : Good p cs′)
     active-cell = same _ _
         (λ a. and-i (active cs c || isNew p ME c) _
         (cases (absent cs c)
-        (λ h. or-r (active cs c) _ (born-i h (λ b. active-absent cs′ c b a)))
+        (λ h. or-r (active cs c) _ (born-i h (λ b. active-not-absent cs′ c b a)))
         (λ h. or-l (active cs c) _ (present-active p cs G c i (not-e (absent cs c) h) (λ r. apart-bytes p cs′ N c a (keeps c i r)))))
         (not-i (elem c ME) (λ u. apart-bytes p cs′ N c a (me-e u .0))))
         (λ t. let n = not-e (elem c ME) (and-r (active cs c || isNew p ME c) _ t) in
         or-e (active cs c) (isNew p ME c) (and-l (active cs c || isNew p ME c) _ t)
-        (λ a. present-active p cs′ N c i (stays (λ h. active-absent cs c h a)) (λ r. n (me-i r (apart-bytes p cs G c a))))
+        (λ a. present-active p cs′ N c i (stays (λ h. active-not-absent cs c h a)) (λ r. n (me-i r (apart-bytes p cs G c a))))
         (λ u. born u .1))
 
   -- ---- functions
@@ -141,7 +137,7 @@ module _ (p : Plan) (cs cs′ ME : List ℕ) (G : Good p cs) (N : Good p cs′)
         let (c, i, s, r) = not-label p cs f j n in
         and-i (some (cellTotal p) over) _ (some-i (cellTotal p) over c i (and-i (supported p f c) _ s (me-i c i (all c i s) r)))
         (and-i (active fs f) _
-        (active-label p cs f j (λ c i s a. active-absent cs c a (added c i (all c i s) (apart-absent cs c a))) n)
+        (active-label p cs f j (λ c i s a. active-not-absent cs c a (added c i (all c i s) (refined-not-absent cs c a))) n)
         (not-i (some (cellTotal p) alive) (λ t. let (c, i, u) = some-e (cellTotal p) alive t in
         apart-bytes p cs′ N c (and-r (supported p f c) _ u) (all c i (and-l (supported p f c) _ u)))))
 
@@ -197,7 +193,7 @@ module _ (p : Plan) (cs cs′ ME : List ℕ) (G : Good p cs) (N : Good p cs′)
         let (c, i, u) = some-e (cellTotal p) near (and-l (some (cellTotal p) near) _ t) in
         let w = and-r (not (active fs f)) _ (and-r (some (cellTotal p) near) _ t) in
         active-label p cs′ f j
-        (λ c i s h. or-e (active cs′ c) (refined cs′ c) (implies-e (supported p f c) _ (every-e (cellTotal p) whole w c i) s) (active-absent cs′ c h) (apart-absent cs′ c h))
+        (λ c i s h. or-e (active cs′ c) (refined cs′ c) (implies-e (supported p f c) _ (every-e (cellTotal p) whole w c i) s) (active-not-absent cs′ c h) (refined-not-absent cs′ c h))
         (λ d. apart-bytes p cs′ N c (born c i (and-r (supported p f c) _ u) .1) (label-e p cs′ f j d c i (and-l (supported p f c) _ u)))
 
     pub active-function : active fs′ f ≡ isActiveFunction p cs′ fs ME f
@@ -217,22 +213,11 @@ module _ (p : Plan) (cs cs′ ME : List ℕ) (G : Good p cs) (N : Good p cs′)
         (λ t. falls-i (and-l (deactivated fs′ f) _ t) (not-e (deactivated fs f) (and-r (deactivated fs′ f) _ t)))
         (λ u. and-i (deactivated fs′ f) _ (falls-e u .0) (not-i (deactivated fs f) (falls-e u .1)))
 
-    -- algorithm 5, where the marked functions are active and ME are the active cells under them
-    module _ (marks : List ℕ) (fit : T (elem f marks) → T (active fs f))
+    -- algorithm 5, where the marked functions become deactivated and ME are the active cells under them
+    module _ (marks : List ℕ) (done : T (elem f marks) → T (deactivated fs′ f) × (T (deactivated fs f) → ⊥))
         (means : (c : ℕ) → c < cellTotal p → elem c ME ≡ active cs c && underMarked p marks c) where
       abbrev shared : ℕ → Bool
       shared c = supported p f c && underMarked p marks c
-
-      -- all cells of a marked function become refined
-      marked-starves : T (elem f marks) → T (some (cellTotal p) alive) → ⊥
-      unfolding underMarked
-      marked-starves m t =
-          let (c, i, u) = some-e (cellTotal p) alive t in
-          let s = and-l (supported p f c) _ u in
-          let apart = apart-bytes p cs′ N c (and-r (supported p f c) _ u) in
-          let a = present-active p cs G c i (active-present p cs f j (fit m) c i s) (λ r. apart (keeps c i r)) in
-          let under = some-i (functionTotal p) (λ g. elem g marks && supported p g c) f j (and-i (elem f marks) _ m s) in
-          apart (me-e c i (subst T (sym (means c i)) (and-i (active cs c) _ a under)) .0)
 
       abbrev near₅ : Bool
       near₅ = isNeighbor p marks f && (active fs f && (not (elem f marks) && not (some (cellTotal p) alive)))
@@ -250,7 +235,7 @@ module _ (p : Plan) (cs cs′ ME : List ℕ) (G : Good p cs) (N : Good p cs′)
           (λ u. let v = and-r (isNeighbor p marks f) _ u in
           let a = and-l (active fs f) _ v in
           falls-i (starves a (not-e (some (cellTotal p) alive) (and-r (not (elem f marks)) _ (and-r (active fs f) _ v)))) (active-not p cs f j a))
-          (λ m. falls-i (starves (fit m) (marked-starves m)) (active-not p cs f j (fit m))))
+          (λ m. let (d, n) = done m in falls-i d n))
 
 -- ---- an accepted refinement
 
@@ -292,12 +277,16 @@ module _ (p : Plan) (cs fs marks : List ℕ) (G : Good p cs) (labelled : fs ≡ 
   deactivated-by : (by : By) (fit : (x : ℕ) → T (elem x marks) → Fits refine by p cs fs x) (f : ℕ) → f < functionTotal p
       → isToDeactivate p (newCells refine by p cs fs marks) (labels p cs) (changed (cellTotal p) cs (newCells refine by p cs fs marks)) f
       ≡ isToDeactivateBy by p (newCells refine by p cs fs marks) (labels p cs) (changed (cellTotal p) cs (newCells refine by p cs fs marks)) marks f
-  unfolding isToDeactivateBy eligible selected
+  unfolding isToDeactivateBy selected
   deactivated-by cells fit f j = refl
   deactivated-by functions fit f j =
       near-is p cs (newCells refine functions p cs fs marks) (changed (cellTotal p) cs (newCells refine functions p cs fs marks)) G (new-good refine functions p cs fs marks G fit)
       (keeps-refined functions p cs fs marks G fit) (added-active functions p cs fs marks G fit) (listed-is functions p cs fs marks G fit) f j marks
-      (λ m. subst (λ v. T (active v f)) labelled (fit f m .kind)) (marked-is functions p cs fs marks G fit zero-class)
+      (λ m. becomes m fs labelled fit) (marked-is functions p cs fs marks G fit zero-class)
+    where
+      becomes : T (elem f marks) → (v : List ℕ) → v ≡ labels p cs → ((x : ℕ) → T (elem x marks) → Fits refine functions p cs v x)
+          → T (deactivated (labels p (newCells refine functions p cs v marks)) f) × (T (deactivated (labels p cs) f) → ⊥)
+      becomes m v e = rw e (λ fit. let (_, d, n) = marked-done p zero-class cs marks G fit f m in (d, n))
 
 -- ---- the claim
 

@@ -139,7 +139,7 @@ module _ (p : Plan) (zero-class : p .class ≡ 0) (cs marks : List ℕ) (G : Goo
       (subst (λ X. May coarsen H X c) (sym r) (changed-may H (lawful p (G .range)) (refined cs) M (G .admissible) (G .mesh) refine (may refine functions p cs fs marks G fit) c i u))
 
   -- a marked function is deactivated afterwards, and was not before
-  marked-done : (f : ℕ) → T (elem f marks) → (f < functionTotal p) × T (deactivated fs′ f) × (T (deactivated fs f) → ⊥)
+  pub marked-done : (f : ℕ) → T (elem f marks) → (f < functionTotal p) × T (deactivated fs′ f) × (T (deactivated fs f) → ⊥)
   unfolding eligible selected underMarked
   marked-done f m =
       let k = fit f m in
