@@ -15,6 +15,7 @@ use Rattle.facts.proofs.Numbers.{listed→, →listed, listed-rising}
 use Rattle.hierarchy.specs.Hierarchy.{Cells, closure}
 use Rattle.hierarchy.proofs.Sets.{Inside}
 use Rattle.hierarchy.proofs.Closure.{closure-in, closure-admissible, closure-least}
+use Rattle.hierarchy.proofs.Undo.{refine-keeps}
 use Rattle.grid.specs.declared.Plan.{Plan}
 use Rattle.grid.specs.Plan.{cellTotal, functionTotal, hierarchy}
 use Rattle.grid.proofs.Laws.{lawful}
@@ -64,6 +65,13 @@ module _ (d : Direction) (by : By) (p : Plan) (cs fs marks : List ℕ) (G : Good
   pub new-difference : (c : ℕ) → c < cellTotal p → not (Bool·beq (refined cs c) (refined (newCells d by p cs fs marks) c)) ≡ difference d S R c
   new-difference c i = ap (λ X. not (Bool·beq (S c) (X c))) new-refined
       ∙ difference-is (hierarchy p) (lawful p (G .range)) S M (G .admissible) (G .mesh) d may c i
+
+-- refining keeps what was refined
+pub refining-keeps : (by : By) (p : Plan) (cs fs marks : List ℕ) (G : Good p cs) (fit : (x : ℕ) → T (elem x marks) → Fits refine by p cs fs x)
+    → (c : ℕ) → c < cellTotal p → T (refined cs c) → T (refined (newCells refine by p cs fs marks) c)
+refining-keeps by p cs fs marks G fit c i r =
+    subst (λ X. T (X c)) (sym (new-refined refine by p cs fs marks G fit))
+    (refine-keeps (hierarchy p) (lawful p (G .range)) (refined cs) (selected refine by p cs fs marks) (G .admissible) (G .mesh) (may refine by p cs fs marks G fit) c i r)
 
 -- ---- smallest
 

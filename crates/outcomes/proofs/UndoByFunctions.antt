@@ -24,7 +24,7 @@ use Rattle.outcomes.specs.Calls.{refine, coarsen, cells, functions, elig
 use Rattle.outcomes.specs.Runs.{Tables, LentLists, Call, after, log, backwards, LongEnough, Undone, covered, RefinesByFunctions, end, and}
 use Rattle.outcomes.proofs.Sets.{put, differs, May, changed-may}
 use Rattle.outcomes.proofs.Marks.{Fits}
-use Rattle.outcomes.proofs.Results.{may, new-good, new-refined}
+use Rattle.outcomes.proofs.Results.{may, new-good, new-refined, refining-keeps}
 use Rattle.outcomes.proofs.Runs.{Each, done, next, run-undone}
 use Rattle.outcomes.proofs.Undo.{Undoable, Turn, turn, turn-back, turn-checked, After, as-before, as-made, after-is}
 
@@ -119,11 +119,8 @@ module _ (p : Plan) (zero-class : p .class ≡ 0) (cs marks : List ℕ) (G : Goo
   new-cells : (c : ℕ) → c < cellTotal p → refined new c ≡ refined cs c || M c
   new-cells c i = ap (λ X. X c) (new-refined refine functions p cs fs marks G fit) ∙ closure-is p zero-class cs G (put refine (refined cs) M) c i
 
-  stays : (c : ℕ) → c < cellTotal p → T (refined cs c) → T (refined new c)
-  stays c i r = subst T (sym (new-cells c i)) (or-l (refined cs c) (M c) r)
-
   deactivated-stays : (f : ℕ) → f < functionTotal p → T (deactivated fs f) → T (deactivated fs′ f)
-  deactivated-stays = deactivated-grow p cs new stays
+  deactivated-stays = deactivated-grow p cs new (refining-keeps functions p cs fs marks G fit)
 
   -- what was added was selected, and is reactivable
   added-selected : (c : ℕ) → c < cellTotal p → T (refined new c) → (T (refined cs c) → ⊥) → T (M c)
@@ -224,7 +221,7 @@ module _ (p : Plan) (zero-class : p .class ≡ 0) (cs marks : List ℕ) (G : Goo
           ∙ same _ (refined cs c)
           (λ t. cases (refined cs c) (λ r. r) (λ r. absurd (not-e (back-selected c) (and-r (refined new c) (not (back-selected c)) t)
           (added-back c i (and-l (refined new c) _ t) (not-e (refined cs c) r)))))
-          (λ r. and-i (refined new c) _ (stays c i r) (not-i (back-selected c) (old-not-selected c i r)));
+          (λ r. and-i (refined new c) _ (refining-keeps functions p cs fs marks G fit c i r) (not-i (back-selected c) (old-not-selected c i r)));
     }
 
     -- the premise is kept

@@ -76,7 +76,8 @@ pub record Main : Type 0 where
   pub relabelledCall : (d : Direction) (by : By) (p : Plan) (cs fs marks cl fl : List ℕ) → outcome d by p cs fs marks cl fl .answer .number ≡ 0
       → relabelledBy (outcome d by p cs fs marks cl fl) ≡ relabel p (outcome d by p cs fs marks cl fl .cells) fs fl
   -- Req 04: "Our shapers read along with document 000": the cells and functions of an accepted refinement are those that its algorithms
-  -- 1 to 6 print, its cell list the cells, and its function list the functions, that they deactivate
+  -- 1 to 6 print, its cell list the cells, and its function list the functions, that they deactivate. Where the class is not 0, the cells
+  -- that it adds are among these
   pub printedCall : (by : By) (p : Plan) (cs fs marks cl fl : List ℕ) → outcome refine by p cs fs marks cl fl .answer .number ≡ 0
       → AsPrinted by p cs fs marks (outcome refine by p cs fs marks cl fl)
   -- Document 01: "The area of a wall is A·B·4^(L-1)": what count answers wherever it is not refused
