@@ -1,16 +1,11 @@
 -- One direction: columns (or rows) that grow by a ratio s from level to level, and what division by s does to them. Assumes nothing.
 use Prim.Native.Nat.{ℕ, zero, suc, pred, _+_, _-_, _*_, _/_, _^_, _<_, _≤_}
-use native.Mathlib.Nat.{div-lt-iff-lt-mul, div-div-eq-div-mul, lt-div-mul-add, le-mul-of-pos-right, mul-comm, mul-assoc, pow-suc, le-of-suc-le-suc, one-le-mul, one-le-pow, sub-add-cancel}
+use native.Mathlib.Nat.{div-lt-iff-lt-mul, div-div-eq-div-mul, mul-comm, mul-assoc, pow-suc, one-le-mul, one-le-pow, sub-add-cancel}
 use native.Mathlib.Omega.{arith}
 use mathlib.Core.Path.{_≡_}
 use lib.Arith.{digits-lt}
 use lib.Pow.{pow-add}
 use Rattle.grid.specs.Plan.{grown}
-
--- at most g apart
-pub record Apart (g x y : ℕ) : Type 0 where
-  pub right : x ≤ y + g
-  pub left : y ≤ x + g
 
 module _ (s : ℕ) (positive : 0 < s) where
   pub grown-pos : (b k : ℕ) → 0 < b → 0 < grown s b k
@@ -38,8 +33,15 @@ module _ (s : ℕ) (positive : 0 < s) where
   pub div-swap : (y d : ℕ) → y / s ^ d / s ≡ y / s / s ^ d
   div-swap y d = simp div-div-eq-div-mul (rw (mul-comm (s ^ d)))
 
-  div-reach : (g x y : ℕ) → x ≤ y + g → x / s ≤ y / s + g
-  div-reach g x y h = le-of-suc-le-suc (div-lt-iff-lt-mul positive .1 (omega (arith, lt-div-mul-add {a = y} positive, le-mul-of-pos-right g positive)))
+  -- the columns of the level on one of level 0
+  pub grown-one : (b k : ℕ) → grown s b k ≡ b * grown s 1 k
+  unfolding grown
+  grown-one b k = omega arith
 
-  pub apart-up : (g d x y : ℕ) → Apart g x (y / s ^ d) → Apart g (x / s) (y / s / s ^ d)
-  apart-up g d x y a = rw (← div-swap) (record { right = div-reach g _ _ (a .right); left = div-reach g _ _ (a .left) })
+  pub grown-unit : (k : ℕ) → 0 < k → grown s 1 k ≡ s * grown s 1 (pred k)
+  grown-unit zero z = absurd (omega arith)
+  grown-unit (suc k) z = rw grown-suc (mul-comm (grown s 1 k) s)
+
+  pub grown-more : (b k : ℕ) → 0 < k → grown s b k ≡ grown s b (pred k) * s
+  grown-more b zero z = absurd (omega arith)
+  grown-more b (suc k) z = grown-suc b k

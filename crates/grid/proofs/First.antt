@@ -11,9 +11,12 @@ use Rattle.grid.specs.declared.Side.{Side}
 use Rattle.grid.specs.Plan.{cellTotal, cellPlace, cellNumber, cellLevel, functionPlace, CellInside, acrossAt, upAt, supported, near}
 use Rattle.grid.specs.Range.{InRange, HasNeighbourhood}
 use Rattle.grid.specs.Spans.{ancestorOf}
-use Rattle.grid.specs.Side.{firstOver}
-use Rattle.grid.proofs.Direction.{Apart}
-use Rattle.grid.proofs.Laws.{cell-inside, cell-number-lt, cell-place-number, near-places, near-of}
+use Rattle.grid.specs.Knots.{covers, firstOver}
+use Rattle.grid.specs.Side.{Sized}
+use Rattle.grid.proofs.Rising.{Apart}
+use Rattle.grid.proofs.Knots.{covers-fact, covers-test}
+use Rattle.grid.proofs.SideLaws.{together-fact, together-test}
+use Rattle.grid.proofs.Laws.{across-sized, up-sized, cell-inside, cell-number-lt, cell-place-number, near-places, near-of}
 use Rattle.grid.proofs.Spans.{supported-places, supported-of, ancestor-in}
 
 -- function i is over column x
@@ -37,39 +40,55 @@ pub record Around (p : Plan) (a c : Place) : Type 0 where
   pub columns : Apart (p .«degree_across») (firstOver (acrossAt p (c .level)) (c .column)) (firstOver (acrossAt p (c .level)) (a .column))
   pub rows : Apart (p .«degree_up») (firstOver (upAt p (c .level)) (c .row)) (firstOver (upAt p (c .level)) (a .row))
 
+over-of : (s : Side) → Sized s → (i x : ℕ) → T (covers s i x) → Over s i x
+over-of s sized i x t = let (l, a, b) = covers-fact s sized i x t in record { from = a; to = b }
+
 module _ (p : Plan) (range : InRange p) where
   module _ (f c : ℕ) (b : c < cellTotal p) where
     pub supported-under : T (supported p f c) → Under p (functionPlace p f) (cellPlace p c)
-    unfolding firstOver
     supported-under t =
         let s = supported-places p range f c b t in
         record {
           level = s .level;
-          columns = record { from = s .columns .to; to = s .columns .from };
-          rows = record { from = s .rows .to; to = s .rows .from };
+          columns = over-of _ (across-sized p range _) _ _ (s .columns);
+          rows = over-of _ (up-sized p range _) _ _ (s .rows);
         }
 
     pub under-supported : Under p (functionPlace p f) (cellPlace p c) → T (supported p f c)
-    unfolding firstOver
-    under-supported u = supported-of p range f c b (record {
-      level = u .level;
-      columns = record { from = u .columns .to; to = u .columns .from };
-      rows = record { from = u .rows .to; to = u .rows .from };
-    })
+    under-supported u =
+        let i = cell-inside p range c b in
+        let columns = u .columns in
+        let rows = u .rows in
+        supported-of p range f c (record {
+          level = u .level;
+          columns = covers-test _ (across-sized p range _) _ _ (i .column<) (columns .from) (columns .to);
+          rows = covers-test _ (up-sized p range _) _ _ (i .row<) (rows .from) (rows .to);
+        })
 
   module _ (q c : ℕ) where
     pub near-around : T (near p q c) → Around p (ancestorOf p (cellPlace p q)) (cellPlace p c)
-    unfolding firstOver ancestorOf
+    unfolding ancestorOf
     near-around t =
         let n = near-places p range q c t in
         let g = n .graded in
-        record { level = omega (arith, n .levels); columns = n .columns; rows = n .rows }
+        record {
+          level = omega (arith, n .levels);
+          columns = together-fact _ (across-sized p range _) _ _ (n .columns);
+          rows = together-fact _ (up-sized p range _) _ _ (n .rows);
+        }
 
-    pub around-near : c < cellTotal p → HasNeighbourhood p (cellLevel p q) → Around p (ancestorOf p (cellPlace p q)) (cellPlace p c) → T (near p q c)
-    unfolding firstOver ancestorOf
-    around-near b h a =
-        let e = a .level in
-        near-of p range q c b (record { graded = h .class≢; levels = omega (arith, h .level≥, h .class≢); columns = a .columns; rows = a .rows })
+    pub around-near : q < cellTotal p → c < cellTotal p → HasNeighbourhood p (cellLevel p q) → Around p (ancestorOf p (cellPlace p q)) (cellPlace p c) → T (near p q c)
+    unfolding ancestorOf
+    around-near a b h r =
+        let e = r .level in
+        let i = cell-inside p range c b in
+        let o : CellInside p (ancestorOf p (cellPlace p q)) = ancestor-in p (cellPlace p q) h (cell-inside p range q a) in
+        near-of p range q c b (record {
+          graded = h .class≢;
+          levels = omega (arith, h .level≥, h .class≢);
+          columns = together-test _ (across-sized p range _) _ _ (i .column<) (rw e at (o .column<)) (r .columns);
+          rows = together-test _ (up-sized p range _) _ _ (i .row<) (rw e at (o .row<)) (r .rows);
+        })
 
   -- a function over both a cell and the ancestor of q makes that cell near q: neighbourhoods are wide enough for supports
   pub near-of-common : (f q c : ℕ) → q < cellTotal p → c < cellTotal p → HasNeighbourhood p (cellLevel p q)
@@ -80,7 +99,7 @@ module _ (p : Plan) (range : InRange p) where
       let n : Under p (functionPlace p f) a = rw (cell-place-number p range a b) at (supported-under f (cellNumber p a) (cell-number-lt p range a b) t) in
       let m : Under p (functionPlace p f) (cellPlace p c) = supported-under f c j u in
       let e : a .level ≡ cellLevel p c = sym (n .level) ∙ m .level in
-      around-near q c j has (record {
+      around-near q c i j has (record {
         level = e;
         columns = common _ _ _ _ (m .columns) (rw e at (n .columns));
         rows = common _ _ _ _ (m .rows) (rw e at (n .rows));

@@ -1,11 +1,11 @@
 -- The laws of a plan's grid: numbers and places, parents and children, neighbourhoods. What the theory of meshes knows of the
 -- grid is `lawful`. Assumes nothing.
-use Prim.Native.Nat.{ℕ, suc, pred, _+_, _-_, _%_, _<_, _≤_}
+use Prim.Native.Nat.{ℕ, suc, pred, _+_, _-_, _*_, _/_, _%_, _^_, _<_, _≤_}
 use native.Mathlib.Nat.{mod-lt, div-add-mod'}
 use native.Mathlib.Omega.{arith}
 use mathlib.Core.Bool.{Bool, not, _&&_, _||_}
 use mathlib.Core.Logic.{_≢_}
-use mathlib.Core.Path.{_≡_}
+use mathlib.Core.Path.{_≡_, refl}
 use lib.Dec.{T, leb, ltb, eqb, leb→le, le→leb, eqb→eq, ltb→lt, lt→ltb}
 use lib.Arith.{digits-div}
 use Rattle.facts.proofs.Tests.{and-i, and-l, and-r, or-e, or-l, or-r, cases, not-i, differ, eqb-of}
@@ -13,10 +13,13 @@ use Rattle.hierarchy.proofs.Sets.{Lawful}
 use Rattle.grid.specs.declared.Plan.{Plan}
 use Rattle.grid.specs.declared.Place.{Place}
 use Rattle.grid.specs.Numbering
-use Rattle.grid.specs.Plan.{between, inRange, ratio, columnsAt, functionColumnsAt, cellTotal, functionTotal, cellPlace, cellNumber, functionPlace, functionNumber, CellInside, FunctionInside, above, below, parent, child, apart, ancestor, nearAt, near, hierarchy}
+use Rattle.grid.specs.Plan.{between, numbersInRange, cornersInRange, inRange, ratio, grown, columnsAt, acrossAt, upAt, functionColumnsAt, cellTotal, functionTotal, cellPlace, cellNumber, functionPlace, functionNumber, CellInside, FunctionInside, above, below, parent, child, ancestor, nearAt, near, hierarchy}
 use Rattle.grid.specs.Range.{InRange}
 use Rattle.grid.proofs.Numbering as numbering
-use Rattle.grid.proofs.Direction.{grown-pos, grown-up, grown-down, apart-up, Apart}
+use Rattle.grid.specs.Knots.{together}
+use Rattle.grid.specs.Side.{Sized}
+use Rattle.grid.proofs.Direction.{grown-pos, grown-up, grown-down, grown-one, grown-ancestor, grown-unit, grown-more, div-swap}
+use Rattle.grid.proofs.SideLaws.{together-up}
 
 -- ---- the ranges
 
@@ -31,6 +34,18 @@ between-high lo hi x t = leb→le x hi (and-r (leb lo x) (leb x hi) t)
 pub between-i : (lo hi x : ℕ) → lo ≤ x → x ≤ hi → T (between lo hi x)
 unfolding between
 between-i lo hi x a b = and-i (leb lo x) (leb x hi) (le→leb lo x a) (le→leb x hi b)
+
+pub corners-below : (n bits : ℕ) → T (cornersInRange n bits) → bits < 2 ^ n
+unfolding cornersInRange
+corners-below n bits t = ltb→lt bits (2 ^ n) (and-l (ltb bits (2 ^ n)) _ t)
+
+pub corners-even : (n bits : ℕ) → T (cornersInRange n bits) → bits % 2 ≡ 0
+unfolding cornersInRange
+corners-even n bits t = eqb→eq (bits % 2) 0 (and-r (ltb bits (2 ^ n)) _ t)
+
+pub corners-i : (n bits : ℕ) → bits < 2 ^ n → bits % 2 ≡ 0 → T (cornersInRange n bits)
+unfolding cornersInRange
+corners-i n bits a b = and-i (ltb bits (2 ^ n)) _ (lt→ltb bits (2 ^ n) a) (eqb-of (bits % 2) 0 b)
 
 -- each test of the range, as a fact
 module _ (p : Plan) where
@@ -52,9 +67,17 @@ module _ (p : Plan) where
   abbrev r6 : Bool
   r6 = eqb (p .class) 0 || between 2 8 (p .class)
 
+  abbrev c1 : Bool
+  c1 = cornersInRange (p .columns) (p .«corners_across»)
+
+  abbrev c2 : Bool
+  c2 = cornersInRange (p .rows) (p .«corners_up»)
+
   pub in-range : T (inRange p) → InRange p
-  unfolding inRange
-  in-range t =
+  unfolding inRange numbersInRange
+  in-range u =
+      let t = and-l (numbersInRange p) _ u in
+      let v = and-r (numbersInRange p) (c1 && c2) u in
       let t2 = and-r r1 (r2 && (r3 && (r4 && (r5 && r6)))) t in
       let t3 = and-r r2 (r3 && (r4 && (r5 && r6))) t2 in
       let t4 = and-r r3 (r4 && (r5 && r6)) t3 in
@@ -73,10 +96,23 @@ module _ (p : Plan) where
         up≤ = between-high _ _ _ (and-l r5 r6 t5);
         class≢ = or-e (eqb (p .class) 0) (between 2 8 (p .class)) t6 (λ z. omega (arith, eqb→eq (p .class) 0 z)) (λ b. omega (arith, between-low 2 8 (p .class) b));
         class≤ = or-e (eqb (p .class) 0) (between 2 8 (p .class)) t6 (λ z. omega (arith, eqb→eq (p .class) 0 z)) (λ b. between-high 2 8 (p .class) b);
+        cornersAcross< = corners-below _ _ (and-l c1 c2 v);
+        evenAcross = corners-even _ _ (and-l c1 c2 v);
+        cornersUp< = corners-below _ _ (and-r c1 c2 v);
+        evenUp = corners-even _ _ (and-r c1 c2 v);
       }
 
+  -- what corners are looked at for
+  pub few-columns : T (numbersInRange p) → p .columns ≤ 16
+  unfolding numbersInRange
+  few-columns t = between-high _ _ _ (and-l r1 _ t)
+
+  pub few-rows : T (numbersInRange p) → p .rows ≤ 16
+  unfolding numbersInRange
+  few-rows t = between-high _ _ _ (and-l r2 _ (and-r r1 _ t))
+
   pub range-test : InRange p → T (inRange p)
-  unfolding inRange
+  unfolding inRange numbersInRange
   range-test i =
       let t1 = between-i 1 16 (p .columns) (i .columns≥) (i .columns≤) in
       let t2 = between-i 1 16 (p .rows) (i .rows≥) (i .rows≤) in
@@ -84,7 +120,8 @@ module _ (p : Plan) where
       let t4 = between-i 1 4 (p .«degree_across») (i .across≥) (i .across≤) in
       let t5 = between-i 1 4 (p .«degree_up») (i .up≥) (i .up≤) in
       let t6 : T r6 = cases (eqb (p .class) 0) (λ z. or-l (eqb (p .class) 0) (between 2 8 (p .class)) z) (λ z. or-r (eqb (p .class) 0) (between 2 8 (p .class)) (between-i 2 8 (p .class) (omega (arith, differ (p .class) 0 z, i .class≢)) (i .class≤))) in
-      and-i r1 _ t1 (and-i r2 _ t2 (and-i r3 _ t3 (and-i r4 _ t4 (and-i r5 r6 t5 t6))))
+      and-i (numbersInRange p) _ (and-i r1 _ t1 (and-i r2 _ t2 (and-i r3 _ t3 (and-i r4 _ t4 (and-i r5 r6 t5 t6)))))
+      (and-i c1 c2 (corners-i _ _ (i .cornersAcross<) (i .evenAcross)) (corners-i _ _ (i .cornersUp<) (i .evenUp)))
 
 -- ---- numbers and places, parents and children
 
@@ -200,23 +237,29 @@ module _ (p : Plan) (range : InRange p) where
 
 -- ---- neighbourhoods
 
-pub apart-fact : (g x y : ℕ) → T (apart g x y) → Apart g x y
-unfolding apart
-apart-fact g x y t = record {
-  right = leb→le x (y + g) (and-l (leb x (y + g)) (leb y (x + g)) t);
-  left = leb→le y (x + g) (and-r (leb x (y + g)) (leb y (x + g)) t);
-}
+module _ (p : Plan) (range : InRange p) (k : ℕ) where
+  pub across-sized : Sized (acrossAt p k)
+  across-sized = record {
+    base≥ = range .columns≥;
+    unit≥ = grown-pos (ratio p) (ratio-pos p) 1 k (omega arith);
+    degree≥ = range .across≥;
+    whole = grown-one (ratio p) (ratio-pos p) (p .columns) k;
+  }
 
-pub apart-test : (g x y : ℕ) → Apart g x y → T (apart g x y)
-unfolding apart
-apart-test g x y a = and-i (leb x (y + g)) (leb y (x + g)) (le→leb x (y + g) (a .right)) (le→leb y (x + g) (a .left))
+  pub up-sized : Sized (upAt p k)
+  up-sized = record {
+    base≥ = range .rows≥;
+    unit≥ = grown-pos (ratio p) (ratio-pos p) 1 k (omega arith);
+    degree≥ = range .up≥;
+    whole = grown-one (ratio p) (ratio-pos p) (p .rows) k;
+  }
 
 -- what `nearAt` tests, as facts
 pub record Near (p : Plan) (q c : Place) : Type 0 where
   pub graded : p .class ≢ 0
   pub levels : q .level + 1 ≡ c .level + p .class
-  pub columns : Apart (p .«degree_across») (c .column) (ancestor p (p .class - 1) (q .column))
-  pub rows : Apart (p .«degree_up») (c .row) (ancestor p (p .class - 1) (q .row))
+  pub columns : T (together (acrossAt p (c .level)) (c .column) (ancestor p (p .class - 1) (q .column)))
+  pub rows : T (together (upAt p (c .level)) (c .row) (ancestor p (p .class - 1) (q .row)))
 
 module _ (p : Plan) (q c : Place) where
   abbrev classed : Bool
@@ -226,10 +269,10 @@ module _ (p : Plan) (q c : Place) where
   leveled = eqb (q .level + 1) (c .level + p .class)
 
   abbrev columned : Bool
-  columned = apart (p .«degree_across») (c .column) (ancestor p (p .class - 1) (q .column))
+  columned = together (acrossAt p (c .level)) (c .column) (ancestor p (p .class - 1) (q .column))
 
   abbrev rowed : Bool
-  rowed = apart (p .«degree_up») (c .row) (ancestor p (p .class - 1) (q .row))
+  rowed = together (upAt p (c .level)) (c .row) (ancestor p (p .class - 1) (q .row))
 
   pub near-fact : T (nearAt p q c) → Near p q c
   unfolding nearAt
@@ -239,8 +282,8 @@ module _ (p : Plan) (q c : Place) where
       record {
         graded = differ (p .class) 0 (and-l classed _ t);
         levels = eqb→eq (q .level + 1) (c .level + p .class) (and-l leveled _ u);
-        columns = apart-fact _ _ _ (and-l columned rowed v);
-        rows = apart-fact _ _ _ (and-r columned rowed v);
+        columns = and-l columned rowed v;
+        rows = and-r columned rowed v;
       }
 
   pub near-test : Near p q c → T (nearAt p q c)
@@ -248,20 +291,28 @@ module _ (p : Plan) (q c : Place) where
   near-test n =
       let a : T classed = not-i (eqb (p .class) 0) (λ t. n .graded (eqb→eq (p .class) 0 t)) in
       let b : T leveled = eqb-of _ _ (n .levels) in
-      let d : T columned = apart-test _ _ _ (n .columns) in
-      let e : T rowed = apart-test _ _ _ (n .rows) in
+      let d : T columned = n .columns in
+      let e : T rowed = n .rows in
       and-i classed _ a (and-i leveled _ b (and-i columned rowed d e))
 
-near-above : (p : Plan) (q c : Place) → 0 < c .level → Near p q c → Near p (above p q) (above p c)
+near-above : (p : Plan) → InRange p → (q c : Place) → CellInside p q → CellInside p c → 0 < c .level → Near p q c → Near p (above p q) (above p c)
 unfolding above ancestor
-near-above p q c z n =
+near-above p range q c i j z n =
     let s = n .graded in let l = n .levels in
-    let e : pred (q .level) + 1 ≡ pred (c .level) + p .class = omega arith in
+    let d : q .level - (p .class - 1) ≡ c .level = omega arith in
+    let over : (b x : ℕ) → x < grown (ratio p) b (q .level) → x / ratio p ^ (p .class - 1) < grown (ratio p) b (c .level) =
+    λ b x h. rw d at (grown-ancestor (ratio p) (ratio-pos p) b (q .level) (p .class - 1) x (omega arith) h) in
+    let k : ℕ = pred (c .level) in
+    let e : pred (q .level) + 1 ≡ k + p .class = omega arith in
+    let u = grown-unit (ratio p) (ratio-pos p) (c .level) z in
+    let w : (b : ℕ) → grown (ratio p) b (c .level) ≡ grown (ratio p) b k * ratio p = λ b. grown-more (ratio p) (ratio-pos p) b (c .level) z in
     record {
       graded = s;
       levels = e;
-      columns = apart-up (ratio p) (ratio-pos p) _ _ _ _ (n .columns);
-      rows = apart-up (ratio p) (ratio-pos p) _ _ _ _ (n .rows);
+      columns = rw (← div-swap (ratio p) (ratio-pos p) (q .column) (p .class - 1))
+          (together-up (ratio p) (ratio-pos p) (acrossAt p k) (acrossAt p (c .level)) (across-sized p range k) refl refl u _ _ (across-sized p range (c .level)) (w (p .columns)) (j .column<) (over (p .columns) (q .column) (i .column<)) (n .columns));
+      rows = rw (← div-swap (ratio p) (ratio-pos p) (q .row) (p .class - 1))
+          (together-up (ratio p) (ratio-pos p) (upAt p k) (upAt p (c .level)) (up-sized p range k) refl refl u _ _ (up-sized p range (c .level)) (w (p .rows)) (j .row<) (over (p .rows) (q .row) (i .row<)) (n .rows));
     }
 
 module _ (p : Plan) (range : InRange p) (q c : ℕ) where
@@ -286,7 +337,7 @@ module _ (p : Plan) (range : InRange p) where
       let d : c < cellTotal p = near-in p range q c t in
       near-of p range (parent p q) (parent p c) (parent-lt p range c d z)
       (rw (parent-place p range q b (omega (arith, near-level p range q c t)), parent-place p range c d z)
-      (near-above p (cellPlace p q) (cellPlace p c) z (near-places p range q c t)))
+      (near-above p range (cellPlace p q) (cellPlace p c) (cell-inside p range q b) (cell-inside p range c d) z (near-places p range q c t)))
 
   -- what the theory of meshes knows of the grid
   pub lawful : Lawful (hierarchy p)

@@ -1,7 +1,14 @@
+pub mod AtCorners
 pub mod Computed
 pub mod Numbering
 pub mod Levels
 pub mod Direction
+pub mod Rising
+pub mod Corners
+pub mod Knots
+pub mod Before
+pub mod Turns
+pub mod SideLaws
 pub mod Laws
 pub mod Small
 pub mod Spans
@@ -10,3 +17,4 @@ pub mod Rectangles
 pub mod Sides
 pub mod First
 pub mod LastLevel
+pub mod Results

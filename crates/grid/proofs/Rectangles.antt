@@ -1,7 +1,7 @@
--- Rectangles of a plan's cells: the children and the neighbourhood of a cell are some, and the numbers of a rectangle's cells are counted row by row.
+-- Rectangles of a plan's cells: the support of a function, the children and the neighbourhood of a cell are some, and the numbers of a rectangle's cells are counted row by row.
 -- Assumes nothing.
-use Prim.Native.Nat.{ℕ, suc, pred, min, _+_, _-_, _*_, _/_, _<_, _≤_}
-use native.Mathlib.Nat.{le-min, min-le-right, mod-lt, div-add-mod'}
+use Prim.Native.Nat.{ℕ, suc, pred, _+_, _-_, _*_, _/_, _<_, _≤_}
+use native.Mathlib.Nat.{mod-lt, div-add-mod'}
 use native.Mathlib.Numerals.{add-one}
 use native.Mathlib.Omega.{arith}
 use mathlib.Core.Path.{_≡_, refl, sym, ap, _∙_}
@@ -9,22 +9,17 @@ use lib.Dec.{T}
 use lib.Arith.{digits-div}
 use Rattle.grid.specs.declared.Plan.{Plan}
 use Rattle.grid.specs.declared.Place.{Place}
-use Rattle.grid.specs.declared.Span.{Span}
 use Rattle.grid.specs.declared.Rectangle.{Rectangle}
-use Rattle.grid.specs.Plan.{ratio, grown, columnsAt, rowsAt, cellTotal, cellPlace, cellNumber, cellLevel, CellInside, above, parent}
+use Rattle.grid.specs.Plan.{ratio, grown, columnsAt, rowsAt, acrossAt, upAt, cellTotal, cellPlace, cellNumber, cellLevel, CellInside, FunctionInside, above, parent}
 use Rattle.grid.specs.Range.{InRange, HasNeighbourhood}
-use Rattle.grid.specs.Spans.{inRectangle, aroundSpan, finerSpan, childrenOf, nearLevel, around, ancestorOf, neighbourhood}
+use Rattle.grid.specs.Spans.{inRectangle, supportOf, finerSpan, childrenOf, nearLevel, around, ancestorOf, neighbourhood}
 use Rattle.grid.proofs.Direction.{grown-down}
-use Rattle.grid.proofs.Laws.{ratio-pos, cell-number-lt, cell-number-place, cell-place-number, parent-place}
-use Rattle.grid.proofs.Spans.{InSpan, InRectangle, rectangle-fact, rectangle-test, ancestor-in}
+use Rattle.grid.proofs.SideLaws.{SpanIn, support-span-in, around-span-in}
+use Rattle.grid.proofs.Laws.{ratio-pos, across-sized, up-sized, cell-number-lt, cell-number-place, cell-place-number, parent-place}
+use Rattle.grid.proofs.Spans.{InSpan, InRectangle, rectangle-fact, rectangle-test, ancestor-in, across-functions, up-functions}
 
 abbrev at : ℕ → ℕ → ℕ → Place
 at k r c = record { level = k; row = r; column = c }
-
--- a span of the numbers below n, with at least one
-pub record SpanIn (n : ℕ) (s : Span) : Type 0 where
-  pub some : s .first < s .end
-  pub within : s .end ≤ n
 
 -- a rectangle of the plan's cells
 pub record RectangleIn (p : Plan) (r : Rectangle) : Type 0 where
@@ -114,13 +109,14 @@ module _ (p : Plan) (range : InRange p) (c d : ℕ) (b : c < cellTotal p) (e : d
       } in
       (z, ap (cellNumber p) a ∙ cell-number-place p range c b)
 
--- ---- a neighbourhood
+-- ---- supports and neighbourhoods
 
-around-span-in : (n d x : ℕ) → x < n → SpanIn n (aroundSpan n d x)
-unfolding aroundSpan
-around-span-in n d x l = record {
-  some = le-min {a = x + d + 1} {b = n} (omega arith) (omega arith);
-  within = min-le-right (x + d + 1) n;
+pub support-in : (p : Plan) → InRange p → (x : Place) → FunctionInside p x → RectangleIn p (supportOf p x)
+unfolding supportOf
+support-in p range x i = record {
+  level< = i .level<;
+  rows = support-span-in (upAt p (x .level)) (up-sized p range (x .level)) (x .row) (rw (up-functions p (x .level)) (i .row<));
+  columns = support-span-in (acrossAt p (x .level)) (across-sized p range (x .level)) (x .column) (rw (across-functions p (x .level)) (i .column<));
 }
 
 pub ancestor-level : (p : Plan) (x : Place) → ancestorOf p x .level ≡ nearLevel p (x .level)
@@ -137,6 +133,6 @@ neighbourhood-in p range x has i =
     let j = ancestor-in p x has i in
     record {
       level< = j .level<;
-      rows = around-span-in _ _ _ (j .row<);
-      columns = around-span-in _ _ _ (j .column<);
+      rows = around-span-in _ (up-sized p range _) _ (j .row<);
+      columns = around-span-in _ (across-sized p range _) _ (j .column<);
     }

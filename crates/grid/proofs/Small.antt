@@ -18,6 +18,10 @@ pub grown-small : (p : Plan) {b k : ℕ} → b ≤ 16 → k < 8 → grown (ratio
 unfolding grown ratio
 grown-small p h l = mul-le-mul h (pow-mono {j = 7} (omega arith))
 
+pub unit-small : (p : Plan) {k : ℕ} → k < 8 → grown (ratio p) 1 k ≤ 128
+unfolding grown ratio
+unit-small p l = mul-le-mul (le-refl 1) (pow-mono {j = 7} (omega arith))
+
 -- the columns of the next level on a column of some level, and their end
 pub finer-small : (p : Plan) {b k x s : ℕ} → b ≤ 16 → k < 8 → x < grown (ratio p) b k → s ≡ ratio p → x * s + s ≤ 4096
 unfolding ratio
@@ -44,22 +48,22 @@ module _ (p : Plan) (range : InRange p) (across up : ℕ) (beyond : Beyond acros
   abbrev h : ℕ → ℕ
   h = widened (rowsAt p) up
 
-  pub columns-small : (k : ℕ) → k < p .levels → w k ≤ 2052
+  pub columns-small : (k : ℕ) → k < p .levels → w k ≤ 2097
   columns-small k l = omega (arith, grown-small p {k = k} (range .columns≤) (omega arith))
 
-  pub rows-small : (k : ℕ) → k < p .levels → h k ≤ 2052
+  pub rows-small : (k : ℕ) → k < p .levels → h k ≤ 2097
   rows-small k l = omega (arith, grown-small p {k = k} (range .rows≤) (omega arith))
 
-  pub area-small : (k : ℕ) → k < p .levels → h k * w k ≤ 4210704
+  pub area-small : (k : ℕ) → k < p .levels → h k * w k ≤ 4397409
   area-small k l = mul-le-mul (rows-small k l) (columns-small k l)
 
-  pub offset-small : (k : ℕ) → k ≤ p .levels → offset w h k ≤ 4210704 * k
+  pub offset-small : (k : ℕ) → k ≤ p .levels → offset w h k ≤ 4397409 * k
   unfolding offset
   offset-small zero l = omega arith
   offset-small (suc k) l = omega (arith, offset-small k (omega arith), area-small k l)
 
   -- the sums that make a place's number fit
-  pub number-small : (x : Place) → Inside w h (p .levels) x → number w h x < 33685633
+  pub number-small : (x : Place) → Inside w h (p .levels) x → number w h x < 35179273
   number-small x i = omega (arith, number-lt w h (p .levels) x i, offset-small (p .levels) (le-refl _))
 
   -- one level more, as the code counts

@@ -1,6 +1,6 @@
--- Supports as facts, neighbourhoods as facts and as rectangles; a cell's ancestor lies in its neighbourhood, and no support is empty.
+-- Supports and neighbourhoods, as facts and as rectangles; a cell's ancestor lies in its neighbourhood, and no support is empty.
 -- Assumes nothing.
-use Prim.Native.Nat.{ℕ, min, _+_, _-_, _<_, _≤_}
+use Prim.Native.Nat.{ℕ, _+_, _-_, _<_, _≤_}
 use native.Mathlib.Omega.{arith}
 use mathlib.Core.Bool.{Bool, _&&_}
 use mathlib.Core.Path.{_≡_, refl}
@@ -10,11 +10,14 @@ use Rattle.grid.specs.declared.Plan.{Plan}
 use Rattle.grid.specs.declared.Place.{Place}
 use Rattle.grid.specs.declared.Span.{Span}
 use Rattle.grid.specs.declared.Rectangle.{Rectangle}
-use Rattle.grid.specs.Plan.{ratio, columnsAt, rowsAt, cellTotal, functionTotal, cellPlace, cellNumber, functionPlace, cellLevel, functionLevel, CellInside, FunctionInside, covers, supportedAt, supported, apart, ancestor, nearAt, near}
+use Rattle.grid.specs.Plan.{ratio, acrossAt, upAt, columnsAt, rowsAt, functionColumnsAt, functionRowsAt, cellTotal, functionTotal, cellPlace, cellNumber, functionPlace, cellLevel, functionLevel, CellInside, FunctionInside, supportedAt, supported, ancestor, nearAt, near}
+use Rattle.grid.specs.Knots.{functions, covers, together}
+use Rattle.grid.specs.Side.{supportSpan}
 use Rattle.grid.specs.Range.{InRange, HasNeighbourhood}
-use Rattle.grid.specs.Spans.{inSpan, inRectangle, supportSpan, aroundSpan, supportOf, around, ancestorOf, neighbourhood}
-use Rattle.grid.proofs.Direction.{grown-pos, grown-ancestor}
-use Rattle.grid.proofs.Laws.{ratio-pos, apart-fact, apart-test, Near, near-fact, near-test, near-places, near-of, cell-inside, cell-number-lt, cell-place-number, function-inside}
+use Rattle.grid.specs.Spans.{inSpan, inRectangle, supportOf, around, ancestorOf, neighbourhood}
+use Rattle.grid.proofs.Direction.{grown-ancestor}
+use Rattle.grid.proofs.Laws.{ratio-pos, across-sized, up-sized, Near, near-fact, near-test, near-places, near-of, function-inside, cell-inside, cell-number-lt, cell-place-number}
+use Rattle.grid.proofs.SideLaws.{SpanIn, support-is, support-span-in, around-is, together-self}
 
 -- ---- spans and rectangles
 
@@ -71,137 +74,99 @@ module _ (r : Rectangle) (c : Place) where
 
 -- ---- supports
 
--- function i of degree d covers column c
-pub record Covers (d i c : ℕ) : Type 0 where
-  pub from : i ≤ c + d
-  pub to : c ≤ i
-
--- the code's span is document 01's
-pub span-covers : (n d i c : ℕ) → inSpan (supportSpan n d i) c ≡ covers n d i c
-unfolding supportSpan covers
-span-covers n d i c =
-    same (inSpan (supportSpan n d i) c) (covers n d i c)
-    (λ t. let k = span-fact (supportSpan n d i) c t in let a = k .from in let b = k .to in
-    and-i (leb (i - d) c) (leb c (min (n - 1) i)) (le→leb (i - d) c (omega arith)) (le→leb c (min (n - 1) i) (omega arith)))
-    (λ t. let a = leb→le (i - d) c (and-l (leb (i - d) c) (leb c (min (n - 1) i)) t) in
-    let b = leb→le c (min (n - 1) i) (and-r (leb (i - d) c) (leb c (min (n - 1) i)) t) in
-    span-test (supportSpan n d i) c (omega arith))
-
-module _ (n d i c : ℕ) (inside : c < n) where
-  pub covers-fact : T (covers n d i c) → Covers d i c
-  unfolding covers
-  covers-fact t =
-      let a = leb→le (i - d) c (and-l (leb (i - d) c) (leb c (min (n - 1) i)) t) in
-      let b = leb→le c (min (n - 1) i) (and-r (leb (i - d) c) (leb c (min (n - 1) i)) t) in
-      record { from = omega arith; to = omega arith }
-
-  pub covers-test : Covers d i c → T (covers n d i c)
-  unfolding covers
-  covers-test k = and-i (leb (i - d) c) (leb c (min (n - 1) i)) (le→leb (i - d) c (omega arith)) (le→leb c (min (n - 1) i) (omega arith))
-
-  -- "function i covers columns max(0, i-p) to min(n-1, i)" without the ends of the row
-  pub covers-is : covers n d i c ≡ leb c i && leb i (c + d)
-  covers-is =
-      same (covers n d i c) (leb c i && leb i (c + d))
-      (λ t. let k = covers-fact t in and-i (leb c i) (leb i (c + d)) (le→leb c i (k .to)) (le→leb i (c + d) (k .from)))
-      (λ t. covers-test (record {
-        from = leb→le i (c + d) (and-r (leb c i) (leb i (c + d)) t);
-        to = leb→le c i (and-l (leb c i) (leb i (c + d)) t);
-      }))
-
--- a cell lies in a function's support just where it lies in the rectangle
-pub supported-rectangle : (p : Plan) (f c : Place) → supportedAt p f c ≡ inRectangle (supportOf p f) c
-unfolding supportedAt inRectangle supportOf
-supported-rectangle p f c = simp span-covers
-
 -- what `supportedAt` tests, as facts
 pub record Supported (p : Plan) (f c : Place) : Type 0 where
   pub level : f .level ≡ c .level
-  pub columns : Covers (p .«degree_across») (f .column) (c .column)
-  pub rows : Covers (p .«degree_up») (f .row) (c .row)
+  pub columns : T (covers (acrossAt p (c .level)) (f .column) (c .column))
+  pub rows : T (covers (upAt p (c .level)) (f .row) (c .row))
 
-module _ (p : Plan) (f c : Place) (inside : CellInside p c) where
+module _ (p : Plan) (f c : Place) where
   abbrev level-covered : Bool
   level-covered = eqb (f .level) (c .level)
 
   abbrev columns-covered : Bool
-  columns-covered = covers (columnsAt p (f .level)) (p .«degree_across») (f .column) (c .column)
+  columns-covered = covers (acrossAt p (f .level)) (f .column) (c .column)
 
   abbrev rows-covered : Bool
-  rows-covered = covers (rowsAt p (f .level)) (p .«degree_up») (f .row) (c .row)
+  rows-covered = covers (upAt p (f .level)) (f .row) (c .row)
 
-  pub supported-fact : T (supportedAt p f c) → Supported p f c
+  supported-fact : T (supportedAt p f c) → Supported p f c
   unfolding supportedAt
   supported-fact t =
       let e : f .level ≡ c .level = eqb→eq (f .level) (c .level) (and-l level-covered _ t) in
       let u : T (columns-covered && rows-covered) = and-r level-covered _ t in
-      record {
-        level = e;
-        columns = covers-fact (columnsAt p (f .level)) _ _ _ (rw e (inside .column<)) (and-l columns-covered rows-covered u);
-        rows = covers-fact (rowsAt p (f .level)) _ _ _ (rw e (inside .row<)) (and-r columns-covered rows-covered u);
-      }
+      record { level = e; columns = rw e at (and-l columns-covered rows-covered u); rows = rw e at (and-r columns-covered rows-covered u) }
 
-  pub supported-test : Supported p f c → T (supportedAt p f c)
+  supported-test : Supported p f c → T (supportedAt p f c)
   unfolding supportedAt
   supported-test s =
       let e = s .level in
-      let a : T level-covered = eqb-of _ _ e in
-      let d : T columns-covered = covers-test (columnsAt p (f .level)) _ _ _ (rw e (inside .column<)) (s .columns) in
-      let k : T rows-covered = covers-test (rowsAt p (f .level)) _ _ _ (rw e (inside .row<)) (s .rows) in
-      and-i level-covered _ a (and-i columns-covered rows-covered d k)
-
--- a function with i < n + d has a column: the last that it covers
-covers-last : (n d i : ℕ) → 0 < n → i < n + d → (min (n - 1) i < n) × Covers d i (min (n - 1) i)
-covers-last n d i z h = (omega arith, omega arith)
+      and-i level-covered _ (eqb-of _ _ e) (and-i columns-covered rows-covered (rw e (s .columns)) (rw e (s .rows)))
 
 module _ (p : Plan) (range : InRange p) where
+  -- a cell lies in a function's support just where it lies in the rectangle
+  pub supported-rectangle : (f c : Place) → supportedAt p f c ≡ inRectangle (supportOf p f) c
+  unfolding supportedAt inRectangle supportOf
+  supported-rectangle f c = rw (support-is (acrossAt p (f .level)) (across-sized p range (f .level)) (f .column) (c .column), support-is (upAt p (f .level)) (up-sized p range (f .level)) (f .row) (c .row)) refl
+
   pub supported-places : (f c : ℕ) → c < cellTotal p → T (supported p f c) → Supported p (functionPlace p f) (cellPlace p c)
   unfolding supported
-  supported-places f c b t = supported-fact p (functionPlace p f) (cellPlace p c) (cell-inside p range c b) t
+  supported-places f c b t = supported-fact p (functionPlace p f) (cellPlace p c) t
 
-  pub supported-of : (f c : ℕ) → c < cellTotal p → Supported p (functionPlace p f) (cellPlace p c) → T (supported p f c)
+  pub supported-of : (f c : ℕ) → Supported p (functionPlace p f) (cellPlace p c) → T (supported p f c)
   unfolding supported
-  supported-of f c b s = supported-test p (functionPlace p f) (cellPlace p c) (cell-inside p range c b) s
+  supported-of f c s = supported-test p (functionPlace p f) (cellPlace p c) s
 
   -- the cells of a function's support are those of its rectangle
   pub supported-is : (f c : ℕ) → supported p f c ≡ inRectangle (supportOf p (functionPlace p f)) (cellPlace p c)
   unfolding supported
-  supported-is f c = supported-rectangle p (functionPlace p f) (cellPlace p c)
+  supported-is f c = supported-rectangle (functionPlace p f) (cellPlace p c)
 
-  -- no function's support is empty
-  pub support-some : (f : ℕ) → f < functionTotal p → (c : ℕ) × (c < cellTotal p) × T (supported p f c)
-  support-some f b = (cellNumber p x, cell-number-lt p range x i, supported-of f (cellNumber p x) (cell-number-lt p range x i) (rw (cell-place-number p range x i) s))
-    where
-      k : ℕ
-      k = functionLevel p f
+-- how many functions a level has across and up
+pub across-functions : (p : Plan) (k : ℕ) → functions (acrossAt p k) ≡ functionColumnsAt p k
+unfolding functions
+across-functions p k = refl
 
-      inside : FunctionInside p (functionPlace p f)
-      inside = function-inside p range f b
+pub up-functions : (p : Plan) (k : ℕ) → functions (upAt p k) ≡ functionRowsAt p k
+unfolding functions
+up-functions p k = refl
 
-      across : (min (columnsAt p k - 1) (functionPlace p f .column) < columnsAt p k) × Covers (p .«degree_across») (functionPlace p f .column) (min (columnsAt p k - 1) (functionPlace p f .column))
-      across = covers-last (columnsAt p k) (p .«degree_across») (functionPlace p f .column) (grown-pos (ratio p) (ratio-pos p) (p .columns) k (range .columns≥)) (inside .column<)
+-- no function's support is empty
+pub support-some : (p : Plan) (range : InRange p) (f : ℕ) → f < functionTotal p → (c : ℕ) × (c < cellTotal p) × T (supported p f c)
+support-some p range f b = (cellNumber p x, cell-number-lt p range x i, supported-of p range f (cellNumber p x) (rw (cell-place-number p range x i) s))
+  where
+    k : ℕ
+    k = functionLevel p f
 
-      up : (min (rowsAt p k - 1) (functionPlace p f .row) < rowsAt p k) × Covers (p .«degree_up») (functionPlace p f .row) (min (rowsAt p k - 1) (functionPlace p f .row))
-      up = covers-last (rowsAt p k) (p .«degree_up») (functionPlace p f .row) (grown-pos (ratio p) (ratio-pos p) (p .rows) k (range .rows≥)) (inside .row<)
+    at : FunctionInside p (functionPlace p f)
+    at = function-inside p range f b
 
-      x : Place
-      x = record { level = k; row = min (rowsAt p k - 1) (functionPlace p f .row); column = min (columnsAt p k - 1) (functionPlace p f .column) }
+    across : SpanIn (columnsAt p k) (supportSpan (acrossAt p k) (functionPlace p f .column))
+    across = support-span-in (acrossAt p k) (across-sized p range k) (functionPlace p f .column) (rw (across-functions p k) (at .column<))
 
-      i : CellInside p x
-      i = record { level< = inside .level<; row< = up .0; column< = across .0 }
+    up : SpanIn (rowsAt p k) (supportSpan (upAt p k) (functionPlace p f .row))
+    up = support-span-in (upAt p k) (up-sized p range k) (functionPlace p f .row) (rw (up-functions p k) (at .row<))
 
-      s : Supported p (functionPlace p f) x
-      s = record { level = refl; columns = across .1; rows = up .1 }
+    x : Place
+    x = record { level = k; row = supportSpan (upAt p k) (functionPlace p f .row) .first; column = supportSpan (acrossAt p k) (functionPlace p f .column) .first }
+
+    i : CellInside p x
+    i = record { level< = at .level<; row< = omega (arith, up .some, up .within); column< = omega (arith, across .some, across .within) }
+
+    first-column : InSpan (supportSpan (acrossAt p k) (functionPlace p f .column)) (x .column)
+    first-column = omega (arith, across .some)
+
+    first-row : InSpan (supportSpan (upAt p k) (functionPlace p f .row)) (x .row)
+    first-row = omega (arith, up .some)
+
+    s : Supported p (functionPlace p f) x
+    s = record {
+      level = refl;
+      columns = rw (support-is (acrossAt p k) (across-sized p range k) (functionPlace p f .column) (x .column)) at (span-test _ _ first-column);
+      rows = rw (support-is (upAt p k) (up-sized p range k) (functionPlace p f .row) (x .row)) at (span-test _ _ first-row);
+    }
 
 -- ---- neighbourhoods
-
--- of n columns, the span around y has those that differ by at most d from y
-pub span-apart : (n d x y : ℕ) → x < n → inSpan (aroundSpan n d y) x ≡ apart d x y
-unfolding aroundSpan
-span-apart n d x y h =
-    same (inSpan (aroundSpan n d y) x) (apart d x y)
-    (λ t. let i = span-fact (aroundSpan n d y) x t in let a = i .from in let b = i .to in apart-test d x y (omega arith))
-    (λ t. let a = apart-fact d x y t in span-test (aroundSpan n d y) x (omega arith))
 
 -- a cell's ancestor is a cell
 pub ancestor-in : (p : Plan) (q : Place) → HasNeighbourhood p (q .level) → CellInside p q → CellInside p (ancestorOf p q)
@@ -219,7 +184,7 @@ ancestor-in p q g i =
 pub near-has : (p : Plan) (q c : Place) → Near p q c → HasNeighbourhood p (q .level)
 near-has p q c n = let l = n .levels in record { class≢ = n .graded; level≥ = omega arith }
 
-module _ (p : Plan) (q c : Place) (has : HasNeighbourhood p (q .level)) (inside : CellInside p c) where
+module _ (p : Plan) (range : InRange p) (q c : Place) (has : HasNeighbourhood p (q .level)) (at : CellInside p q) (inside : CellInside p c) where
   -- a cell is in the neighbourhood of q just where it lies in the rectangle
   pub near-rectangle : nearAt p q c ≡ inRectangle (neighbourhood p q) c
   unfolding neighbourhood around ancestorOf
@@ -228,11 +193,14 @@ module _ (p : Plan) (q c : Place) (has : HasNeighbourhood p (q .level)) (inside 
       k : ℕ
       k = q .level - (p .class - 1)
 
-      columns : k ≡ c .level → inSpan (neighbourhood p q .columns) (c .column) ≡ apart (p .«degree_across») (c .column) (ancestor p (p .class - 1) (q .column))
-      columns e = span-apart (columnsAt p k) _ _ _ (rw e (inside .column<))
+      own : CellInside p (ancestorOf p q)
+      own = ancestor-in p q has at
 
-      rows : k ≡ c .level → inSpan (neighbourhood p q .rows) (c .row) ≡ apart (p .«degree_up») (c .row) (ancestor p (p .class - 1) (q .row))
-      rows e = span-apart (rowsAt p k) _ _ _ (rw e (inside .row<))
+      columns : k ≡ c .level → inSpan (neighbourhood p q .columns) (c .column) ≡ together (acrossAt p (c .level)) (c .column) (ancestor p (p .class - 1) (q .column))
+      columns e = rw e (around-is (acrossAt p (c .level)) (across-sized p range (c .level)) _ _ (rw e at (own .column<)) (inside .column<))
+
+      rows : k ≡ c .level → inSpan (neighbourhood p q .rows) (c .row) ≡ together (upAt p (c .level)) (c .row) (ancestor p (p .class - 1) (q .row))
+      rows e = rw e (around-is (upAt p (c .level)) (up-sized p range (c .level)) _ _ (rw e at (own .row<)) (inside .row<))
 
       to : T (nearAt p q c) → T (inRectangle (neighbourhood p q) c)
       to t =
@@ -240,8 +208,8 @@ module _ (p : Plan) (q c : Place) (has : HasNeighbourhood p (q .level)) (inside 
           let e : k ≡ c .level = omega (arith, n .levels) in
           rectangle-test (neighbourhood p q) c (record {
             level = e;
-            columns = span-fact _ _ (rw (columns e) (apart-test _ _ _ (n .columns)));
-            rows = span-fact _ _ (rw (rows e) (apart-test _ _ _ (n .rows)));
+            columns = span-fact _ _ (rw (columns e) (n .columns));
+            rows = span-fact _ _ (rw (rows e) (n .rows));
           })
 
       from : T (inRectangle (neighbourhood p q) c) → T (nearAt p q c)
@@ -251,16 +219,17 @@ module _ (p : Plan) (q c : Place) (has : HasNeighbourhood p (q .level)) (inside 
           near-test p q c (record {
             graded = has .class≢;
             levels = omega arith;
-            columns = apart-fact _ _ _ (rw (columns e) at (span-test _ _ (i .columns)));
-            rows = apart-fact _ _ _ (rw (rows e) at (span-test _ _ (i .rows)));
+            columns = rw (columns e) at (span-test _ _ (i .columns));
+            rows = rw (rows e) at (span-test _ _ (i .rows));
           })
 
 -- a cell's own ancestor is in its neighbourhood
-pub near-ancestor : (p : Plan) (q : Place) → HasNeighbourhood p (q .level) → T (nearAt p q (ancestorOf p q))
+pub near-ancestor : (p : Plan) → InRange p → (q : Place) → HasNeighbourhood p (q .level) → CellInside p q → T (nearAt p q (ancestorOf p q))
 unfolding ancestorOf
-near-ancestor p q has =
+near-ancestor p range q has i =
+    let a = ancestor-in p q has i in
     let l : q .level + 1 ≡ q .level - (p .class - 1) + p .class = omega arith in
-    near-test p q (ancestorOf p q) (record { graded = has .class≢; levels = l; columns = omega arith; rows = omega arith })
+    near-test p q (ancestorOf p q) (record { graded = has .class≢; levels = l; columns = together-self _ (across-sized p range _) _ (a .column<); rows = together-self _ (up-sized p range _) _ (a .row<) })
 
 module _ (p : Plan) (range : InRange p) (q c : ℕ) where
   pub near-neighbourhood : T (near p q c) → HasNeighbourhood p (cellLevel p q)
@@ -269,11 +238,11 @@ module _ (p : Plan) (range : InRange p) (q c : ℕ) where
   -- the cells near q are those of its rectangle
   pub near-is : q < cellTotal p → c < cellTotal p → HasNeighbourhood p (cellLevel p q) → near p q c ≡ inRectangle (neighbourhood p (cellPlace p q)) (cellPlace p c)
   unfolding near
-  near-is a b has = rw (T-true (ltb c (cellTotal p)) (lt→ltb c (cellTotal p) b)) (near-rectangle p (cellPlace p q) (cellPlace p c) has (cell-inside p range c b))
+  near-is a b has = rw (T-true (ltb c (cellTotal p)) (lt→ltb c (cellTotal p) b)) (near-rectangle p range (cellPlace p q) (cellPlace p c) has (cell-inside p range q a) (cell-inside p range c b))
 
 pub near-own : (p : Plan) (range : InRange p) (q : ℕ) → q < cellTotal p → HasNeighbourhood p (cellLevel p q) → T (near p q (cellNumber p (ancestorOf p (cellPlace p q))))
 near-own p range q b has =
     let x : Place = ancestorOf p (cellPlace p q) in
     let i : CellInside p x = ancestor-in p (cellPlace p q) has (cell-inside p range q b) in
     near-of p range q (cellNumber p x) (cell-number-lt p range x i)
-    (rw (cell-place-number p range x i) (near-fact p (cellPlace p q) x (near-ancestor p (cellPlace p q) has)))
+    (rw (cell-place-number p range x i) (near-fact p (cellPlace p q) x (near-ancestor p range (cellPlace p q) has (cell-inside p range q b))))

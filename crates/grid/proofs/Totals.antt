@@ -11,9 +11,11 @@ use Rattle.facts.proofs.Tests.{and-i, implies-e}
 use Rattle.grid.specs.declared.Plan.{Plan}
 use Rattle.grid.specs.Numbering.{offset}
 use Rattle.grid.specs.Plan.{ratio, grown, columnsAt, rowsAt, functionColumnsAt, functionRowsAt, cellOffset, cellTotal, functionTotal}
+use Rattle.grid.specs.Knots.{isSet, cornersTo, beyond}
 use Rattle.grid.specs.Range.{InRange}
 use Rattle.grid.specs.Bounds.{mostCells, mostFunctions, mostNear}
 use Rattle.grid.proofs.Numbering.{level-ends}
+use Rattle.grid.proofs.Knots.{corners-le}
 
 -- ---- T = A·B·(4^L - 1)/3
 
@@ -39,20 +41,39 @@ cells-closed p k = omega (arith, closed 2 2 (p .columns) (p .rows) k)
 pub cell-total : (p : Plan) → cellTotal p ≡ p .columns * p .rows * (4 ^ p .levels - 1) / 3
 cell-total p = sym (div-eq-of-eq-mul-right (lit≤ tt) (rw mul-sub (omega (arith, cells-closed p (p .levels)))))
 
--- ---- the largest F by the largest T: F grows with the degrees, and at degree 4 each shape is tried
+-- ---- the largest F by the largest T: F grows with the degrees and the corners, and with the most of both each shape is tried
 
 offset-le : (w h u v : ℕ → ℕ) → ((k : ℕ) → w k ≤ u k) → ((k : ℕ) → h k ≤ v k) → (k : ℕ) → offset w h k ≤ offset u v k
 unfolding offset
 offset-le w h u v f g zero = omega arith
 offset-le w h u v f g (suc k) = omega (arith, offset-le w h u v f g k, mul-le-mul (g k) (f k))
 
--- a plan of this shape, of degree 4
+-- the most functions that a row of a columns can have: degree 4, and a corner on each inner line
+abbrev most : ℕ → ℕ → ℕ
+most a k = grown 2 a k + (4 + 3 * (a - 1))
+
+-- a plan of this shape, of degree 4, with all corners
 abbrev shape : ℕ → ℕ → ℕ → Plan
-shape L a b = record { columns = a; rows = b; levels = L; «degree_across» = 4; «degree_up» = 4; class = 0 }
+shape L a b = record {
+  columns = a;
+  rows = b;
+  levels = L;
+  «degree_across» = 4;
+  «degree_up» = 4;
+  class = 0;
+  «corners_across» = 2 ^ a - 2;
+  «corners_up» = 2 ^ b - 2;
+}
+
+beyond-most : (degree corners base : ℕ) → degree ≤ 4 → beyond degree corners base ≤ 4 + 3 * (base - 1)
+unfolding beyond
+beyond-most degree corners base d =
+    let h : degree - 1 ≤ 3 = omega arith in
+    omega (arith, mul-le-mul h (corners-le corners (base - 1)))
 
 -- where such a plan has at most `limit` cells, it has at most `bound` functions
 unfoldable fits : ℕ → ℕ → ℕ → ℕ → ℕ → Bool
-fits limit bound L a b = implies (leb 1 a && (leb 1 b && leb (cellTotal (shape L a b)) limit)) (leb (functionTotal (shape L a b)) bound)
+fits limit bound L a b = implies (leb 1 a && (leb 1 b && leb (cellTotal (shape L a b)) limit)) (leb (offset (most a) (most b) L) bound)
 
 abbrev rowsFit : ℕ → ℕ → ℕ → ℕ → Bool
 rowsFit limit bound L a = every 17 (fits limit bound L a)
@@ -61,7 +82,7 @@ abbrev shapesFit : ℕ → ℕ → ℕ → Bool
 shapesFit limit bound L = every 17 (rowsFit limit bound L)
 
 module _ (limit bound : ℕ) (all-fit : T (every 9 (shapesFit limit bound))) where
-  fits-fact : (L a b : ℕ) → T (fits limit bound L a b) → 1 ≤ a → 1 ≤ b → cellTotal (shape L a b) ≤ limit → functionTotal (shape L a b) ≤ bound
+  fits-fact : (L a b : ℕ) → T (fits limit bound L a b) → 1 ≤ a → 1 ≤ b → cellTotal (shape L a b) ≤ limit → offset (most a) (most b) L ≤ bound
   unfolding fits
   fits-fact L a b t x y m =
       leb→le _ _ (implies-e (leb 1 a && (leb 1 b && leb (cellTotal (shape L a b)) limit)) _ t
@@ -70,12 +91,11 @@ module _ (limit bound : ℕ) (all-fit : T (every 9 (shapesFit limit bound))) whe
   functions-within : (p : Plan) → InRange p → cellTotal p ≤ limit → functionTotal p ≤ bound
   unfolding ratio
   functions-within p r m =
-      let s : Plan = shape (p .levels) (p .columns) (p .rows) in
       let f1 = every-e 9 (shapesFit limit bound) all-fit (p .levels) (omega arith) in
       let f2 = every-e 17 (rowsFit limit bound (p .levels)) f1 (p .columns) (omega arith) in
       let f3 = every-e 17 (fits limit bound (p .levels) (p .columns)) f2 (p .rows) (omega arith) in
       le-trans
-      (offset-le (functionColumnsAt p) (functionRowsAt p) (functionColumnsAt s) (functionRowsAt s) (λ k. omega arith) (λ k. omega arith) (p .levels))
+      (offset-le (functionColumnsAt p) (functionRowsAt p) (most (p .columns)) (most (p .rows)) (λ k. omega (arith, beyond-most (p .«degree_across») (p .«corners_across») (p .columns) (r .across≤))) (λ k. omega (arith, beyond-most (p .«degree_up») (p .«corners_up») (p .rows) (r .up≤))) (p .levels))
       (fits-fact (p .levels) (p .columns) (p .rows) f3 (r .columns≥) (r .rows≥) m)
 
 pub functions-bound : (p : Plan) → InRange p → cellTotal p ≤ mostCells → functionTotal p ≤ mostFunctions
@@ -83,21 +103,29 @@ unfolding every fits offset grown ratio
 functions-bound = functions-within mostCells mostFunctions tt
 
 -- the session program's walls have at most 4,096 cells
-pub session-functions-bound : (p : Plan) → InRange p → cellTotal p ≤ 4096 → functionTotal p ≤ 5784
+pub session-functions-bound : (p : Plan) → InRange p → cellTotal p ≤ 4096 → functionTotal p ≤ 18001
 unfolding every fits offset grown ratio
-session-functions-bound = functions-within 4096 5784 tt
+session-functions-bound = functions-within 4096 18001 tt
 
--- and no smaller bound holds: 16 1 6 of degree 4 has as many
+-- and no smaller bounds hold: 16 16 4 and 15 13 3 of degree 4, with all corners, have as many
 pub functions-reached : (p : Plan) × InRange p × (cellTotal p ≤ mostCells) × (functionTotal p ≡ mostFunctions)
-unfolding offset grown ratio
-functions-reached = (shape 6 16 1, omega arith, lit≤ tt, refl)
+unfolding offset grown ratio beyond cornersTo isSet
+functions-reached = (shape 4 16 16, omega arith, lit≤ tt, refl)
 
--- ---- one level with twice the degrees more columns and rows than cells: the tables of windows
+pub session-functions-reached : (p : Plan) × InRange p × (cellTotal p ≤ 4096) × (functionTotal p ≡ 18001)
+unfolding offset grown ratio beyond cornersTo isSet
+session-functions-reached = (shape 3 15 13, omega arith, lit≤ tt, refl)
+
+-- ---- one level with a place for each first function, and twice the degrees more: the tables of windows
+
+-- of n columns, a on level 0: three functions more begin at each corner, and 8 is twice the greatest degree
+abbrev pub spacious : ℕ → ℕ → ℕ
+spacious a n = n + 3 * (a - 1) + 8
 
 -- each level of which the level `finer` levels down has at most so many cells is tried
 unfoldable tried : ℕ → ℕ → ℕ → ℕ → ℕ → ℕ → Bool
 tried finer bound s k a b =
-    implies (leb 1 a && (leb 1 b && leb (grown s b (k + finer) * grown s a (k + finer)) mostCells)) (leb ((grown s b k + 8) * (grown s a k + 8)) bound)
+    implies (leb 1 a && (leb 1 b && leb (grown s b (k + finer) * grown s a (k + finer)) mostCells)) (leb (spacious b (grown s b k) * spacious a (grown s a k)) bound)
 
 abbrev triedRow : ℕ → ℕ → ℕ → ℕ → ℕ → Bool
 triedRow finer bound s k a = every 17 (tried finer bound s k a)
@@ -106,13 +134,13 @@ abbrev triedLevel : ℕ → ℕ → ℕ → ℕ → Bool
 triedLevel finer bound s k = every 17 (triedRow finer bound s k)
 
 module _ (finer bound : ℕ) (p : Plan) (all-tried : T (every 8 (triedLevel finer bound (ratio p)))) where
-  tried-fact : (s k a b : ℕ) → T (tried finer bound s k a b) → 1 ≤ a → 1 ≤ b → grown s b (k + finer) * grown s a (k + finer) ≤ mostCells → (grown s b k + 8) * (grown s a k + 8) ≤ bound
+  tried-fact : (s k a b : ℕ) → T (tried finer bound s k a b) → 1 ≤ a → 1 ≤ b → grown s b (k + finer) * grown s a (k + finer) ≤ mostCells → spacious b (grown s b k) * spacious a (grown s a k) ≤ bound
   unfolding tried
   tried-fact s k a b t x y l =
       leb→le _ _ (implies-e (leb 1 a && (leb 1 b && leb (grown s b (k + finer) * grown s a (k + finer)) mostCells)) _ t
       (and-i (leb 1 a) _ (le→leb 1 a x) (and-i (leb 1 b) _ (le→leb 1 b y) (le→leb _ _ l))))
 
-  level-within : InRange p → cellTotal p ≤ mostCells → (k : ℕ) → k + finer < p .levels → (rowsAt p k + 8) * (columnsAt p k + 8) ≤ bound
+  level-within : InRange p → cellTotal p ≤ mostCells → (k : ℕ) → k + finer < p .levels → spacious (p .rows) (rowsAt p k) * spacious (p .columns) (columnsAt p k) ≤ bound
   level-within r m k l =
       let s = ratio p in
       let e = level-ends (columnsAt p) (rowsAt p) (k + finer) (p .levels) l in
@@ -121,11 +149,11 @@ module _ (finer bound : ℕ) (p : Plan) (all-tried : T (every 8 (triedLevel fine
       let t3 = every-e 17 (tried finer bound s k (p .columns)) t2 (p .rows) (omega (arith, r .rows≤)) in
       tried-fact s k (p .columns) (p .rows) t3 (r .columns≥) (r .rows≥) (omega arith)
 
-pub windows-bound : (p : Plan) → InRange p → cellTotal p ≤ mostCells → (k : ℕ) → k < p .levels → (rowsAt p k + 8) * (columnsAt p k + 8) ≤ mostFunctions
+pub windows-bound : (p : Plan) → InRange p → cellTotal p ≤ mostCells → (k : ℕ) → k < p .levels → spacious (p .rows) (rowsAt p k) * spacious (p .columns) (columnsAt p k) ≤ mostFunctions
 unfolding every tried grown ratio
 windows-bound p r m k l = level-within 0 mostFunctions p tt r m k (omega arith)
 
 -- neighbourhoods lie on levels with two finer ones: those of cells that have children, and one more for the class
-pub near-bound : (p : Plan) → InRange p → cellTotal p ≤ mostCells → (k : ℕ) → k + 2 < p .levels → (rowsAt p k + 8) * (columnsAt p k + 8) ≤ mostNear
+pub near-bound : (p : Plan) → InRange p → cellTotal p ≤ mostCells → (k : ℕ) → k + 2 < p .levels → spacious (p .rows) (rowsAt p k) * spacious (p .columns) (columnsAt p k) ≤ mostNear
 unfolding every tried grown ratio
 near-bound p r m k l = level-within 2 mostNear p tt r m k l

@@ -7,9 +7,9 @@ mostCells = 21845
 
 -- the most functions of a plan with at most so many cells: proved, and reached, in proofs/Totals.antt
 abbrev pub mostFunctions : ℕ
-mostFunctions = 26220
+mostFunctions = 54884
 
--- the largest table of neighbourhoods: of a level with two finer ones, with twice the degrees more columns and rows than cells
+-- the largest table of neighbourhoods: of a level with two finer ones, with a place for each first function and twice the degrees more
 -- (proved in the same file)
 abbrev pub mostNear : ℕ
-mostNear = 2176
+mostNear = 7225

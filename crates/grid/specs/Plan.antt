@@ -1,7 +1,7 @@
 -- Document 01, "The plan": ranges, grids, numbering, supports, children and neighbourhoods. Definitions only.
 use mathlib.Core.Bool.{Bool, not, _&&_, _||_}
 use mathlib.Core.List.{List}
-use Prim.Native.Nat.{ℕ, pred, suc, min, _+_, _-_, _*_, _/_, _^_}
+use Prim.Native.Nat.{ℕ, pred, suc, _+_, _-_, _*_, _/_, _%_, _^_}
 use lib.Dec.{leb, ltb, eqb}
 use lib.ListN.{getD}
 use Rattle.hierarchy.specs.Hierarchy.{Hierarchy}
@@ -10,10 +10,11 @@ use Rattle.grid.specs.declared.Place.{Place}
 use Rattle.grid.specs.declared.Side.{Side}
 use Rattle.grid.specs.Numbering
 use Rattle.grid.specs.Bounds.{mostCells}
+use Rattle.grid.specs.Knots.{beyond, covers, together}
 
--- ---- the six numbers
+-- ---- the eight numbers
 
--- a plan of them, in document 01's order: A B L p q m
+-- a plan of them, in document 01's order, A B L p q m, then Req 05's "edges across and up"; numbers left out are 0
 abbrev pub planOf : List ℕ → Plan
 planOf ns = record {
   columns = getD ns 0 0;
@@ -22,6 +23,8 @@ planOf ns = record {
   «degree_across» = getD ns 3 0;
   «degree_up» = getD ns 4 0;
   class = getD ns 5 0;
+  «corners_across» = getD ns 6 0;
+  «corners_up» = getD ns 7 0;
 }
 
 -- x is one of lo to hi
@@ -29,10 +32,17 @@ unfoldable pub between : ℕ → ℕ → ℕ → Bool
 between lo hi x = leb lo x && leb x hi
 
 -- "columns A and rows B (1 to 16), levels L (1 to 8), degree p across and q up (1 to 4), class m (0, or 2 to 8)"
-unfoldable pub inRange : Plan → Bool
-inRange p =
+unfoldable pub numbersInRange : Plan → Bool
+numbersInRange p =
     between 1 16 (p .columns) && (between 1 16 (p .rows) && (between 1 8 (p .levels)
     && (between 1 4 (p .«degree_across») && (between 1 4 (p .«degree_up») && (eqb (p .class) 0 || between 2 8 (p .class))))))
+
+-- Req 05, "a bit outside 1 to A-1 (or B-1) is set", is its opposite: of n columns (or rows), no bit from n on is set, and not bit 0
+unfoldable pub cornersInRange : ℕ → ℕ → Bool
+cornersInRange n bits = ltb bits (2 ^ n) && eqb (bits % 2) 0
+
+unfoldable pub inRange : Plan → Bool
+inRange p = numbersInRange p && (cornersInRange (p .columns) (p .«corners_across») && cornersInRange (p .rows) (p .«corners_up»))
 
 -- ---- levels
 
@@ -51,23 +61,29 @@ columnsAt p = grown (ratio p) (p .columns)
 abbrev pub rowsAt : Plan → ℕ → ℕ
 rowsAt p = grown (ratio p) (p .rows)
 
--- d more on each level: 0 for cells, the degree for functions
+-- d more on each level: 0 for cells
 abbrev pub widened : (ℕ → ℕ) → ℕ → ℕ → ℕ
 widened n d k = n k + d
 
--- "With n columns, a level has n + p functions across. Up is the same with q"
+-- "With n columns, a level has n + p functions across", and "p-1 (or q-1) functions" more "for each corner". "Up is the same with q"
+abbrev pub beyondAcross : Plan → ℕ
+beyondAcross p = beyond (p .«degree_across») (p .«corners_across») (p .columns)
+
+abbrev pub beyondUp : Plan → ℕ
+beyondUp p = beyond (p .«degree_up») (p .«corners_up») (p .rows)
+
 abbrev pub functionColumnsAt : Plan → ℕ → ℕ
-functionColumnsAt p k = columnsAt p k + p .«degree_across»
+functionColumnsAt p k = columnsAt p k + beyondAcross p
 
 abbrev pub functionRowsAt : Plan → ℕ → ℕ
-functionRowsAt p k = rowsAt p k + p .«degree_up»
+functionRowsAt p k = rowsAt p k + beyondUp p
 
 -- a level's directions
 abbrev pub acrossAt : Plan → ℕ → Side
-acrossAt p k = record { cells = columnsAt p k; degree = p .«degree_across» }
+acrossAt p k = record { cells = columnsAt p k; degree = p .«degree_across»; base = p .columns; unit = grown (ratio p) 1 k; corners = p .«corners_across» }
 
 abbrev pub upAt : Plan → ℕ → Side
-upAt p k = record { cells = rowsAt p k; degree = p .«degree_up» }
+upAt p k = record { cells = rowsAt p k; degree = p .«degree_up»; base = p .rows; unit = grown (ratio p) 1 k; corners = p .«corners_up» }
 
 -- ---- numbers and places: "numbered from 0, level by level, row by row"; functions "like cells, with n + p to a row"
 
@@ -132,17 +148,13 @@ parent p c = cellNumber p (above p (cellPlace p c))
 unfoldable pub child : Plan → ℕ → ℕ → ℕ → ℕ
 child p c a b = cellNumber p (below p (cellPlace p c) a b)
 
--- ---- supports: "function i covers columns max(0, i-p) to min(n-1, i)"
-
--- one direction: of n columns, function i of degree d covers column c
-unfoldable pub covers : ℕ → ℕ → ℕ → ℕ → Bool
-covers n d i c = leb (i - d) c && leb c (min (n - 1) i)
+-- ---- supports
 
 -- "A function's support is the rectangle of both", of cells of its own level
 unfoldable pub supportedAt : Plan → Place → Place → Bool
 supportedAt p f c =
     eqb (f .level) (c .level)
-    && (covers (columnsAt p (f .level)) (p .«degree_across») (f .column) (c .column) && covers (rowsAt p (f .level)) (p .«degree_up») (f .row) (c .row))
+    && (covers (acrossAt p (f .level)) (f .column) (c .column) && covers (upAt p (f .level)) (f .row) (c .row))
 
 -- the cell c lies in the support of the function f
 unfoldable pub supported : Plan → ℕ → ℕ → Bool
@@ -150,21 +162,18 @@ supported p f c = supportedAt p (functionPlace p f) (cellPlace p c)
 
 -- ---- neighbourhoods
 
--- x and y differ by at most d
-unfoldable pub apart : ℕ → ℕ → ℕ → Bool
-apart d x y = leb x (y + d) && leb y (x + d)
-
 -- x, d levels up
 unfoldable pub ancestor : Plan → ℕ → ℕ → ℕ
 ancestor p d x = x / ratio p ^ d
 
--- "let a split cell have level j with j-m+1 at least 0. Every cell of level j-m+1 whose column differs by at most p, and row
--- by at most q, from those of its ancestor there .. Those cells are its neighbourhood": the cell at c is in that of the cell at q
+-- "let a split cell have level j with j-m+1 at least 0. Every cell of level j-m+1" that is "covered by a common function of that level",
+-- across and up, with "its ancestor there .. Those cells are its neighbourhood": the cell at c is in that of the cell at q
 unfoldable pub nearAt : Plan → Place → Place → Bool
 nearAt p q c =
     not (eqb (p .class) 0)
     && (eqb (q .level + 1) (c .level + p .class)
-    && (apart (p .«degree_across») (c .column) (ancestor p (p .class - 1) (q .column)) && apart (p .«degree_up») (c .row) (ancestor p (p .class - 1) (q .row))))
+    && (together (acrossAt p (c .level)) (c .column) (ancestor p (p .class - 1) (q .column))
+    && together (upAt p (c .level)) (c .row) (ancestor p (p .class - 1) (q .row))))
 
 unfoldable pub near : Plan → ℕ → ℕ → Bool
 near p q c = ltb c (cellTotal p) && nearAt p (cellPlace p q) (cellPlace p c)

@@ -1,21 +1,22 @@
 // A plan's grids: cells and functions of every level, their numbers and places, supports, parents and neighbourhoods.
 ghost use mathlib.Core.Path.{_≡_};
-ghost use Prim.Native.Nat.{_+_, _-_, _*_, _≤_, _<_};
-ghost use lib.ListN.{length};
+ghost use Prim.Native.Nat.{min, _+_, _-_, _*_, _≤_, _<_};
+ghost use lib.ListN.{getD};
 ghost use Rattle.grid.specs.Numbering.{Inside, offset, number, place};
 ghost use Rattle.grid.specs.Range.{InRange, Beyond, HasNeighbourhood};
-ghost use Rattle.grid.specs.Spans.{supportSpan, aroundSpan, supportOf, childrenOf, around, ancestorOf, neighbourhood};
-ghost use Rattle.grid.specs.Side.{SideIn, functions, firstOver, firsts};
-ghost use Rattle.grid.specs.Plan.{planOf, between, inRange, ratio, grown, widened, columnsAt, rowsAt, acrossAt, upAt, functionColumnsAt, functionRowsAt, cellOffset, functionOffset, cellTotal, functionTotal, tooLarge, cellPlace, cellNumber, functionPlace, functionNumber, CellInside, FunctionInside, cellLevel, above, parent, ancestor};
+ghost use Rattle.grid.specs.Spans.{supportOf, childrenOf, around, ancestorOf, neighbourhood};
+ghost use Rattle.grid.specs.Knots.{isCorner, cornersTo, beyond, functions, firstOver};
+ghost use Rattle.grid.specs.Side.{SideIn, Run, firsts, passed, columnsBefore, supportSpan, aroundSpan};
+ghost use Rattle.grid.specs.Plan.{planOf, between, numbersInRange, cornersInRange, inRange, ratio, grown, widened, columnsAt, rowsAt, acrossAt, upAt, beyondAcross, beyondUp, functionColumnsAt, functionRowsAt, cellOffset, functionOffset, cellTotal, functionTotal, tooLarge, cellPlace, cellNumber, functionPlace, functionNumber, CellInside, FunctionInside, cellLevel, above, parent, ancestor};
 
 // The most cells that a plan may have, the most functions of such a plan, and the largest table of neighbourhoods: what lent tables need.
 pub const MOST_CELLS: usize = 21845;
 
-pub const MOST_FUNCTIONS: usize = 26220;
+pub const MOST_FUNCTIONS: usize = 54884;
 
-pub const MOST_NEAR: usize = 2176;
+pub const MOST_NEAR: usize = 7225;
 
-// Document 01, "The plan": six numbers handed over by value.
+// Document 01, "The plan": six numbers handed over by value. Document 02, Req 05: two more.
 #[repr(C)]
 pub struct Plan {
     // cells across and up of level 0
@@ -26,20 +27,34 @@ pub struct Plan {
     pub degree_up: u32,
     // the admissible class; 0: no condition
     pub class: u32,
+    // corners: bit k marks the level 0 line before column (or row) k, where the knot is repeated as often as the degree says
+    pub corners_across: u32,
+    pub corners_up: u32,
 }
 
-// The plan of its six numbers, in that order.
+// A number of a list, 0 past its end.
+fn number_at(numbers: &[u32], i: usize) -> u32
+    ensures { λ r. ⌜ r ≡ getD (now (numbers .entry)) i 0 ⌝ }
+{
+    if i < numbers.len() {
+        return numbers[i];
+    }
+    0
+}
+
+// The plan of its eight numbers, in that order; those left out are 0.
 pub fn plan_of(numbers: &[u32]) -> Plan
-    requires { ⌜ 6 ≤ length (now numbers) ⌝ }
     ensures { λ r. ⌜ r ≡ planOf (now (numbers .entry)) ⌝ }
 {
     Plan {
-        columns: numbers[0],
-        rows: numbers[1],
-        levels: numbers[2],
-        degree_across: numbers[3],
-        degree_up: numbers[4],
-        class: numbers[5],
+        columns: number_at(numbers, 0),
+        rows: number_at(numbers, 1),
+        levels: number_at(numbers, 2),
+        degree_across: number_at(numbers, 3),
+        degree_up: number_at(numbers, 4),
+        class: number_at(numbers, 5),
+        corners_across: number_at(numbers, 6),
+        corners_up: number_at(numbers, 7),
     }
 }
 
@@ -72,6 +87,11 @@ pub struct Rectangle {
 pub struct Side {
     pub cells: u32,
     pub degree: u32,
+    // columns of level 0, and how many of this level stand on one
+    pub base: u32,
+    pub unit: u32,
+    // bit k: the line before column k of level 0 is a corner
+    pub corners: u32,
 }
 
 // x less d, or 0.
@@ -81,31 +101,41 @@ fn less(x: u32, d: u32) -> u32
     if x < d { 0 } else { x - d }
 }
 
-// One direction: of `count` columns, those that function i of a degree covers.
-fn support(count: u32, degree: u32, i: u32) -> Span
-    requires { ⌜ 0 < count ⌝ }
-    ensures { λ r. ⌜ r ≡ supportSpan count degree i ⌝ }
+fn smaller(a: u32, b: u32) -> u32
+    ensures { λ r. ⌜ r ≡ min a b ⌝ }
 {
-    let first = less(i, degree);
-    if i < count {
-        return Span { first, end: i + 1 };
-    }
-    Span { first, end: count }
+    if a < b { a } else { b }
 }
 
-// One direction: of `count` columns, those at most d from x.
-fn reach(count: u32, d: u32, x: u32) -> Span
-    requires { ⌜ x < count ⌝ }
-    ensures { λ r. ⌜ r ≡ aroundSpan count d x ⌝ }
+// How many corners there are on the level 0 lines 1 to c.
+fn corners_to(corners: u32, c: u32) -> u32
+    requires { ⌜ c < 32 ⌝ }
+    ensures { λ r. ⌜ r ≡ cornersTo corners c ⌝ }
 {
-    let first = less(x, d);
-    if count - x <= d {
-        return Span { first, end: count };
+    u32::count_ones(corners / 2 % (1 << c))
+}
+
+// How many functions there are beyond the columns.
+fn beyond(degree: u32, corners: u32, base: u32) -> u32
+    requires { ⌜ (1 ≤ degree) × (degree ≤ 4) ⌝ }
+    requires { ⌜ (1 ≤ base) × (base ≤ 16) ⌝ }
+    ensures { λ r. ⌜ r ≡ beyond degree corners base ⌝ }
+{
+    degree + (degree - 1) * corners_to(corners, base - 1)
+}
+
+// What a corner on line z makes of a count of columns.
+fn passed(more: u32, z: u32, corner: bool, line: u32) -> u32
+    ensures { λ r. ⌜ r ≡ passed more z corner line ⌝ }
+{
+    if corner & (z < line) {
+        let back = less(line, more);
+        if back < z {
+            return z;
+        }
+        return back;
     }
-    Span {
-        first,
-        end: x + d + 1,
-    }
+    line
 }
 
 // x is one of lo to hi.
@@ -116,21 +146,50 @@ fn between(lo: u32, hi: u32, x: u32) -> bool
 }
 
 impl Side {
+    // Line j lies on a corner.
+    pub fn is_corner(self, j: u32) -> bool
+        requires { ⌜ SideIn self ⌝ }
+        requires { ⌜ j ≤ self .cells ⌝ }
+        ensures { λ r. ⌜ r ≡ isCorner self j ⌝ }
+    {
+        let unit = self.unit;
+        (j % unit == 0) & ((self.corners >> (j / unit)) % 2 == 1)
+    }
+
     // How many functions there are.
     pub fn functions(self) -> u32
         requires { ⌜ SideIn self ⌝ }
         ensures { λ r. ⌜ r ≡ functions self ⌝ }
     {
-        self.cells + self.degree
+        self.cells + beyond(self.degree, self.corners, self.base)
     }
 
-    // The first function over column x.
+    // The first function over column x: without corners x itself.
     pub fn first_over(self, x: u32) -> u32
         requires { ⌜ SideIn self ⌝ }
         requires { ⌜ x < self .cells ⌝ }
         ensures { λ r. ⌜ r ≡ firstOver self x ⌝ }
     {
-        x
+        let degree = self.degree;
+        let unit = self.unit;
+        let corners = self.corners;
+        if corners == 0 {
+            return x;
+        }
+        x + (degree - 1) * corners_to(corners, x / unit)
+    }
+
+    // Where columns end from x on that have no corner between them: within a column of level 0.
+    pub fn run_end(self, x: u32) -> u32
+        requires { ⌜ SideIn self ⌝ }
+        requires { ⌜ x < self .cells ⌝ }
+        ensures { λ r. ⌜ Run self x r ⌝ }
+    {
+        let unit = self.unit;
+        if self.corners == 0 {
+            return self.cells;
+        }
+        (x / unit + 1) * unit
     }
 
     // How many functions there are up to the first over the last column.
@@ -141,17 +200,86 @@ impl Side {
         let degree = self.degree;
         self.functions() - degree
     }
+
+    // How many columns have a first function below j.
+    fn columns_before(self, j: u32) -> u32
+        requires { ⌜ SideIn self ⌝ }
+        ensures { λ r. ⌜ r ≡ columnsBefore self j ⌝ }
+    {
+        let last = self.base - 1;
+        let unit = self.unit;
+        let more = self.degree - 1;
+        let corners = self.corners;
+        let mut line = j;
+        let mut c = 0;
+        while c < last {
+            c += 1;
+            line = passed(more, c * unit, (corners >> c) % 2 == 1, line);
+        }
+        line
+    }
+
+    // The columns that function i covers.
+    fn support(self, i: u32) -> Span
+        requires { ⌜ SideIn self ⌝ }
+        requires { ⌜ i < functions self ⌝ }
+        ensures { λ r. ⌜ r ≡ supportSpan self i ⌝ }
+    {
+        let degree = self.degree;
+        let cells = self.cells;
+        let first = self.columns_before(less(i, degree));
+        let end = self.columns_before(i + 1);
+        Span {
+            first,
+            end: smaller(cells, end),
+        }
+    }
+
+    // The columns under a common function with column x.
+    fn around(self, x: u32) -> Span
+        requires { ⌜ SideIn self ⌝ }
+        requires { ⌜ x < self .cells ⌝ }
+        ensures { λ r. ⌜ r ≡ aroundSpan self x ⌝ }
+    {
+        let degree = self.degree;
+        let cells = self.cells;
+        let over = self.first_over(x);
+        let first = self.columns_before(less(over, degree));
+        let end = self.columns_before(over + degree + 1);
+        Span {
+            first,
+            end: smaller(cells, end),
+        }
+    }
+}
+
+// One direction: no line is marked but those between `count` columns (or rows).
+fn corners_in_range(count: u32, corners: u32) -> bool
+    requires { ⌜ count ≤ 16 ⌝ }
+    ensures { λ r. ⌜ r ≡ cornersInRange count corners ⌝ }
+{
+    (corners < 1 << count) & (corners % 2 == 0)
 }
 
 impl Plan {
-    // Document 01, refusal 1, is its opposite.
-    pub fn in_range(self) -> bool
-        ensures { λ r. ⌜ r ≡ inRange self ⌝ }
+    fn numbers_in_range(self) -> bool
+        ensures { λ r. ⌜ r ≡ numbersInRange self ⌝ }
     {
         let class = (self.class == 0) | between(2, 8, self.class);
         let degrees = between(1, 4, self.degree_across) & (between(1, 4, self.degree_up) & class);
         between(1, 16, self.columns)
             & (between(1, 16, self.rows) & (between(1, 8, self.levels) & degrees))
+    }
+
+    // Document 01, refusal 1, is its opposite.
+    pub fn in_range(self) -> bool
+        ensures { λ r. ⌜ r ≡ inRange self ⌝ }
+    {
+        if self.numbers_in_range() {
+            return corners_in_range(self.columns, self.corners_across)
+                & corners_in_range(self.rows, self.corners_up);
+        }
+        false
     }
 
     // How many columns (or rows) of the next level stand on one. This and the shifts of `grown` and `coarser` are where code knows it.
@@ -170,10 +298,10 @@ impl Plan {
         base << level
     }
 
-    // The same with `more` columns (or rows) than cells: 0 for cells, the degree for functions.
+    // The same with `more` columns (or rows) than cells.
     fn wide(self, base: u32, more: u32, level: u32) -> u32
         requires { ⌜ base ≤ 16 ⌝ }
-        requires { ⌜ more ≤ 4 ⌝ }
+        requires { ⌜ more ≤ 49 ⌝ }
         requires { ⌜ level < 8 ⌝ }
         ensures { λ r. ⌜ r ≡ grown (ratio self) base level + more ⌝ }
     {
@@ -204,12 +332,27 @@ impl Plan {
         self.grown(self.rows, level)
     }
 
+    // How many functions a row, or a column, has beyond its cells, on every level.
+    fn beyond_across(self) -> u32
+        requires { ⌜ InRange self ⌝ }
+        ensures { λ r. ⌜ r ≡ beyondAcross self ⌝ }
+    {
+        beyond(self.degree_across, self.corners_across, self.columns)
+    }
+
+    fn beyond_up(self) -> u32
+        requires { ⌜ InRange self ⌝ }
+        ensures { λ r. ⌜ r ≡ beyondUp self ⌝ }
+    {
+        beyond(self.degree_up, self.corners_up, self.rows)
+    }
+
     pub fn function_columns_at(self, level: u32) -> u32
         requires { ⌜ InRange self ⌝ }
         requires { ⌜ level < self .levels ⌝ }
         ensures { λ r. ⌜ r ≡ functionColumnsAt self level ⌝ }
     {
-        self.wide(self.columns, self.degree_across, level)
+        self.wide(self.columns, self.beyond_across(), level)
     }
 
     pub fn function_rows_at(self, level: u32) -> u32
@@ -217,7 +360,7 @@ impl Plan {
         requires { ⌜ level < self .levels ⌝ }
         ensures { λ r. ⌜ r ≡ functionRowsAt self level ⌝ }
     {
-        self.wide(self.rows, self.degree_up, level)
+        self.wide(self.rows, self.beyond_up(), level)
     }
 
     // A level's directions.
@@ -227,8 +370,17 @@ impl Plan {
         ensures { λ r. ⌜ r ≡ acrossAt self level ⌝ }
     {
         let cells = self.columns_at(level);
+        let unit = self.grown(1, level);
         let degree = self.degree_across;
-        Side { cells, degree }
+        let base = self.columns;
+        let corners = self.corners_across;
+        Side {
+            cells,
+            degree,
+            base,
+            unit,
+            corners,
+        }
     }
 
     pub fn up_at(self, level: u32) -> Side
@@ -237,12 +389,21 @@ impl Plan {
         ensures { λ r. ⌜ r ≡ upAt self level ⌝ }
     {
         let cells = self.rows_at(level);
+        let unit = self.grown(1, level);
         let degree = self.degree_up;
-        Side { cells, degree }
+        let base = self.rows;
+        let corners = self.corners_up;
+        Side {
+            cells,
+            degree,
+            base,
+            unit,
+            corners,
+        }
     }
 
     // Cells and functions are numbered by the same functions: `across` and `up` are how many columns and rows a level has beyond those
-    // of cells, 0 for cells and the degrees for functions.
+    // of cells, 0 for cells.
     fn area(self, across: u32, up: u32, level: u32) -> u32
         requires { ⌜ InRange self ⌝ }
         requires { ⌜ Beyond across up ⌝ }
@@ -281,7 +442,7 @@ impl Plan {
         requires { ⌜ level ≤ self .levels ⌝ }
         ensures { λ r. ⌜ r ≡ functionOffset self level ⌝ }
     {
-        self.offset(self.degree_across, self.degree_up, level)
+        self.offset(self.beyond_across(), self.beyond_up(), level)
     }
 
     // T and F.
@@ -365,7 +526,7 @@ impl Plan {
         requires { ⌜ function .0 < functionTotal self ⌝ }
         ensures { λ r. ⌜ r ≡ functionPlace self (function .0) ⌝ }
     {
-        self.place_of(self.degree_across, self.degree_up, function.0)
+        self.place_of(self.beyond_across(), self.beyond_up(), function.0)
     }
 
     pub fn function_number(self, place: Place) -> Function
@@ -373,7 +534,7 @@ impl Plan {
         requires { ⌜ FunctionInside self place ⌝ }
         ensures { λ r. ⌜ r .0 ≡ functionNumber self place ⌝ }
     {
-        Function(self.number_of(self.degree_across, self.degree_up, place))
+        Function(self.number_of(self.beyond_across(), self.beyond_up(), place))
     }
 
     // The place one level up.
@@ -403,14 +564,14 @@ impl Plan {
     // The support of the function at a place.
     pub fn support_of(self, place: Place) -> Rectangle
         requires { ⌜ InRange self ⌝ }
-        requires { ⌜ place .level < self .levels ⌝ }
+        requires { ⌜ FunctionInside self place ⌝ }
         ensures { λ r. ⌜ r ≡ supportOf self place ⌝ }
     {
         let level = place.level;
         let row = place.row;
         let column = place.column;
-        let rows = support(self.rows_at(level), self.degree_up, row);
-        let columns = support(self.columns_at(level), self.degree_across, column);
+        let rows = self.up_at(level).support(row);
+        let columns = self.across_at(level).support(column);
         Rectangle {
             level,
             rows,
@@ -443,7 +604,7 @@ impl Plan {
         }
     }
 
-    // The cells of a cell's own level that are within the degrees of it.
+    // The cells of a cell's own level that a function covers together with it.
     pub fn around(self, place: Place) -> Rectangle
         requires { ⌜ InRange self ⌝ }
         requires { ⌜ CellInside self place ⌝ }
@@ -452,8 +613,8 @@ impl Plan {
         let level = place.level;
         let row = place.row;
         let column = place.column;
-        let rows = reach(self.rows_at(level), self.degree_up, row);
-        let columns = reach(self.columns_at(level), self.degree_across, column);
+        let rows = self.up_at(level).around(row);
+        let columns = self.across_at(level).around(column);
         Rectangle {
             level,
             rows,

@@ -3,13 +3,15 @@ use borrow.Author.Needs.{needs}
 use Rattle.grid.proofs.Sides.{side-same}
 use Rattle.grid.proofs.Plan.across_at.Statement.{statement}
 use Rattle.grid.proofs.Plan.across_at.Tie as tie
-use mathlib.Core.Path.{refl}
 
 columns-at-requires : tie.Need-columns-at-requires
 columns-at-requires c κs = search needs
 
+grown-requires : tie.Need-grown-requires
+grown-requires c κs = search needs
+
 returns : tie.Need-returns
-returns c = side-same (c .columns-at .ensures) refl
+returns c = side-same (c .before .columns-at .ensures) (c .grown .ensures)
 
 pub across-at-spec : {M : Type 1} → statement M
-across-at-spec = tie.close (tie.spec columns-at-requires returns)
+across-at-spec = tie.close (tie.spec columns-at-requires grown-requires returns)

@@ -1,26 +1,29 @@
 -- `Plan::around` meets its contract. Assumes nothing.
-use Rattle.grid.specs.Spans.{around}
+use mathlib.Core.Path.{refl}
+use Prim.Native.Nat.{_-_, _<_}
 use borrow.Author.Needs.{needs}
+use Rattle.grid.proofs.Sides.{across-in, up-in}
+use Rattle.grid.specs.Spans.{around}
 use Rattle.grid.proofs.Plan.around.Statement.{statement}
 use Rattle.grid.proofs.Plan.around.Tie as tie
 
-rows-at-requires : tie.Need-rows-at-requires
-rows-at-requires c κs = search needs
+up-at-requires : tie.Need-up-at-requires
+up-at-requires c κs = search needs
 
-reach-requires : tie.Need-reach-requires
-reach-requires c κs = search needs
+around-requires : tie.Need-around-requires
+around-requires c κs = rw (c .up-at .ensures) (up-in (c .before .args .self) (c .before .pre .0) _ (c .before .pre .1 .level<), c .before .pre .1 .row<)
 
-columns-at-requires : tie.Need-columns-at-requires
-columns-at-requires c κs = search needs
+across-at-requires : tie.Need-across-at-requires
+across-at-requires c κs = search needs
 
-reach-requires-2 : tie.Need-reach-requires-2
-reach-requires-2 c κs = search needs
+around-requires-2 : tie.Need-around-requires-2
+around-requires-2 c κs = rw (c .across-at .ensures) (across-in (c .before .before .before .args .self) (c .before .before .before .pre .0) _ (c .before .before .before .pre .1 .level<), c .before .before .before .pre .1 .column<)
 
 returns : tie.Need-returns
 unfolding around
-returns c = rw (c .before .before .reach .ensures, c .before .before .before .rows-at .ensures, c .reach2 .ensures, c .before .columns-at .ensures)
+returns c = rw (c .before .before .around .ensures, c .before .before .before .up-at .ensures, c .around2 .ensures, c .before .across-at .ensures) refl
 
 pub around-spec : {M : Type 1} → statement M
 around-spec =
     tie.close
-    (tie.spec rows-at-requires reach-requires columns-at-requires reach-requires-2 returns)
+    (tie.spec up-at-requires around-requires across-at-requires around-requires-2 returns)

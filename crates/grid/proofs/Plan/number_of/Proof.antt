@@ -14,7 +14,7 @@ wide-requires c κs = search needs
 offset-requires : tie.Need-offset-requires
 offset-requires c κs = search needs
 
-small : (c : tie.Start) → let a = c .args in number (widened (columnsAt (a .self)) (a .across)) (widened (rowsAt (a .self)) (a .up)) (a .place) < 33685633
+small : (c : tie.Start) → let a = c .args in number (widened (columnsAt (a .self)) (a .across)) (widened (rowsAt (a .self)) (a .up)) (a .place) < 35179273
 small c = number-small (c .args .self) (c .pre .0) (c .args .across) (c .args .up) (c .pre .1 .0) (c .args .place) (c .pre .1 .1)
 
 mul-result : tie.Need-mul-result

@@ -23,7 +23,7 @@ area-requires : tie.Need-area-requires Inv-loop μ-loop
 area-requires c κs = search needs
 
 -- what one turn adds
-turn : (c : tie.After-area Inv-loop μ-loop) → let d = c .before .before in let a = d .before .args in let o = offset (widened (columnsAt (a .self)) (a .across)) (widened (rowsAt (a .self)) (a .up)) in (d .loop .sum + c .area .result ≡ o (d .loop .k + 1)) × (o (d .loop .k + 1) ≤ 4210704 * (d .loop .k + 1))
+turn : (c : tie.After-area Inv-loop μ-loop) → let d = c .before .before in let a = d .before .args in let o = offset (widened (columnsAt (a .self)) (a .across)) (widened (rowsAt (a .self)) (a .up)) in (d .loop .sum + c .area .result ≡ o (d .loop .k + 1)) × (o (d .loop .k + 1) ≤ 4397409 * (d .loop .k + 1))
 turn c =
     let d = c .before .before in let s = d .before in let a = s .args in (
       rw (d .loop .inv .1, c .area .ensures) (sym (offset-next (widened (columnsAt (a .self)) (a .across)) (widened (rowsAt (a .self)) (a .up)) (d .loop .k))),

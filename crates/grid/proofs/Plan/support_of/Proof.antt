@@ -1,33 +1,29 @@
 -- `Plan::support_of` meets its contract. Assumes nothing.
-use Rattle.grid.specs.Plan.{ratio}
-use Rattle.grid.specs.Spans.{supportOf}
-use Rattle.grid.proofs.Direction.{grown-pos}
-use Rattle.grid.proofs.Laws.{ratio-pos}
+use mathlib.Core.Path.{refl}
+use Prim.Native.Nat.{_-_, _<_}
 use borrow.Author.Needs.{needs}
+use Rattle.grid.proofs.Sides.{across-in, up-in, across-functions, up-functions}
+use Rattle.grid.specs.Spans.{supportOf}
 use Rattle.grid.proofs.Plan.support_of.Statement.{statement}
 use Rattle.grid.proofs.Plan.support_of.Tie as tie
 
-rows-at-requires : tie.Need-rows-at-requires
-rows-at-requires c κs = search needs
+up-at-requires : tie.Need-up-at-requires
+up-at-requires c κs = search needs
 
 support-requires : tie.Need-support-requires
-support-requires c κs =
-    let s = c .before in
-    rw (c .rows-at .ensures) (grown-pos (ratio (s .args .self)) (ratio-pos (s .args .self)) (s .args .self .rows) (s .args .place .level) (s .pre .0 .rows≥))
+support-requires c κs = rw (c .up-at .ensures) (up-in (c .before .args .self) (c .before .pre .0) _ (c .before .pre .1 .level<), rw (up-functions (c .before .args .self) (c .before .args .place .level)) (c .before .pre .1 .row<))
 
-columns-at-requires : tie.Need-columns-at-requires
-columns-at-requires c κs = search needs
+across-at-requires : tie.Need-across-at-requires
+across-at-requires c κs = search needs
 
 support-requires-2 : tie.Need-support-requires-2
-support-requires-2 c κs =
-    let s = c .before .before .before in
-    rw (c .columns-at .ensures) (grown-pos (ratio (s .args .self)) (ratio-pos (s .args .self)) (s .args .self .columns) (s .args .place .level) (s .pre .0 .columns≥))
+support-requires-2 c κs = rw (c .across-at .ensures) (across-in (c .before .before .before .args .self) (c .before .before .before .pre .0) _ (c .before .before .before .pre .1 .level<), rw (across-functions (c .before .before .before .args .self) (c .before .before .before .args .place .level)) (c .before .before .before .pre .1 .column<))
 
 returns : tie.Need-returns
 unfolding supportOf
-returns c = rw (c .before .before .support .ensures, c .before .before .before .rows-at .ensures, c .support2 .ensures, c .before .columns-at .ensures)
+returns c = rw (c .before .before .support .ensures, c .before .before .before .up-at .ensures, c .support2 .ensures, c .before .across-at .ensures) refl
 
 pub support-of-spec : {M : Type 1} → statement M
 support-of-spec =
     tie.close
-    (tie.spec rows-at-requires support-requires columns-at-requires support-requires-2 returns)
+    (tie.spec up-at-requires support-requires across-at-requires support-requires-2 returns)

@@ -3,7 +3,8 @@ use mathlib.Core.Path.{ap}
 use Prim.Native.Nat.{_-_}
 use native.Mathlib.Omega.{arith}
 use borrow.Author.Needs.{needs}
-use Rattle.grid.specs.Side.{functions, firsts}
+use Rattle.grid.specs.Knots.{functions, beyond}
+use Rattle.grid.specs.Side.{firsts}
 use Rattle.grid.proofs.Side.firsts.Statement.{statement}
 use Rattle.grid.proofs.Side.firsts.Tie as tie
 
@@ -11,7 +12,7 @@ functions-requires : tie.Need-functions-requires
 functions-requires c κs = search needs
 
 sub-result : tie.Need-sub-result
-unfolding functions
+unfolding functions beyond
 sub-result c = omega (arith, c .functions .ensures)
 
 returns : tie.Need-returns
