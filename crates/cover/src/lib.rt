@@ -7,7 +7,7 @@ ghost use mathlib.Core.Path.{_≡_};
 ghost use mathlib.Core.Bool.{_&&_, cond};
 ghost use Prim.Native.Nat.{_+_, _*_, _≤_, _<_};
 ghost use lib.Dec.{eqb};
-ghost use lib.ListN.{length};
+ghost use lib.ListN.{length, getD};
 ghost use Rattle.facts.specs.Numbers.{tabulate};
 ghost use Rattle.facts.specs.Mapped.{filled};
 ghost use Rattle.grid.specs.Range.{InRange};
@@ -104,7 +104,19 @@ pub fn coarsenable_functions(plan: Plan, functions: &[u8], reactivables: &[u8], 
     );
 }
 
-// A row of cells: the value of each is read at its first function.
+// The first n bytes.
+fn copy_run(from: &[u8], out: &mut [u8], n: usize)
+    requires { ⌜ (n ≤ length (now from)) × (n ≤ length (now out)) ⌝ }
+    ensures { λ _. ⌜ now (out .exit) ≡ filled 0 n (λ i. getD (now (from .entry)) i 0) (now (out .entry)) ⌝ }
+{
+    let mut i = 0;
+    while i < n {
+        out[i] = from[i];
+        i += 1;
+    }
+}
+
+// A row of cells: the value of each is read at its first function. Columns with no corner between them are one run of bytes.
 fn read_row(table: &[u8], out: &mut [u8], across: Side)
     requires { ⌜ SideIn across ⌝ }
     requires { ⌜ (firsts across ≤ length (now table)) × (across .cells ≤ length (now out)) ⌝ }
@@ -113,10 +125,12 @@ fn read_row(table: &[u8], out: &mut [u8], across: Side)
     let end = across.cells;
     let mut column = 0;
     while column < end {
+        let next = across.run_end(column);
         let at = across.first_over(column) as usize;
         let to = column as usize;
-        out[to] = table[at];
-        column += 1;
+        let n = (next - column) as usize;
+        copy_run(&table[at..], &mut out[to..], n);
+        column = next;
     }
 }
 

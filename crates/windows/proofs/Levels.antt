@@ -15,12 +15,13 @@ use Rattle.facts.proofs.Mapped.{run-in, run-before, run-after, run-e, part-at, 
 use Rattle.grid.specs.declared.Plan.{Plan}
 use Rattle.grid.specs.declared.Side.{Side}
 use Rattle.grid.specs.Numbering.{number}
-use Rattle.grid.specs.Plan.{columnsAt, rowsAt, cellOffset, cellNumber, acrossAt, upAt}
-use Rattle.grid.specs.Side.{functions, firstOver, firsts}
+use Rattle.grid.specs.Plan.{columnsAt, rowsAt, cellOffset, cellTotal, cellNumber, acrossAt, upAt}
+use Rattle.grid.specs.Range.{InRange}
+use Rattle.grid.specs.Side.{firstOver, firsts}
 use Rattle.grid.proofs.Numbering.{level-ends}
-use Rattle.grid.proofs.Sides.{across-in, up-in}
-use Rattle.windows.specs.Windows.{back, windowAt, windowLeast, LevelIn}
-use Rattle.windows.specs.Level.{leastOver, leastUnder, levelLeast, wide, high, LevelRoom}
+use Rattle.grid.proofs.Sides.{across-in, up-in, first-lt}
+use Rattle.windows.specs.Windows.{back, inRows, windowAt, windowLeast, LevelIn}
+use Rattle.windows.specs.Level.{leastOver, placedRow, placed, PlaceIn, leastUnder, levelLeast, wide, high, LevelRoom}
 use Rattle.windows.proofs.Slides.{back-le, back-ge}
 
 -- ---- one direction
@@ -65,60 +66,65 @@ module _ (p : Plan) (cells : List ℕ) (k across up j i : ℕ) where
   unfolding leastUnder
   under-ge v t h = over-ge (upAt p k) up j _ v t (λ y l a b. over-ge (acrossAt p k) across i _ v t (λ x m c d. h y x l m a b c d))
 
--- ---- column x is at place x
+-- ---- windows over cells that are placed
 
-over-back : (s : Side) (d i : ℕ) (g : ℕ → ℕ) → least 2 (d + 1) (back (s .cells) i g) ≡ leastOver s d i g
-unfolding firstOver
-over-back s d i g = le-antisymm
-    (over-ge s d i g _ (least-top 2 _ _) (λ x l a b. back-le (s .cells) d i g x l a b))
-    (back-ge (s .cells) d i g _ (over-top s d i g) (λ x l a b. over-le s d i g x l a b))
-
-module _ (p : Plan) (cells : List ℕ) (k across up : ℕ) where
+module _ (p : Plan) (range : InRange p) (cells : List ℕ) (k : ℕ) (l : k < p .levels) (across up : ℕ) where
   abbrev part : List ℕ
   part = midOf (cellOffset p k) (length cells - cellOffset p k) cells
 
-  at-under : (j i : ℕ) → windowAt part (columnsAt p k) (rowsAt p k) across up j i ≡ leastUnder p cells k across up j i
-  unfolding windowAt leastUnder number
-  at-under j i =
-      over-back (upAt p k) up j _
-      ∙ ap (leastOver (upAt p k) up j) (λ e y. (over-back (acrossAt p k) across i (λ x. getD part (y * columnsAt p k + x) 0)
-      ∙ ap (leastOver (acrossAt p k) across i) (λ e x. (part-at (cellOffset p k) cells (y * columnsAt p k + x) ∙ ap (λ m. getD cells m 0) (row-cell (cellOffset p k) (y * columnsAt p k) x)) e)) e)
-    where
-      row-cell : (o r x : ℕ) → o + (r + x) ≡ o + r + x
-      row-cell o r x = omega arith
+  abbrev cols : Side
+  cols = acrossAt p k
 
-  firsts-across : firsts (acrossAt p k) ≡ columnsAt p k
-  unfolding firsts functions
-  firsts-across = omega arith
+  abbrev rows : Side
+  rows = upAt p k
 
-  firsts-up : firsts (upAt p k) ≡ rowsAt p k
-  unfolding firsts functions
-  firsts-up = omega arith
+  -- the byte of a cell of the level
+  byte-is : (y x : ℕ) → inRows part (columnsAt p k) y x ≡ getD cells (at p cells k across up 0 0 y x) 0
+  unfolding number
+  byte-is y x = part-at (cellOffset p k) cells (y * columnsAt p k + x) ∙ ap (λ m. getD cells m 0) (omega arith)
 
-  module _ {columns rows here : ℕ} (c : columns ≡ columnsAt p k) (r : rows ≡ rowsAt p k) (h : here ≡ cellOffset p k) where
-    pub level-least : (t : ℕ) → windowLeast (midOf here (length cells - here) cells) columns rows across up t ≡ levelLeast p cells k across up t
+  at-under : (j i : ℕ) → windowAt (placed cols rows part) (firsts cols) (firsts rows) across up j i ≡ leastUnder p cells k across up j i
+  unfolding windowAt placed placedRow
+  at-under j i = le-antisymm
+      (under-ge p cells k across up j i (windowAt (placed cols rows part) (firsts cols) (firsts rows) across up j i) (least-top 2 _ _) (λ y x a b c d e f.
+      rw (← byte-is y x)
+      (le-trans (back-le (firsts rows) up j (λ z. least 2 (across + 1) (back (firsts cols) i (placed cols rows part z))) (firstOver rows y) (first-lt rows (up-in p range k l) y a) c d)
+      (le-trans (back-le (firsts cols) across i (placed cols rows part (firstOver rows y)) (firstOver cols x) (first-lt cols (across-in p range k l) x b) e f)
+      (le-trans (over-le rows 0 (firstOver rows y) (λ z. leastOver cols 0 (firstOver cols x) (inRows part (columnsAt p k) z)) y a (omega arith) (omega arith))
+      (over-le cols 0 (firstOver cols x) (inRows part (columnsAt p k) y) x b (omega arith) (omega arith)))))))
+      (back-ge (firsts rows) up j _ (leastUnder p cells k across up j i) (under-top p cells k across up j i) (λ y′ a b c. back-ge (firsts cols) across i _ (leastUnder p cells k across up j i) (under-top p cells k across up j i) (λ x′ d e f.
+      over-ge rows 0 y′ _ (leastUnder p cells k across up j i) (under-top p cells k across up j i) (λ y g h o. over-ge cols 0 x′ (inRows part (columnsAt p k) y) (leastUnder p cells k across up j i) (under-top p cells k across up j i) (λ x q r s.
+      rw (byte-is y x) (under-le p cells k across up j i y x g q (omega arith) (omega arith) (omega arith) (omega arith)))))))
+
+  module _ {columns high here : ℕ} (c : columns ≡ firsts cols) (r : high ≡ firsts rows) (h : here ≡ cellOffset p k) where
+    pub level-least : (t : ℕ) → windowLeast (placed cols rows (midOf here (length cells - here) cells)) columns high across up t ≡ levelLeast p cells k across up t
     unfolding windowLeast levelLeast
-    level-least t = rw (c, r, h, firsts-across) (at-under _ _)
+    level-least t = rw (c, r, h) (at-under _ _)
 
-    pub level-size : (rows + up) * (columns + across) ≡ high p k up * wide p k across
-    level-size = rw (c, r, firsts-across, firsts-up)
+  pub level-in : {room place : ℕ} → LevelRoom p k (length cells) room place across up → LevelIn room place (firsts cols) (firsts rows) across up
+  level-in x =
+      let o = x .out≤ in
+      let s = x .scratch≤ in
+      record {
+        columns≥ = omega (arith, first-lt cols (across-in p range k l) 0 (across-in p range k l .cells≥));
+        rows≥ = omega (arith, first-lt rows (up-in p range k l) 0 (up-in p range k l .cells≥));
+        scratch≤ = omega (arith, mul-le-mul-right (firsts cols + across) (le-add-right (firsts rows) up));
+        out≤ = o;
+      }
 
-    pub level-in : {room place : ℕ} → LevelRoom p k (length cells) room place across up → LevelIn (length cells - here) room place columns rows across up × (here ≤ length cells)
-    level-in {room} {place} l =
-        let e = level-ends (columnsAt p) (rowsAt p) k (p .levels) (l .level<) in
-        let a = l .cells≤ in
-        let o = rw (firsts-across, firsts-up) at (l .out≤) in
-        let s = rw (firsts-across, firsts-up) at (l .scratch≤) in
-        rw (c, r, h) (
-          record {
-            columns≥ = across-in p (l .range) k (l .level<) .cells≥;
-            rows≥ = up-in p (l .range) k (l .level<) .cells≥;
-            from≤ = omega arith;
-            scratch≤ = omega (arith, mul-le-mul-right (columnsAt p k + across) (le-add-right (rowsAt p k) up));
-            out≤ = o;
-          },
-          omega arith,
-        )
+  pub place-in : {place here : ℕ} → here ≡ cellOffset p k → cellTotal p ≤ length cells → high p k up * wide p k across ≤ place
+      → PlaceIn cols rows (length cells - here) place across × (here ≤ length cells)
+  place-in e t o =
+      let b = level-ends (columnsAt p) (rowsAt p) k (p .levels) l in
+      rw e (
+        record {
+          across-in = across-in p range k l;
+          up-in = up-in p range k l;
+          from≤ = omega arith;
+          out≤ = omega (arith, mul-le-mul-right (firsts cols + across) (le-add-right (firsts rows) up));
+        },
+        omega arith,
+      )
 
 -- the bytes of the table
 module _ (p : Plan) (cells found start : List ℕ) (k across up : ℕ) (e : found ≡ filled 0 (high p k up * wide p k across) (levelLeast p cells k across up) start)

@@ -1,5 +1,6 @@
 pub mod Lowered
 pub mod Slides
+pub mod Placed
 pub mod Levels
 pub mod Under
 pub mod Rooms

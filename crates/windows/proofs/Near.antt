@@ -21,7 +21,7 @@ use Rattle.grid.specs.Side.{firstOver}
 use Rattle.grid.specs.Spans.{nearLevel, ancestorOf}
 use Rattle.grid.proofs.Laws.{cell-number-lt, cell-place-number, near-in}
 use Rattle.grid.proofs.Rectangles.{ancestor-level}
-use Rattle.grid.proofs.Sides.{first-lt}
+use Rattle.grid.proofs.Sides.{across-in, up-in, first-lt}
 use Rattle.grid.proofs.Spans.{ancestor-in, near-neighbourhood}
 use Rattle.windows.specs.Level.{leastUnder, levelLeast, wide, high, LevelRoom, NearRoom}
 use Rattle.windows.specs.Near.{hasNear, leastNear, nearIndex, nearByte, NearTable}
@@ -86,7 +86,7 @@ module _ (p : Plan) (range : InRange p) (cells : List ℕ) (q : ℕ) where
 
 -- ---- the place where it is read
 
-module _ (p : Plan) (x : Place) (i : CellInside p x) (has : HasNeighbourhood p (x .level)) where
+module _ (p : Plan) (range : InRange p) (x : Place) (i : CellInside p x) (has : HasNeighbourhood p (x .level)) where
   abbrev a : Place
   a = ancestorOf p x
 
@@ -94,30 +94,30 @@ module _ (p : Plan) (x : Place) (i : CellInside p x) (has : HasNeighbourhood p (
   above-in = ancestor-in p x has i
 
   row-in : firstOver (upAt p (a .level)) (a .row) + p .«degree_up» < high p (a .level) (2 * p .«degree_up»)
-  row-in = omega (arith, first-lt (upAt p (a .level)) (a .row) (above-in .row<))
+  row-in = omega (arith, first-lt (upAt p (a .level)) (up-in p range (a .level) (above-in .level<)) (a .row) (above-in .row<))
 
   column-in : firstOver (acrossAt p (a .level)) (a .column) + p .«degree_across» < wide p (a .level) (2 * p .«degree_across»)
-  column-in = omega (arith, first-lt (acrossAt p (a .level)) (a .column) (above-in .column<))
+  column-in = omega (arith, first-lt (acrossAt p (a .level)) (across-in p range (a .level) (above-in .level<)) (a .column) (above-in .column<))
 
   -- on a level with two finer ones
-  above-deep : InRange p → x .level + 1 < p .levels → a .level < p .levels - 2
-  above-deep range deep = rw (ancestor-level p x) (omega (arith, has .class≢, has .level≥, range .class≢))
+  above-deep : x .level + 1 < p .levels → a .level < p .levels - 2
+  above-deep deep = rw (ancestor-level p x) (omega (arith, has .class≢, has .level≥, range .class≢))
 
-  pub index-fits : InRange p → x .level + 1 < p .levels → {n : ℕ} → NearRoom p n → nearIndex p a < n
+  pub index-fits : x .level + 1 < p .levels → {n : ℕ} → NearRoom p n → nearIndex p a < n
   unfolding nearIndex
-  index-fits range deep room =
+  index-fits deep room =
       let m = mul-le-mul-right (wide p (a .level) (2 * p .«degree_across»)) row-in in
       let c = column-in in
-      omega (arith, room .enough (a .level) (above-deep range deep))
+      omega (arith, room .enough (a .level) (above-deep deep))
 
   -- in the table of the windows over the ancestor's level
-  read-is : (range : InRange p) → x .level + 1 < p .levels → (cells found start : List ℕ) → NearRoom p (length start)
+  read-is : x .level + 1 < p .levels → (cells found start : List ℕ) → NearRoom p (length start)
       → found ≡ filled 0 (high p (a .level) (2 * p .«degree_up») * wide p (a .level) (2 * p .«degree_across»)) (levelLeast p cells (a .level) (2 * p .«degree_across») (2 * p .«degree_up»)) start
       → getD found (nearIndex p a) 0 ≡ leastNear p cells (cellNumber p x)
   unfolding nearIndex
-  read-is range deep cells found start room e =
+  read-is deep cells found start room e =
       let q : cellPlace p (cellNumber p x) ≡ x = cell-place-number p range x i in
-      level-at p cells found start (a .level) (2 * p .«degree_across») (2 * p .«degree_up») e (room .enough (a .level) (above-deep range deep)) _ _ row-in column-in
+      level-at p cells found start (a .level) (2 * p .«degree_across») (2 * p .«degree_up») e (room .enough (a .level) (above-deep deep)) _ _ row-in column-in
       ∙ (rw q at (window-near p range cells (cellNumber p x) (cell-number-lt p range x i) (subst (λ (y : Place). HasNeighbourhood p (y .level)) (sym q) has)))
 
 -- ---- the table of a level
@@ -143,7 +143,7 @@ module _ (p : Plan) (range : InRange p) (cells : List ℕ) (j : ℕ) (l : j + 1 
     made = λ x i q.
         let h : T (hasNear p (x .level)) = subst (λ (n : ℕ). T (hasNear p n)) (sym q) has in
         let k : nearLevel p j ≡ ancestorOf p x .level = ap (nearLevel p) (sym q) ∙ sym (ancestor-level p x) in
-        rw (T-true (hasNear p (x .level)) h) (read-is p x i (has-fact p (x .level) h) range (omega (arith, q)) cells found start room (rw k at e));
+        rw (T-true (hasNear p (x .level)) h) (read-is p range x i (has-fact p (x .level) h) (omega (arith, q)) cells found start room (rw k at e));
   }
 
   pub near-table-none : (T (hasNear p j) → ⊥) → (found : List ℕ) → NearTable p cells found j

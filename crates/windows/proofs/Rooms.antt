@@ -1,24 +1,24 @@
 -- How many bytes are enough for tables of windows, of any plan that is not too large. Assumes nothing.
 use mathlib.Core.Path.{_≡_}
-use Prim.Native.Nat.{ℕ, _+_, _*_, _≤_}
+use Prim.Native.Nat.{ℕ, _*_, _≤_}
 use native.Mathlib.Nat.{mul-le-mul, le-trans}
 use native.Mathlib.Omega.{arith}
 use lib.ListN.{length, take, replicate, length-replicate}
 use lib.Seq.{length-take-le}
 use Rattle.grid.specs.declared.Plan.{Plan}
-use Rattle.grid.specs.Plan.{columnsAt, rowsAt, cellTotal}
-use Rattle.grid.specs.Side.{functions, firsts}
+use Rattle.grid.specs.Plan.{columnsAt, rowsAt, acrossAt, upAt, cellTotal}
 use Rattle.grid.specs.Range.{InRange}
-use Rattle.grid.proofs.Totals.{windows-bound, near-bound}
+use Rattle.grid.proofs.Laws.{across-sized, up-sized}
+use Rattle.grid.proofs.Sides.{firsts-most}
+use Rattle.grid.proofs.Totals.{spacious, windows-bound, near-bound}
 use Rattle.windows.specs.Level.{wide, high, ValueRoom, NearRoom}
 use Rattle.grid.specs.Bounds.{mostCells, mostFunctions, mostNear}
 
 -- twice the degrees are at most 8
-table-le : (p : Plan) → InRange p → (k n : ℕ) → (rowsAt p k + 8) * (columnsAt p k + 8) ≤ n → high p k (2 * p .«degree_up») * wide p k (2 * p .«degree_across») ≤ n
-unfolding firsts functions
+table-le : (p : Plan) → InRange p → (k n : ℕ) → spacious (p .rows) (rowsAt p k) * spacious (p .columns) (columnsAt p k) ≤ n → high p k (2 * p .«degree_up») * wide p k (2 * p .«degree_across») ≤ n
 table-le p r k n b =
-    let h : high p k (2 * p .«degree_up») ≤ rowsAt p k + 8 = omega (arith, r .up≤) in
-    let w : wide p k (2 * p .«degree_across») ≤ columnsAt p k + 8 = omega (arith, r .across≤) in
+    let h : high p k (2 * p .«degree_up») ≤ spacious (p .rows) (rowsAt p k) = omega (arith, r .up≤, firsts-most (upAt p k) (up-sized p r k) (r .up≤)) in
+    let w : wide p k (2 * p .«degree_across») ≤ spacious (p .columns) (columnsAt p k) = omega (arith, r .across≤, firsts-most (acrossAt p k) (across-sized p r k) (r .across≤)) in
     le-trans (mul-le-mul h w) b
 
 -- an array lent whole

@@ -14,7 +14,7 @@ use Rattle.facts.specs.Mapped.{inRun, filled}
 use Rattle.facts.proofs.Least.{least-same, least-le, least-top, least-ge}
 use Rattle.facts.proofs.Tests.{cases, positive}
 use Rattle.facts.proofs.Mapped.{run-in, run-before, run-after, run-e, part-at, mapped-at, mapped-more}
-use Rattle.windows.specs.Windows.{moved, slid, rowSlid, back, windowAt, windowLeast}
+use Rattle.windows.specs.Windows.{moved, slid, inRows, rowSlid, back, windowAt, windowLeast}
 
 -- ---- one direction: the window has the places that are i or at most p before it
 
@@ -34,7 +34,7 @@ module _ (n p i : ℕ) (g : ℕ → ℕ) where
 -- ---- a row through its part
 
 module _ (from : List ℕ) (columns across row at first : ℕ) (e : at ≡ row * (columns + across)) (f : first ≡ row * columns) (j : ℕ) (l : j < columns + across) where
-  pub row-slid : (count : ℕ) → slid (midOf first (length from - first) from) columns 1 count j ≡ rowSlid from columns across count (at + j)
+  pub row-slid : (count : ℕ) → slid (midOf first (length from - first) from) columns 1 count j ≡ rowSlid (inRows from columns) columns across count (at + j)
   unfolding slid rowSlid moved
   row-slid count =
       let r : (at + j) / (columns + across) ≡ row = ap (λ x. (x + j) / (columns + across)) e ∙ digits-div row l in
@@ -45,13 +45,13 @@ module _ (from : List ℕ) (columns across row at first : ℕ) (e : at ≡ row *
 
 -- ---- along the rows, all at once: the rows stand apart by `across` entries of 2
 
-module _ (from start padded : List ℕ) (columns rows across : ℕ)
-    (e : padded ≡ filled 0 (rows * (columns + across)) (rowSlid from columns across 1) start) (s : rows * (columns + across) ≤ length start) where
+module _ (byte : ℕ → ℕ → ℕ) (start padded : List ℕ) (columns rows across : ℕ)
+    (e : padded ≡ filled 0 (rows * (columns + across)) (rowSlid byte columns across 1) start) (s : rows * (columns + across) ≤ length start) where
   abbrev size : ℕ
   size = rows * (columns + across) - across
 
   padded-at : (k i : ℕ) → k < rows → i < columns + across
-      → getD padded (k * (columns + across) + i) 0 ≡ least 2 1 (λ d. cond (inRun d columns i) (getD from (k * columns + (i - d)) 0) 2)
+      → getD padded (k * (columns + across) + i) 0 ≡ least 2 1 (λ d. cond (inRun d columns i) (byte k (i - d)) 2)
   unfolding filled rowSlid
   padded-at k i l m =
       let b = mul-le-mul-right (columns + across) l in
@@ -78,7 +78,7 @@ module _ (from start padded : List ℕ) (columns rows across : ℕ)
   before-row (suc k) i d l a u = in-gap k (columns + across + i - d) d _ (omega arith) (omega arith) (omega arith) (omega arith)
 
   in-row : (r i d : ℕ) → r < rows → d ≤ i → i < d + columns
-      → moved padded size d (r * (columns + across) + i) ≡ least 2 1 (λ c. cond (inRun c columns (i - d)) (getD from (r * columns + (i - d - c)) 0) 2)
+      → moved padded size d (r * (columns + across) + i) ≡ least 2 1 (λ c. cond (inRun c columns (i - d)) (byte r (i - d - c)) 2)
   unfolding moved
   in-row r i d l u v =
       let b = mul-le-mul-right (columns + across) l in
@@ -87,7 +87,7 @@ module _ (from start padded : List ℕ) (columns rows across : ℕ)
 
   -- one shift lowers a window by what stands there, or not below 2
   abbrev value : ℕ → ℕ → ℕ → ℕ
-  value r i d = cond (inRun d columns i) (getD from (r * columns + (i - d)) 0) 2
+  value r i d = cond (inRun d columns i) (byte r (i - d)) 2
 
   shift-le : (r i d : ℕ) → r < rows → i < columns + across → d ≤ across → moved padded size d (r * (columns + across) + i) ≤ value r i d
   shift-le r i d l m a = run-e d columns i
@@ -95,21 +95,21 @@ module _ (from start padded : List ℕ) (columns rows across : ℕ)
       (λ u v. rw (run-in d columns i u v) (rw (← in-row r i d l u v) at (first-le r (i - d) (omega arith))))
       (λ u. rw (run-after d columns i u) (le-of-eq (in-gap r (i - d) d _ l (omega arith) (omega arith) (omega arith))))
     where
-      first-le : (r x : ℕ) → x < columns → least 2 1 (λ c. cond (inRun c columns x) (getD from (r * columns + (x - c)) 0) 2) ≤ getD from (r * columns + x) 0
-      first-le r x h = let z : x - 0 ≡ x = omega arith in rw (run-in 0 columns x (omega arith) (omega arith), z) at (least-le 2 1 (λ c. cond (inRun c columns x) (getD from (r * columns + (x - c)) 0) 2) 0 (omega arith))
+      first-le : (r x : ℕ) → x < columns → least 2 1 (λ c. cond (inRun c columns x) (byte r (x - c)) 2) ≤ byte r x
+      first-le r x h = let z : x - 0 ≡ x = omega arith in rw (run-in 0 columns x (omega arith) (omega arith), z) at (least-le 2 1 (λ c. cond (inRun c columns x) (byte r (x - c)) 2) 0 (omega arith))
 
   shift-ge : (r i d v : ℕ) → r < rows → i < columns + across → d ≤ across → v ≤ 2 → v ≤ value r i d → v ≤ moved padded size d (r * (columns + across) + i)
   shift-ge r i d v l m a two h = run-e d columns i
       (λ u. rw (before-row r i d l a u) two)
-      (λ u w. rw (in-row r i d l u w) (least-ge 2 1 (λ c. cond (inRun c columns (i - d)) (getD from (r * columns + (i - d - c)) 0) 2) v two (λ c b. only c (i - d) (omega arith) (omega arith) (rw (run-in d columns i u w) at h))))
+      (λ u w. rw (in-row r i d l u w) (least-ge 2 1 (λ c. cond (inRun c columns (i - d)) (byte r (i - d - c)) 2) v two (λ c b. only c (i - d) (omega arith) (omega arith) (rw (run-in d columns i u w) at h))))
       (λ u. rw (in-gap r (i - d) d (r * (columns + across) + i) l (omega arith) (omega arith) (omega arith)) two)
     where
-      only : (c x : ℕ) → c < 1 → x < columns → v ≤ getD from (r * columns + x) 0 → v ≤ cond (inRun c columns x) (getD from (r * columns + (x - c)) 0) 2
+      only : (c x : ℕ) → c < 1 → x < columns → v ≤ byte r x → v ≤ cond (inRun c columns x) (byte r (x - c)) 2
       only zero x b j g = let z : x - 0 ≡ x = omega arith in rw (run-in 0 columns x (omega arith) (omega arith), z) g
       only (suc c) x b j g = absurd (omega arith)
 
   at-once : (r i : ℕ) → r < rows → i < columns + across
-      → slid padded size 1 (across + 1) (r * (columns + across) + i) ≡ rowSlid from columns across (across + 1) (r * (columns + across) + i)
+      → slid padded size 1 (across + 1) (r * (columns + across) + i) ≡ rowSlid byte columns across (across + 1) (r * (columns + across) + i)
   unfolding slid rowSlid
   at-once r i l m =
       rw (digits-div r m, digits-mod r m)
@@ -121,12 +121,12 @@ module _ (from start padded : List ℕ) (columns rows across : ℕ)
       let q : d * 1 ≡ d = omega arith in
       rw q (shift-ge r i d _ l m (omega arith) (least-top 2 (across + 1) _) (least-le 2 (across + 1) (value r i) d b)))))
 
-  pub rows-slid : (t : ℕ) → t < rows * (columns + across) → slid padded size 1 (across + 1) t ≡ rowSlid from columns across (across + 1) t
+  pub rows-slid : (t : ℕ) → t < rows * (columns + across) → slid padded size 1 (across + 1) t ≡ rowSlid byte columns across (across + 1) t
   rows-slid t b =
       let w : 0 < columns + across = positive-width t b in
       let q : t / (columns + across) * (columns + across) + t % (columns + across) ≡ t = div-add-mod' t (columns + across) in
       ap (slid padded size 1 (across + 1)) (sym q) ∙ at-once (t / (columns + across)) (t % (columns + across)) (div-lt-iff-lt-mul w .1 b) (mod-lt t w)
-      ∙ ap (rowSlid from columns across (across + 1)) q
+      ∙ ap (rowSlid byte columns across (across + 1)) q
     where
       positive-width : (t : ℕ) → t < rows * (columns + across) → 0 < columns + across
       positive-width t b = cases (eqb (columns + across) 0)
@@ -135,11 +135,11 @@ module _ (from start padded : List ℕ) (columns rows across : ℕ)
 
 -- ---- both directions
 
-module _ (from start scratch : List ℕ) (columns rows across up : ℕ) (c : 1 ≤ columns)
-    (e : scratch ≡ filled 0 (rows * (columns + across)) (rowSlid from columns across (across + 1)) start) (s : rows * (columns + across) ≤ length start) where
+module _ (byte : ℕ → ℕ → ℕ) (start scratch : List ℕ) (columns rows across up : ℕ) (c : 1 ≤ columns)
+    (e : scratch ≡ filled 0 (rows * (columns + across)) (rowSlid byte columns across (across + 1)) start) (s : rows * (columns + across) ≤ length start) where
   -- the least byte of a row's window
   abbrev across-least : ℕ → ℕ → ℕ
-  across-least i k = least 2 (across + 1) (back columns i (λ x. getD from (k * columns + x) 0))
+  across-least i k = least 2 (across + 1) (back columns i (byte k))
 
   scratch-at : (k i : ℕ) → k < rows → i < columns + across → getD scratch (k * (columns + across) + i) 0 ≡ across-least i k
   unfolding filled rowSlid
@@ -172,11 +172,11 @@ module _ (from start scratch : List ℕ) (columns rows across up : ℕ) (c : 1 �
       rw (run-after d rows j u, run-after (d * (columns + across)) (rows * (columns + across)) (j * (columns + across) + i) (omega arith)))
 
   both : (j i : ℕ) → i < columns + across
-      → slid scratch (rows * (columns + across)) (columns + across) (up + 1) (j * (columns + across) + i) ≡ windowAt from columns rows across up j i
+      → slid scratch (rows * (columns + across)) (columns + across) (up + 1) (j * (columns + across) + i) ≡ windowAt byte columns rows across up j i
   unfolding slid windowAt
   both j i m = least-same 2 (up + 1) _ _ (λ d l. moved-row j i d m)
 
-  pub windows-slid : (t : ℕ) → slid scratch (rows * (columns + across)) (columns + across) (up + 1) t ≡ windowLeast from columns rows across up t
+  pub windows-slid : (t : ℕ) → slid scratch (rows * (columns + across)) (columns + across) (up + 1) t ≡ windowLeast byte columns rows across up t
   unfolding windowLeast
   windows-slid t =
       let w : 0 < columns + across = omega arith in

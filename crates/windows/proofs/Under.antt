@@ -110,7 +110,7 @@ module _ (p : Plan) (range : InRange p) (cells : List ℕ) where
     near-ge v t h = under-ge p cells (a .level) (2 * p .«degree_across») (2 * p .«degree_up») (firstOver (upAt p (a .level)) (a .row) + p .«degree_up») (firstOver (acrossAt p (a .level)) (a .column) + p .«degree_across») v t (λ y z l m r s c d.
         let i : CellInside p (at (a .level) y z) = record { level< = ancestor-in p (cellPlace p q) has (cell-inside p range q b) .level<; row< = l; column< = m } in
         h (cellNumber p (at (a .level) y z))
-        (around-near p range q (cellNumber p (at (a .level) y z)) (cell-number-lt p range (at (a .level) y z) i) has
+        (around-near p range q (cellNumber p (at (a .level) y z)) b (cell-number-lt p range (at (a .level) y z) i) has
         (rw (cell-place-number p range (at (a .level) y z) i) (record {
           level = refl;
           columns = record { right = c; left = omega (arith, d) };

@@ -24,7 +24,7 @@ use Rattle.grid.proofs.Laws.{cell-number-lt, cell-place-number, function-inside
 use Rattle.grid.proofs.Numbering.{level-ends}
 use Rattle.grid.proofs.Sides.{across-in, up-in, across-firsts, up-firsts, first-lt}
 use Rattle.grid.proofs.First.{supported-under, under-supported}
-use Rattle.windows.specs.Windows.{back, windowAt, windowLeast, LevelIn}
+use Rattle.windows.specs.Windows.{back, inRows, windowAt, windowLeast, RowsIn, LevelIn}
 use Rattle.windows.specs.Level.{wide, high, ValueRoom, leastValue, ValueTable}
 use Rattle.windows.proofs.Slides.{back-le, back-ge}
 
@@ -65,7 +65,7 @@ module _ (p : Plan) (range : InRange p) (values : List ℕ) (k : ℕ) (l : k < p
     place : cellPlace p c ≡ at k y x
     place = cell-place-number p range (at k y x) inside
 
-    top : windowAt part FW FH (p .«degree_across») (p .«degree_up») j i ≤ 2
+    top : windowAt (inRows part FW) FW FH (p .«degree_across») (p .«degree_up») j i ≤ 2
     unfolding windowAt
     top = least-top 2 _ _
 
@@ -73,9 +73,9 @@ module _ (p : Plan) (range : InRange p) (values : List ℕ) (k : ℕ) (l : k < p
     value f = cond (supported p f c) (getD values f 0) 2
 
     abbrev row-least : ℕ → ℕ
-    row-least r = least 2 (p .«degree_across» + 1) (back FW i (λ s. getD part (r * FW + s) 0))
+    row-least r = least 2 (p .«degree_across» + 1) (back FW i (inRows part FW r))
 
-    value-le : (f : ℕ) → f < functionTotal p → T (supported p f c) → windowAt part FW FH (p .«degree_across») (p .«degree_up») j i ≤ getD values f 0
+    value-le : (f : ℕ) → f < functionTotal p → T (supported p f c) → windowAt (inRows part FW) FW FH (p .«degree_across») (p .«degree_up») j i ≤ getD values f 0
     unfolding windowAt number
     value-le f m t =
         let u = rw place at (supported-under p range f c b t) in
@@ -88,11 +88,11 @@ module _ (p : Plan) (range : InRange p) (values : List ℕ) (k : ℕ) (l : k < p
         let rows = u .rows in
         let columns = u .columns in
         rw (← v) (le-trans (back-le FH (p .«degree_up») j row-least (functionPlace p f .row) r (omega (arith, rows .to)) (omega (arith, rows .from)))
-        (back-le FW (p .«degree_across») i (λ z. getD part (functionPlace p f .row * FW + z) 0) (functionPlace p f .column) s (omega (arith, columns .to)) (omega (arith, columns .from))))
+        (back-le FW (p .«degree_across») i (inRows part FW (functionPlace p f .row)) (functionPlace p f .column) s (omega (arith, columns .to)) (omega (arith, columns .from))))
 
-    value-ge : leastValue p values c ≤ windowAt part FW FH (p .«degree_across») (p .«degree_up») j i
+    value-ge : leastValue p values c ≤ windowAt (inRows part FW) FW FH (p .«degree_across») (p .«degree_up») j i
     unfolding windowAt leastValue number
-    value-ge = back-ge FH (p .«degree_up») j row-least (least 2 (functionTotal p) value) (least-top 2 _ _) (λ r ra rb rc. back-ge FW (p .«degree_across») i (λ s. getD part (r * FW + s) 0) (least 2 (functionTotal p) value) (least-top 2 _ _) (λ s sa sb sc.
+    value-ge = back-ge FH (p .«degree_up») j row-least (least 2 (functionTotal p) value) (least-top 2 _ _) (λ r ra rb rc. back-ge FW (p .«degree_across») i (inRows part FW r) (least 2 (functionTotal p) value) (least-top 2 _ _) (λ s sa sb sc.
         let n : FunctionInside p (at k r s) = record { level< = l; row< = ra; column< = sa } in
         let f : ℕ = functionNumber p (at k r s) in
         let m = function-number-lt p range (at k r s) n in
@@ -102,7 +102,7 @@ module _ (p : Plan) (range : InRange p) (values : List ℕ) (k : ℕ) (l : k < p
         let w : cond (supported p (functionNumber p (at k r s)) c) (getD values (functionNumber p (at k r s)) 0) 2 ≡ getD values (functionNumber p (at k r s)) 0 = rw (T-true (supported p (functionNumber p (at k r s)) c) t) in
         rw v (rw w at (least-le 2 (functionTotal p) value (functionNumber p (at k r s)) m))))
 
-    value-is : windowAt part FW FH (p .«degree_across») (p .«degree_up») j i ≡ leastValue p values c
+    value-is : windowAt (inRows part FW) FW FH (p .«degree_across») (p .«degree_up») j i ≡ leastValue p values c
     unfolding leastValue
     value-is = le-antisymm
         (least-ge 2 (functionTotal p) _ _ top (λ f m. cases (supported p f c)
@@ -119,7 +119,7 @@ module _ (p : Plan) (range : InRange p) (values : List ℕ) (k : ℕ) (l : k < p
   rows-are = omega (arith, up-firsts p k)
 
   pub values-in : {columns rows here n m : ℕ} → columns ≡ FW → rows ≡ FH → here ≡ from → length values ≡ functionTotal p → ValueRoom p m → ValueRoom p n
-      → LevelIn (length values - here) m n columns rows (p .«degree_across») (p .«degree_up») × (here ≤ length values)
+      → LevelIn m n columns rows (p .«degree_across») (p .«degree_up») × RowsIn (length values - here) n columns rows (p .«degree_across») × (here ≤ length values)
   values-in {columns} {rows} {here} {n} {m} ec er eh s x y =
       let o = level-ends (functionColumnsAt p) (functionRowsAt p) k (p .levels) l in
       let a : (FH + p .«degree_up») * (FW + p .«degree_across») ≤ m = rw (columns-are, rows-are) (x .enough k l) in
@@ -130,15 +130,19 @@ module _ (p : Plan) (range : InRange p) (values : List ℕ) (k : ℕ) (l : k < p
         record {
           columns≥ = omega arith;
           rows≥ = omega arith;
-          from≤ = omega arith;
           scratch≤ = omega (arith, mul-le-mul-right (FW + p .«degree_across») (le-add-right FH (p .«degree_up»)));
           out≤ = b;
+        },
+        record {
+          from≤ = omega arith;
+          out≤ = omega (arith, mul-le-mul-right (FW + p .«degree_across») (le-add-right FH (p .«degree_up»)));
+          rows≥ = omega arith;
         },
         omega arith,
       )
 
   pub value-table : {columns rows here : ℕ} (found start : List ℕ) → columns ≡ FW → rows ≡ FH → here ≡ from → ValueRoom p (length start)
-      → found ≡ filled 0 ((rows + p .«degree_up») * (columns + p .«degree_across»)) (windowLeast (midOf here (length values - here) values) columns rows (p .«degree_across») (p .«degree_up»)) start
+      → found ≡ filled 0 ((rows + p .«degree_up») * (columns + p .«degree_across»)) (windowLeast (inRows (midOf here (length values - here) values) columns) columns rows (p .«degree_across») (p .«degree_up»)) start
       → ValueTable p values found k
   unfolding filled windowLeast
   value-table found start ec er eh room e =
@@ -148,8 +152,8 @@ module _ (p : Plan) (range : InRange p) (values : List ℕ) (k : ℕ) (l : k < p
       record {
         long = rw (ap length q ∙ filled-length 0 _ _ start) room′;
         made = λ y x yl xl.
-            let m : i y x yl xl < FW + p .«degree_across» = omega (arith, across-firsts p k, first-lt (acrossAt p k) x xl) in
-            let n : j y x yl xl < FH + p .«degree_up» = omega (arith, up-firsts p k, first-lt (upAt p k) y yl) in
+            let m : i y x yl xl < FW + p .«degree_across» = omega (arith, across-firsts p k, first-lt (acrossAt p k) (across-in p range k l) x xl) in
+            let n : j y x yl xl < FH + p .«degree_up» = omega (arith, up-firsts p k, first-lt (upAt p k) (up-in p range k l) y yl) in
             let t : j y x yl xl * (FW + p .«degree_across») + i y x yl xl < (FH + p .«degree_up») * (FW + p .«degree_across») = omega (arith, mul-le-mul-right (FW + p .«degree_across») n) in
             ap (λ w. getD found (j y x yl xl * w + i y x yl xl) 0) (sym columns-are)
             ∙ (ap (λ z. getD z (j y x yl xl * (FW + p .«degree_across») + i y x yl xl) 0) q

@@ -9,12 +9,32 @@ use Rattle.facts.specs.Mapped.{inRun}
 use Rattle.grid.specs.declared.Plan.{Plan}
 use Rattle.grid.specs.declared.Side.{Side}
 use Rattle.grid.specs.Plan.{columnsAt, rowsAt, cellTotal, functionTotal, cellNumber, acrossAt, upAt, supported}
-use Rattle.grid.specs.Side.{firstOver, firsts}
+use Rattle.grid.specs.Side.{firstOver, firsts, SideIn}
+use Rattle.windows.specs.Windows.{inRows}
 use Rattle.grid.specs.Range.{InRange}
 
 -- one direction: the least of g at the columns whose first functions are i or at most d before it
 unfoldable pub leastOver : Side → ℕ → ℕ → (ℕ → ℕ) → ℕ
 leastOver s d i g = least 2 (s .cells) (λ x. cond (inRun (firstOver s x) (d + 1) i) (g x) 2)
+
+-- a row of cells, each at the place of its first function; 2 where there is none
+unfoldable pub placedRow : Side → (ℕ → ℕ) → ℕ → ℕ
+placedRow s g i = leastOver s 0 i g
+
+-- the cells of a level, each at the places of its first functions up and across
+unfoldable pub placed : Side → Side → List ℕ → ℕ → ℕ → ℕ
+placed across up from j i = leastOver up 0 j (λ y. placedRow across (inRows from (across .cells) y) i)
+
+-- the first n entries are 2
+abbrev pub Twos : ℕ → List ℕ → Type 0
+Twos n out = (i : ℕ) → i < n → getD out i 0 ≡ 2
+
+-- a table of cells and one for them at their places, with `more` columns after them, of these sizes
+pub record PlaceIn (across up : Side) (size place more : ℕ) : Type 0 where
+  pub across-in : SideIn across
+  pub up-in : SideIn up
+  pub from≤ : up .cells * across .cells ≤ size
+  pub out≤ : firsts up * (firsts across + more) ≤ place
 
 -- the least byte of the cells of level k whose first functions are in row j and column i or at most `up` and `across` before them
 unfoldable pub leastUnder : Plan → List ℕ → ℕ → ℕ → ℕ → ℕ → ℕ → ℕ

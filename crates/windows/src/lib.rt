@@ -2,15 +2,17 @@
 // bytes, the smaller of two runs of which one begins later.
 use grid::Place;
 use grid::Plan;
+use grid::Side;
 ghost use mathlib.Core.Path.{_≡_};
 ghost use Prim.Native.Nat.{min, _+_, _*_, _≤_, _<_};
-ghost use lib.ListN.{length};
+ghost use lib.ListN.{length, getD};
 ghost use Rattle.facts.specs.Mapped.{filled};
-ghost use Rattle.windows.specs.Windows.{always, lowered, slid, rowSlid, windowLeast, SlideIn, RowsIn, LevelIn};
-ghost use Rattle.windows.specs.Level.{levelLeast, wide, high, LevelRoom, ValueRoom, NearRoom, ValueTable};
+ghost use Rattle.windows.specs.Windows.{always, lowered, slid, inRows, rowSlid, Windowed, SlideIn, RowsIn, LevelIn};
+ghost use Rattle.windows.specs.Level.{placedRow, placed, Twos, PlaceIn, levelLeast, wide, high, LevelRoom, ValueRoom, NearRoom, ValueTable};
 ghost use Rattle.windows.specs.Near.{hasNear, nearByte, NearTable};
 ghost use Rattle.grid.specs.Plan.{cellTotal, functionTotal, CellInside};
 ghost use Rattle.grid.specs.Range.{InRange};
+ghost use Rattle.grid.specs.Side.{SideIn, firsts};
 
 fn smaller(a: u8, b: u8) -> u8
     ensures { λ r. ⌜ r ≡ min a b ⌝ }
@@ -70,7 +72,7 @@ fn spread_row(from: &[u8], out: &mut [u8], columns: usize, across: usize)
 // Each row, with 2 in the columns after it.
 fn spread(from: &[u8], out: &mut [u8], columns: usize, rows: usize, across: usize)
     requires { ⌜ RowsIn (length (now from)) (length (now out)) columns rows across ⌝ }
-    ensures { λ _. ⌜ now (out .exit) ≡ filled 0 (rows * (columns + across)) (rowSlid (now (from .entry)) columns across 1) (now (out .entry)) ⌝ }
+    ensures { λ _. ⌜ now (out .exit) ≡ filled 0 (rows * (columns + across)) (rowSlid (inRows (now (from .entry)) columns) columns across 1) (now (out .entry)) ⌝ }
 {
     let width = columns + across;
     let mut first = 0;
@@ -84,28 +86,48 @@ fn spread(from: &[u8], out: &mut [u8], columns: usize, rows: usize, across: usiz
     }
 }
 
-// The windows along the rows, all rows at once: what stands after a row keeps it apart from the next.
-fn slide_rows(
-    from: &[u8],
-    room: &mut [u8],
-    out: &mut [u8],
-    columns: usize,
-    rows: usize,
-    across: usize,
-)
-    requires { ⌜ RowsIn (length (now from)) (length (now room)) columns rows across ⌝ }
-    requires { ⌜ rows * (columns + across) ≤ length (now out) ⌝ }
-    ensures { λ _. ⌜ now (room .exit) ≡ filled 0 (rows * (columns + across)) (rowSlid (now (from .entry)) columns across 1) (now (room .entry)) ⌝ }
-    ensures { λ _. ⌜ now (out .exit) ≡ filled 0 (rows * (columns + across)) (rowSlid (now (from .entry)) columns across (across + 1)) (now (out .entry)) ⌝ }
+// A row of cells, each at the place of its first function, in a table of 2. Columns with no corner between them are one run of bytes.
+fn place_row(side: Side, from: &[u8], out: &mut [u8])
+    requires { ⌜ SideIn side ⌝ }
+    requires { ⌜ (side .cells ≤ length (now from)) × (firsts side ≤ length (now out)) ⌝ }
+    requires { ⌜ Twos (firsts side) (now out) ⌝ }
+    ensures { λ _. ⌜ now (out .exit) ≡ filled 0 (firsts side) (placedRow side (λ x. getD (now (from .entry)) x 0)) (now (out .entry)) ⌝ }
 {
-    spread(from, room, columns, rows, across);
-    slide(room, out, rows * (columns + across) - across, 1, across);
+    let end = side.cells;
+    let mut x = 0;
+    while x < end {
+        let next = side.run_end(x);
+        let at = side.first_over(x) as usize;
+        let first = x as usize;
+        let n = (next - x) as usize;
+        lower(&mut out[at..], &from[first..], n);
+        x = next;
+    }
 }
 
-// A level of rows * columns bytes, and a table with `across` more columns and `up` more rows: the least byte in rows j - up to j and
-// columns i - across to i.
+// A level of cells, each at the places of its first functions, with 2 between them and in `more` columns after them.
+fn place(across: Side, up: Side, from: &[u8], out: &mut [u8], more: usize)
+    requires { ⌜ PlaceIn across up (length (now from)) (length (now out)) more ⌝ }
+    ensures { λ _. ⌜ now (out .exit) ≡ filled 0 (firsts up * (firsts across + more)) (rowSlid (placed across up (now (from .entry))) (firsts across) more 1) (now (out .entry)) ⌝ }
+{
+    let columns = across.cells as usize;
+    let width = across.firsts() as usize + more;
+    let high = up.firsts() as usize;
+    let rows = up.cells;
+    fill(out, high * width, 2);
+    let mut first = 0;
+    let mut row = 0;
+    while row < rows {
+        let at = up.first_over(row) as usize * width;
+        place_row(across, &from[first..], &mut out[at..]);
+        first += columns;
+        row += 1;
+    }
+}
+
+// Of a table of rows that stand apart by `across` columns of 2, with `up` more rows: the least byte in rows j - up to j and columns
+// i - across to i. All rows are slid at once: what stands after a row keeps it apart from the next.
 fn windows(
-    from: &[u8],
     scratch: &mut [u8],
     out: &mut [u8],
     columns: usize,
@@ -113,12 +135,13 @@ fn windows(
     across: usize,
     up: usize,
 )
-    requires { ⌜ LevelIn (length (now from)) (length (now scratch)) (length (now out)) columns rows across up ⌝ }
-    ensures { λ _. ⌜ now (out .exit) ≡ filled 0 ((rows + up) * (columns + across)) (windowLeast (now (from .entry)) columns rows across up) (now (out .entry)) ⌝ }
+    requires { ⌜ LevelIn (length (now scratch)) (length (now out)) columns rows across up ⌝ }
+    ensures { λ _. ⌜ Windowed (now (out .entry)) (now (out .exit)) columns rows across up ⌝ }
 {
-    slide_rows(from, out, scratch, columns, rows, across);
     let width = columns + across;
-    slide(scratch, out, rows * width, width, up);
+    let size = rows * width;
+    slide(out, scratch, size - across, 1, across);
+    slide(scratch, out, size, width, up);
 }
 
 // A level's cells, each where its first functions are: the least byte of the cells there and at most `up` rows and `across` columns before.
@@ -134,10 +157,18 @@ pub fn level(
     requires { ⌜ LevelRoom plan level (length (now cells)) (length (now scratch)) (length (now out)) across up ⌝ }
     ensures { λ _. ⌜ now (out .exit) ≡ filled 0 (high plan level up * wide plan level across) (levelLeast plan (now (cells .entry)) level across up) (now (out .entry)) ⌝ }
 {
-    let columns = plan.columns_at(level) as usize;
-    let rows = plan.rows_at(level) as usize;
+    let columns = plan.across_at(level);
+    let rows = plan.up_at(level);
     let here = plan.cell_offset(level) as usize;
-    windows(&cells[here..], scratch, out, columns, rows, across, up);
+    place(columns, rows, &cells[here..], out, across);
+    windows(
+        scratch,
+        out,
+        columns.firsts() as usize,
+        rows.firsts() as usize,
+        across,
+        up,
+    );
 }
 
 // A level's functions: the least value of those over a cell is where the windows of the degrees end, after the cell's first functions.
@@ -151,7 +182,8 @@ pub fn functions(plan: Plan, values: &[u8], level: u32, scratch: &mut [u8], out:
     let here = plan.function_offset(level) as usize;
     let across = plan.degree_across as usize;
     let up = plan.degree_up as usize;
-    windows(&values[here..], scratch, out, columns, rows, across, up);
+    spread(&values[here..], out, columns, rows, across);
+    windows(scratch, out, columns, rows, across, up);
 }
 
 // Cells of a level have neighbourhoods.

@@ -1,6 +1,7 @@
 -- `cover::coarsenable_on` meets its contract: the windows of the level are the supports. Assumes nothing.
 use Prim.Native.Nat.{_+_, _*_, _≤_}
 use native.Mathlib.Omega.{arith}
+use Rattle.grid.proofs.Sides.{total-small}
 use borrow.Author.Needs.{needs}
 use Rattle.facts.proofs.Mapped.{fill-length}
 use Rattle.facts.proofs.Ranges.{mid-len}
@@ -59,7 +60,7 @@ part-pick-end-2 : tie.Need-part-pick-end-2
 part-pick-end-2 c = search needs
 
 mul-pick : tie.Need-mul-pick
-mul-pick c = omega (arith, fits (c .before .before .before .before .before .before .before .before .before .before .before .before), c .before .before .before .before .before .before .before .before .before .before .before .before .before .before .before .before .before .before .before .before .pre .1 .0 .0)
+mul-pick c = omega (arith, fits (c .before .before .before .before .before .before .before .before .before .before .before .before), total-small (c .before .before .before .before .before .before .before .before .before .before .before .before .before .before .before .before .before .before .before .before .args .plan) (c .before .before .before .before .before .before .before .before .before .before .before .before .before .before .before .before .before .before .before .before .pre .0))
 
 pick-requires : tie.Need-pick-requires
 pick-requires c κs =

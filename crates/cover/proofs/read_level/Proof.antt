@@ -63,7 +63,7 @@ fits c =
     let a = s .args in
     let l = c .before .before .loop in
     let r : l .row < a .up .cells = omega (arith, l .inv .1, c .before .loop-test .taken) in (
-      at-fits (c .first-over .result) (a .up .degree) _ (firsts (a .up)) (firsts (a .across)) (a .across .degree) _ (rw (c .first-over .ensures) (first-lt (a .up) (l .row) r))
+      at-fits (c .first-over .result) (a .up .degree) _ (firsts (a .up)) (firsts (a .across)) (a .across .degree) _ (rw (c .first-over .ensures) (first-lt (a .up) (s .pre .rows) (l .row) r))
           (ap (λ z. z + 2 * a .across .degree) (c .before .before .before .before .firsts .ensures)) (rw (c .before .before .before .before .firsts .ensures) (s .pre .table≤)),
       row-ends _ _ _ r,
     )

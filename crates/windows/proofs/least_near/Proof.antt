@@ -32,7 +32,7 @@ ancestor-of-requires c κs = (c .before .before .before .pre .0, has c)
 
 -- the ancestor is a cell
 inside : (c : tie.After-ancestor-of) → CellInside (c .before .before .before .before .args .plan) (c .ancestor-of .result)
-inside c = let s = c .before .before .before .before in rw (c .ancestor-of .ensures) (above-in (s .args .plan) (s .args .place) (s .pre .1 .0 .0) (has (c .before)))
+inside c = let s = c .before .before .before .before in rw (c .ancestor-of .ensures) (above-in (s .args .plan) (s .pre .0) (s .args .place) (s .pre .1 .0 .0) (has (c .before)))
 
 across-at-requires : tie.Need-across-at-requires
 across-at-requires c κs = (c .before .before .before .before .pre .0, inside c .level<)
@@ -80,7 +80,7 @@ cast-width : tie.Need-cast-width
 cast-width c = search needs
 
 mul-width : tie.Need-mul-width
-mul-width c = search needs
+mul-width c = omega (arith, c .before .before .before .before .before .before .before .before .before .before .before .before .pre .0 .across≤)
 
 cast-width-2 : tie.Need-cast-width-2
 cast-width-2 c = search needs
@@ -106,7 +106,7 @@ index c =
 
 fits : (c : tie.After-struct-known3) → let a = c .before .before .before .before .before .before .before .before .before .before .before .before .args in
     (c .before .before .before .before .before .first-over .result + a .plan .«degree_up») * (c .before .firsts .result + 2 * a .plan .«degree_across») + (c .before .before .before .first-over2 .result + a .plan .«degree_across») < length (a .near .now)
-fits c = let s = c .before .before .before .before .before .before .before .before .before .before .before .before in rw (index c) (index-fits (s .args .plan) (s .args .place) (s .pre .1 .0 .0) (has (c .before .before .before .before .before .before .before .before .before)) (s .pre .0) (s .pre .1 .0 .1) (s .pre .1 .1))
+fits c = let s = c .before .before .before .before .before .before .before .before .before .before .before .before in rw (index c) (index-fits (s .args .plan) (s .pre .0) (s .args .place) (s .pre .1 .0 .0) (has (c .before .before .before .before .before .before .before .before .before)) (s .pre .1 .0 .1) (s .pre .1 .1))
 
 mul-result : tie.Need-mul-result
 mul-result c = omega (arith, fits c, c .before .before .before .before .before .before .before .before .before .before .before)

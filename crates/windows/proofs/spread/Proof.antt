@@ -8,14 +8,14 @@ use lib.ListN.{length}
 use Rattle.facts.specs.Mapped.{filled}
 use Rattle.facts.proofs.Mapped.{filled-none, fill-length, fill-part}
 use Rattle.facts.proofs.Ranges.{mid-len}
-use Rattle.windows.specs.Windows.{rowSlid}
+use Rattle.windows.specs.Windows.{inRows, rowSlid}
 use Rattle.windows.proofs.Slides.{row-slid}
 use Rattle.windows.proofs.spread.Statement.{statement}
 use Rattle.windows.proofs.spread.Tie as tie
 
 abbrev Inv-loop : tie.InvT-loop
 Inv-loop from out₀ columns rows across width first₀ at₀ row₀ out first at row =
-    (row ≤ rows) × (first ≡ row * columns) × (at ≡ row * (columns + across)) × (length out ≡ length out₀) × (out ≡ filled 0 at (rowSlid from columns across 1) out₀)
+    (row ≤ rows) × (first ≡ row * columns) × (at ≡ row * (columns + across)) × (length out ≡ length out₀) × (out ≡ filled 0 at (rowSlid (inRows from columns) columns across 1) out₀)
 
 abbrev μ-loop : tie.MeasureT-loop
 μ-loop from out₀ columns rows across width first₀ at₀ row₀ out first at row = rows - row
