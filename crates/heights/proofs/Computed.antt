@@ -12,9 +12,9 @@ use Rattle.exact.specs.Dyadic.{over, dyadic}
 use Rattle.exact.specs.Sums.{sumℤ}
 use Rattle.grid.specs.declared.Plan.{Plan}
 use Rattle.grid.specs.Numbering.{offset, number, levelOf, placeOn, place}
-use Rattle.grid.specs.Plan.{between, inRange, tooLarge, ratio, grown, above, below, parent, child, lastLevel, covers, supportedAt, supported, apart, ancestor, nearAt, near, planOf}
+use Rattle.grid.specs.Knots.{isSet, isCorner, cornersTo, times, knotFrom, knot, beyond, functions, covers, together}
+use Rattle.grid.specs.Plan.{between, numbersInRange, cornersInRange, inRange, tooLarge, ratio, grown, above, below, parent, child, lastLevel, supportedAt, supported, ancestor, nearAt, near, planOf}
 use Rattle.mesh.specs.Mesh.{absent, active, refined, children, cellFits, isMesh, isAdmissible, tableOf, labelOf, labels, isLabelled, refusal3, refusal6, check}
-use Rattle.splines.specs.Knots.{times, knotsBelow, knot}
 use Rattle.splines.specs.Values.{rise, fall, box, basis, scale, cellOf, value, valueIn, valueOn}
 use Rattle.heights.specs.declared.Height.{Height}
 use Rattle.heights.specs.declared.Height.the-variants.{At, Refused}
@@ -38,7 +38,7 @@ only f h g = cond (eqb g f) h (pos 0)
 
 -- function 8, in the middle of level 1, with 16 sixteenths: a millimetre, in parts, and how many parts that is
 pub unit : heightSum refinedCell itsFunctions (heightsOf 13 (only 8 (pos 16))) 8 8 ∷ pos (2 ^ places (refinedCell .levels)) ∷ [] ≡ pos 262144 ∷ pos 262144 ∷ []
-unfolding heightsOf sumℤ offset number levelOf placeOn place ratio grown active times knotsBelow knot rise fall box basis scale cellOf value valueIn valueOn eighths valueAt productOf heightSum
+unfolding heightsOf sumℤ offset number levelOf placeOn place ratio grown active isSet isCorner cornersTo times knotFrom knot beyond rise fall box basis scale cellOf value valueIn valueOn eighths valueAt productOf heightSum
 unit = refl
 
 -- a deactivated function's height is neither refused nor counted; an active one's is
@@ -49,7 +49,7 @@ pub ignored :
     ∷ natAbs (heightSum refinedCell itsFunctions (heightsOf 13 (only 4 (pos 1))) 0 0)
     ∷ []
     ≡ 0 ∷ 15 ∷ 0 ∷ 16384 ∷ []
-unfolding every heightsOf sumℤ offset number levelOf placeOn place ratio grown active times knotsBelow knot rise fall box basis scale cellOf value valueIn valueOn eighths valueAt productOf heightSum inexact low allLow heightsRefusal lowOn
+unfolding every heightsOf sumℤ offset number levelOf placeOn place ratio grown active isSet isCorner cornersTo times knotFrom knot beyond rise fall box basis scale cellOf value valueIn valueOn eighths valueAt productOf heightSum inexact low allLow heightsRefusal lowOn
 ignored = refl
 
 -- with a degree of 3 and heights that are too large 14 is given, with too few of them 3
@@ -61,7 +61,7 @@ pub order :
     ∷ heightsRefusal cubic (1 ∷ []) (heightsOf 11 (λ f. pos 65537))
     ∷ []
     ≡ 14 ∷ 3 ∷ []
-unfolding every heightsOf offset number levelOf placeOn place ratio grown active inexact low allLow heightsRefusal lowOn
+unfolding every heightsOf offset number levelOf placeOn place ratio grown cornersTo beyond active inexact low allLow heightsRefusal lowOn
 order = refl
 
 -- the answer on the mesh with these refined cells, with so many heights
@@ -141,5 +141,66 @@ pub worked :
     ∷ Refused 1
     ∷ Refused 4
     ∷ []
-unfolding odd ofBits heightsOf some every elem tabulate over dyadic sumℤ offset number levelOf placeOn place between inRange tooLarge ratio grown above below parent child lastLevel covers supportedAt supported apart ancestor nearAt near absent active refined children cellFits isMesh isAdmissible tableOf labelOf labels isLabelled refusal3 refusal6 check times knotsBelow knot rise fall box basis scale cellOf value valueIn valueOn eighths onMesh valueAt productOf heightSum inexact low allLow heightsRefusal refusal answer lowOn
+unfolding odd ofBits heightsOf some every elem tabulate over dyadic sumℤ offset number levelOf placeOn place between numbersInRange cornersInRange inRange tooLarge ratio grown above below parent child lastLevel covers together supportedAt supported ancestor nearAt near absent active refined children cellFits isMesh isAdmissible tableOf labelOf labels isLabelled refusal3 refusal6 check isSet isCorner cornersTo times knotFrom knot beyond functions rise fall box basis scale cellOf value valueIn valueOn eighths onMesh valueAt productOf heightSum inexact low allLow heightsRefusal refusal answer lowOn
 worked = refl
+
+-- ---- with corners; the answers were worked out in fractions
+
+-- two columns with a corner between them, degrees 2 and 1: 10 functions
+abbrev pub ridge : (ℕ → ℤ) → ℕ → ℕ → Height
+ridge = answerTo (2 ∷ 1 ∷ 1 ∷ 2 ∷ 1 ∷ 0 ∷ 2 ∷ []) [] 10
+
+-- the same on two levels, degrees 2 and 2, with cell 0 refined: 15 and 28 functions
+abbrev pub besideIt : (ℕ → ℤ) → ℕ → ℕ → Height
+besideIt = answerTo (2 ∷ 1 ∷ 2 ∷ 2 ∷ 2 ∷ 0 ∷ 2 ∷ []) (0 ∷ []) 43
+
+pub cornered :
+    -- a flat surface: 7 mm, on the corner too; with as many heights as without the corner 3 is given
+    ridge (λ f. pos 7) 0 0
+    ∷ ridge (λ f. pos 7) 8 3
+    ∷ ridge (λ f. pos 7) 16 8
+    ∷ answerTo (2 ∷ 1 ∷ 1 ∷ 2 ∷ 1 ∷ 0 ∷ 2 ∷ []) [] 8 (λ f. pos 7) 0 0
+    -- function 2 is 1 on the corner and 25/64 at 3/8 of a cell on either side of it
+    ∷ ridge (only 2 (pos 3)) 8 0
+    ∷ ridge (only 2 (pos 3)) 5 0
+    ∷ ridge (only 2 (pos 3)) 11 0
+    ∷ ridge (only 2 (pos 3)) 8 4
+    -- function 1 ends there, and function 3 begins
+    ∷ ridge (only 1 (pos 4)) 7 0
+    ∷ ridge (only 1 (pos 4)) 8 0
+    ∷ ridge (only 3 (pos 4)) 8 0
+    ∷ ridge (only 3 (pos 4)) 9 0
+    -- a corner up
+    ∷ answerTo (1 ∷ 2 ∷ 1 ∷ 1 ∷ 2 ∷ 0 ∷ 0 ∷ 2 ∷ []) [] 10 (only 4 (pos 3)) 0 8
+    ∷ answerTo (1 ∷ 2 ∷ 1 ∷ 1 ∷ 2 ∷ 0 ∷ 0 ∷ 2 ∷ []) [] 10 (only 4 (pos 3)) 0 5
+    -- function 2 of level 0 stays active, and is 1 on the corner; function 17, of level 1, is 5/8 half a cell before it and ends there;
+    -- function 18 reaches over it and is not active
+    ∷ besideIt (only 2 (pos 5)) 16 0
+    ∷ besideIt (only 17 (pos 16)) 12 0
+    ∷ besideIt (only 17 (pos 16)) 16 0
+    ∷ besideIt (only 18 (pos 2147483647)) 16 0
+    -- at degree 1 nothing changes
+    ∷ answerTo (2 ∷ 1 ∷ 1 ∷ 1 ∷ 1 ∷ 0 ∷ 2 ∷ []) [] 6 (only 1 (pos 3)) 12 0
+    ∷ []
+    ≡ bits 0x401c_0000_0000_0000
+    ∷ bits 0x401c_0000_0000_0000
+    ∷ bits 0x401c_0000_0000_0000
+    ∷ Refused 3
+    ∷ bits 0x4008_0000_0000_0000
+    ∷ bits 0x3ff2_c000_0000_0000
+    ∷ bits 0x3ff2_c000_0000_0000
+    ∷ bits 0x3ff8_0000_0000_0000
+    ∷ bits 0x3fec_0000_0000_0000
+    ∷ bits 0
+    ∷ bits 0
+    ∷ bits 0x3fec_0000_0000_0000
+    ∷ bits 0x4008_0000_0000_0000
+    ∷ bits 0x3ff2_c000_0000_0000
+    ∷ bits 0x4014_0000_0000_0000
+    ∷ bits 0x3fe4_0000_0000_0000
+    ∷ bits 0
+    ∷ bits 0
+    ∷ bits 0x3ff8_0000_0000_0000
+    ∷ []
+unfolding odd ofBits heightsOf some every elem tabulate over dyadic sumℤ offset number levelOf placeOn place between numbersInRange cornersInRange inRange tooLarge ratio grown above below parent child lastLevel covers together supportedAt supported ancestor nearAt near absent active refined children cellFits isMesh isAdmissible tableOf labelOf labels isLabelled refusal3 refusal6 check isSet isCorner cornersTo times knotFrom knot beyond functions rise fall box basis scale cellOf value valueIn valueOn eighths onMesh valueAt productOf heightSum inexact low allLow heightsRefusal refusal answer lowOn
+cornered = refl

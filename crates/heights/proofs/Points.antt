@@ -58,8 +58,7 @@ module _ (p : Plan) (x y : ℕ) (s : Point p x y) (k : ℕ) (l : k < p .levels) 
 
   pub on-across : OnSide (acrossAt p k) (eighths p k) x
   on-across = record {
-    cells≥ = across-in p (s .range) k l .cells≥;
-    degree≥ = s .range .across≥;
+    sized = across-in p (s .range) k l .sized;
     degree≤ = s .across≤;
     parts≥ = eighths-pos p k;
     point≤ = omega (arith, across-le, far-edge p k (p .columns) l);
@@ -67,18 +66,17 @@ module _ (p : Plan) (x y : ℕ) (s : Point p x y) (k : ℕ) (l : k < p .levels) 
 
   pub on-up : OnSide (upAt p k) (eighths p k) y
   on-up = record {
-    cells≥ = up-in p (s .range) k l .cells≥;
-    degree≥ = s .range .up≥;
+    sized = up-in p (s .range) k l .sized;
     degree≤ = s .up≤;
     parts≥ = eighths-pos p k;
     point≤ = omega (arith, up-le, far-edge p k (p .rows) l);
   }
 
   pub across-room : InRoom (acrossAt p k) (eighths p k)
-  across-room = record { cells≤ = across-in p (s .range) k l .cells≤; parts≤ = eighths-small p k (s .levels≤) }
+  across-room = record { side = across-in p (s .range) k l; parts≤ = eighths-small p k (s .levels≤) }
 
   pub up-room : InRoom (upAt p k) (eighths p k)
-  up-room = record { cells≤ = up-in p (s .range) k l .cells≤; parts≤ = eighths-small p k (s .levels≤) }
+  up-room = record { side = up-in p (s .range) k l; parts≤ = eighths-small p k (s .levels≤) }
 
 -- ---- the functions of a level, by row and column
 

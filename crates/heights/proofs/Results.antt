@@ -12,8 +12,6 @@ use Rattle.facts.proofs.Tests.{true-T}
 use Rattle.exact.specs.Dyadic.{dyadic}
 use Rattle.exact.proofs.Dyadic.{dyadic-value}
 use Rattle.grid.specs.declared.Plan.{Plan}
-use Rattle.grid.specs.Numbering.{number}
-use Rattle.grid.specs.Side.{functions}
 use Rattle.grid.proofs.Laws.{in-range}
 use Rattle.mesh.specs.Mesh.{check}
 use Rattle.heights.specs.declared.Height.the-variants.{At, Refused}

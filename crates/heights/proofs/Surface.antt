@@ -18,8 +18,8 @@ use Rattle.grid.specs.declared.Plan.{Plan}
 use Rattle.grid.specs.declared.Place.{Place}
 use Rattle.grid.specs.declared.Side.{Side}
 use Rattle.grid.specs.Plan.{columnsAt, rowsAt, acrossAt, upAt, functionColumnsAt, functionRowsAt, functionOffset, functionTotal, functionNumber, functionLevel, FunctionInside}
-use Rattle.grid.specs.Side.{functions, firstOver, SideIn}
-use Rattle.grid.proofs.First.{Over}
+use Rattle.grid.specs.Knots.{firstOver}
+use Rattle.grid.specs.Side.{SideIn}
 use Rattle.grid.proofs.Laws.{function-number-lt}
 use Rattle.grid.proofs.Sides.{across-in, up-in, across-functions, up-functions}
 use Rattle.mesh.specs.Mesh.{active}
@@ -137,18 +137,18 @@ module _ (p : Plan) (functions : List ℕ) (heights : List ℤ) (x y : ℕ) (s :
     product-is r c m n = rw (place-at p (s .point .range) k l r c m n)
 
     -- a row's columns that are not over the point have value 0, and so have all of a row that is not
-    column-off : (c : ℕ) → c < W → (Over (acrossAt p k) c (cellOf h (columnsAt p k) x) → ⊥) → vx c ≡ 0
+    column-off : (c : ℕ) → c < W → (fc ≤ c → c ≤ fc + p .«degree_across» → ⊥) → vx c ≡ 0
     column-off c n off = value-outside (acrossAt p k) h x across c (omega (arith, across-functions p k)) off
 
-    row-off : (r : ℕ) → r < R → (Over (upAt p k) r (cellOf h (rowsAt p k) y) → ⊥) → vy r ≡ 0
+    row-off : (r : ℕ) → r < R → (fr ≤ r → r ≤ fr + p .«degree_up» → ⊥) → vy r ≡ 0
     row-off r n off = value-outside (upAt p k) h y up r (omega (arith, up-functions p k)) off
 
     row-window : (r : ℕ) → r < R → sumℤ W (λ c. productOf functions heights (o + (r * W + c)) (vx c * vy r)) ≡ rowSum functions heights (o + r * W + fc) X (vy r)
     unfolding rowSum localOf
     row-window r m =
         sum-window W fc (p .«degree_across» + 1) _ (omega (arith, column-in (p .«degree_across») (le-refl _)))
-        (λ c n. product-zero functions heights _ (rw (column-off c (omega (arith, column-in 0 zero-le)) (λ q. absurd (omega (arith, q .from)))) (zero-mul (vy r))))
-        (λ c n b. product-zero functions heights _ (rw (column-off c b (λ q. absurd (omega (arith, q .to)))) (zero-mul (vy r))))
+        (λ c n. product-zero functions heights _ (rw (column-off c (omega (arith, column-in 0 zero-le)) (λ q w. absurd (omega arith))) (zero-mul (vy r))))
+        (λ c n b. product-zero functions heights _ (rw (column-off c b (λ q w. absurd (omega arith))) (zero-mul (vy r))))
         ∙ sum-same (p .«degree_across» + 1) _ _ (λ j n. product-same functions heights (omega arith) (ap (λ v. v * vy r) (value-over (acrossAt p k) h x across j (omega arith))))
 
     pub level-sum : levelPart p functions heights x y k ≡ levelSum functions heights (functionNumber p (at p (s .point .range) k l fr fc)) W X Y
@@ -157,8 +157,8 @@ module _ (p : Plan) (functions : List ℕ) (heights : List ℤ) (x y : ℕ) (s :
         sum-rows R W _
         ∙ sum-same R _ _ (λ r m. sum-same W _ _ (λ c n. product-is r c m n) ∙ row-window r m)
         ∙ sum-window R fr (p .«degree_up» + 1) _ (omega (arith, row-in (p .«degree_up») (le-refl _)))
-        (λ r m. row-none functions heights _ X (row-off r (omega (arith, row-in 0 zero-le)) (λ q. absurd (omega (arith, q .from)))))
-        (λ r m b. row-none functions heights _ X (row-off r b (λ q. absurd (omega (arith, q .to)))))
+        (λ r m. row-none functions heights _ X (row-off r (omega (arith, row-in 0 zero-le)) (λ q w. absurd (omega arith))))
+        (λ r m b. row-none functions heights _ X (row-off r b (λ q w. absurd (omega arith))))
         ∙ sum-same (p .«degree_up» + 1) _ _ (λ i m. row-same functions heights X (omega (arith, number-at p (s .point .range) k l fr fc)) (value-over (upAt p k) h y up i (omega arith)))
 
     -- ---- sizes

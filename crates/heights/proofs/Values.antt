@@ -10,8 +10,8 @@ use Rattle.facts.proofs.Tests.{cases, not-i, not-e, and-i}
 use Rattle.facts.proofs.Sums.{sum-same, sum-rows, sum-mul}
 use Rattle.grid.specs.declared.Plan.{Plan}
 use Rattle.grid.specs.declared.Place.{Place}
-use Rattle.grid.specs.Plan.{columnsAt, rowsAt, acrossAt, upAt, functionColumnsAt, functionRowsAt, functionOffset, functionTotal, functionPlace, functionLevel, CellInside, FunctionInside, covers, supportedAt, supported}
-use Rattle.grid.specs.Side.{functions}
+use Rattle.grid.specs.Plan.{columnsAt, rowsAt, acrossAt, upAt, functionColumnsAt, functionRowsAt, functionOffset, functionTotal, functionPlace, functionLevel, CellInside, FunctionInside, supportedAt, supported}
+use Rattle.grid.specs.Knots.{functions, covers}
 use Rattle.grid.proofs.Laws.{function-inside, cell-place-number}
 use Rattle.grid.proofs.Sides.{across-functions, up-functions}
 use Rattle.splines.specs.Values.{cellOf, valueOn}
@@ -59,8 +59,8 @@ module _ (p : Plan) (x y : ℕ) (s : Point p x y) where
     value-outside : T (not (supported p f (cellAt p x y k))) → valueAt p x y at ≡ 0
     unfolding supported supportedAt cellAt valueAt
     value-outside t =
-        let a = covers (columnsAt p k) (p .«degree_across») (at .column) (cellOf (eighths p k) (columnsAt p k) x) in
-        let b = covers (rowsAt p k) (p .«degree_up») (at .row) (cellOf (eighths p k) (rowsAt p k) y) in
+        let a = covers (acrossAt p k) (at .column) (cellOf (eighths p k) (columnsAt p k) x) in
+        let b = covers (upAt p k) (at .row) (cellOf (eighths p k) (rowsAt p k) y) in
         let t′ : T (not (eqb k k && (a && b))) = rw (cell-place-number p (s .range) cell cell-in) at t in
         cases a
         (λ u. rw (values (upAt p k) (eighths p k) y up .outside (at .row) row-in

@@ -1,7 +1,7 @@
 -- The cell of a point. Assumes nothing.
 use mathlib.Core.Path.{_≡_, ap}
 use Prim.Native.Nat.{ℕ, suc, min, _-_, _*_, _/_, _<_, _≤_}
-use native.Mathlib.Nat.{lt-div-mul-add, div-mul-le-self, mul-le-mul-right}
+use native.Mathlib.Nat.{mul-div-cancel, lt-div-mul-add, div-mul-le-self, mul-le-mul-right}
 use native.Mathlib.Omega.{arith}
 use lib.Dec.{leb, leb→le, nleb→lt}
 use Rattle.facts.proofs.Tests.{cases}
@@ -12,6 +12,11 @@ use Rattle.splines.proofs.Local.{Point}
 pub cell-inside : (h n x : ℕ) → 1 ≤ n → cellOf h n x < n
 unfolding cellOf
 cell-inside h n x g = omega arith
+
+-- on a line it is the one behind it
+pub cell-line : (h n c : ℕ) → 1 ≤ h → c < n → cellOf h n (c * h) ≡ c
+unfolding cellOf
+cell-line h n c g l = rw (mul-div-cancel c {n = h} g) (omega arith)
 
 point-of : (h c x : ℕ) → c * h ≤ x → x ≤ suc c * h → Point h c x (x - c * h) (suc c * h - x)
 point-of h c x a b = record { place = omega arith; parts = omega arith }

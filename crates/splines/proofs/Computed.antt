@@ -1,9 +1,10 @@
 -- Knots and values computed from their definitions; the values were worked out in fractions. Assumes nothing.
 use mathlib.Core.List.{List, [], _∷_}
 use mathlib.Core.Path.{_≡_, refl}
-use Prim.Native.Nat.{ℕ, _+_}
+use Prim.Native.Nat.{ℕ, _*_}
 use Rattle.facts.specs.Numbers.{tabulate}
-use Rattle.splines.specs.Knots.{times, knotsBelow, knot}
+use Rattle.grid.specs.declared.Side.{Side}
+use Rattle.grid.specs.Knots.{isSet, isCorner, cornersTo, times, knotFrom, knot, knotOn, beyond, functions}
 use Rattle.splines.specs.Values.{rise, fall, box, basis, scale, cellOf, value, valueIn, valueOn}
 
 -- the cell of a point of 3 cells, with 8 parts to a cell: on a line the one behind it, on the far edge the last
@@ -11,14 +12,31 @@ pub cells : cellOf 8 3 0 ∷ cellOf 8 3 7 ∷ cellOf 8 3 8 ∷ cellOf 8 3 23 ∷
 unfolding cellOf
 cells = refl
 
--- the knots of 4 cells at degree 2
-pub knots : knotsBelow (times 2 4) 5 ≡ 0 ∷ 0 ∷ 0 ∷ 1 ∷ 2 ∷ 3 ∷ 4 ∷ 4 ∷ 4 ∷ []
-unfolding times knotsBelow
+-- u columns on each of b of level 0, at degree p
+abbrev pub side : ℕ → ℕ → ℕ → ℕ → Side
+side b u p corners = record { cells = b * u; degree = p; base = b; unit = u; corners = corners }
+
+-- the knots of 4 cells at degree 2; with the corner before column 1 of level 0 on both of two levels; at degree 1 it is a line like any other
+pub knots :
+    tabulate 9 (knotOn (side 4 1 2 0))
+    ∷ tabulate 9 (knotOn (side 3 1 2 2))
+    ∷ tabulate 12 (knotOn (side 3 2 2 2))
+    ∷ tabulate 6 (knotOn (side 3 1 1 2))
+    ∷ []
+    ≡ (0 ∷ 0 ∷ 0 ∷ 1 ∷ 2 ∷ 3 ∷ 4 ∷ 4 ∷ 4 ∷ [])
+    ∷ (0 ∷ 0 ∷ 0 ∷ 1 ∷ 1 ∷ 2 ∷ 3 ∷ 3 ∷ 3 ∷ [])
+    ∷ (0 ∷ 0 ∷ 0 ∷ 1 ∷ 2 ∷ 2 ∷ 3 ∷ 4 ∷ 5 ∷ 6 ∷ 6 ∷ 6 ∷ [])
+    ∷ (0 ∷ 0 ∷ 1 ∷ 2 ∷ 3 ∷ 3 ∷ [])
+    ∷ []
+unfolding tabulate isSet isCorner times knotFrom knot
 knots = refl
 
 -- of n cells at degree p, the values of all functions at x, with h parts to a cell; 2 * h * h make 1
+abbrev pub valuesOf : Side → ℕ → ℕ → List ℕ
+valuesOf s h x = tabulate (functions s) (λ i. valueOn s h i x)
+
 abbrev pub valuesAt : ℕ → ℕ → ℕ → ℕ → List ℕ
-valuesAt n p h x = tabulate (n + p) (λ i. valueOn (record { cells = n; degree = p }) h i x)
+valuesAt n p h x = valuesOf (side n 1 p 0) h x
 
 pub worked :
     valuesAt 3 1 8 0
@@ -49,5 +67,36 @@ pub worked :
     ∷ (0 ∷ 0 ∷ 0 ∷ 0 ∷ 0 ∷ 128 ∷ [])
     ∷ (0 ∷ 64 ∷ 384 ∷ 64 ∷ 0 ∷ [])
     ∷ []
-unfolding tabulate times knotsBelow knot rise fall box basis scale cellOf value valueIn valueOn
+unfolding tabulate isSet isCorner cornersTo times knotFrom knot beyond functions rise fall box basis scale cellOf value valueIn valueOn
 worked = refl
+
+-- with a corner: on it one function has all, and none reaches over it; at degree 1 nothing changes
+pub worked-corners :
+    valuesOf (side 3 1 2 2) 8 0
+    ∷ valuesOf (side 3 1 2 2) 8 5
+    ∷ valuesOf (side 3 1 2 2) 8 8
+    ∷ valuesOf (side 3 1 2 2) 8 11
+    ∷ valuesOf (side 3 1 2 2) 8 16
+    ∷ valuesOf (side 3 1 2 2) 8 21
+    ∷ valuesOf (side 3 1 2 2) 8 24
+    ∷ valuesOf (side 2 2 2 2) 8 13
+    ∷ valuesOf (side 2 2 2 2) 8 16
+    ∷ valuesOf (side 2 2 2 2) 8 19
+    ∷ valuesOf (side 3 1 1 2) 8 3
+    ∷ valuesOf (side 3 1 1 2) 8 8
+    ∷ []
+    ≡ (128 ∷ 0 ∷ 0 ∷ 0 ∷ 0 ∷ 0 ∷ [])
+    ∷ (18 ∷ 60 ∷ 50 ∷ 0 ∷ 0 ∷ 0 ∷ [])
+    ∷ (0 ∷ 0 ∷ 128 ∷ 0 ∷ 0 ∷ 0 ∷ [])
+    ∷ (0 ∷ 0 ∷ 50 ∷ 69 ∷ 9 ∷ 0 ∷ [])
+    ∷ (0 ∷ 0 ∷ 0 ∷ 64 ∷ 64 ∷ 0 ∷ [])
+    ∷ (0 ∷ 0 ∷ 0 ∷ 9 ∷ 69 ∷ 50 ∷ [])
+    ∷ (0 ∷ 0 ∷ 0 ∷ 0 ∷ 0 ∷ 128 ∷ [])
+    ∷ (0 ∷ 9 ∷ 69 ∷ 50 ∷ 0 ∷ 0 ∷ 0 ∷ [])
+    ∷ (0 ∷ 0 ∷ 0 ∷ 128 ∷ 0 ∷ 0 ∷ 0 ∷ [])
+    ∷ (0 ∷ 0 ∷ 0 ∷ 50 ∷ 69 ∷ 9 ∷ 0 ∷ [])
+    ∷ (80 ∷ 48 ∷ 0 ∷ 0 ∷ [])
+    ∷ (0 ∷ 128 ∷ 0 ∷ 0 ∷ [])
+    ∷ []
+unfolding tabulate isSet isCorner cornersTo times knotFrom knot beyond functions rise fall box basis scale cellOf value valueIn valueOn
+worked-corners = refl

@@ -1,5 +1,4 @@
 pub mod Computed
-pub mod Knots
 pub mod Recursion
 pub mod Three
 pub mod Local
@@ -7,5 +6,6 @@ pub mod Cells
 pub mod Halves
 pub mod Opened
 pub mod Values
+pub mod Lines
 pub mod Sides
 pub mod Located

@@ -7,10 +7,10 @@ use native.Mathlib.Omega.{arith}
 use lib.Dec.{T, ltb, eqb, ltb→lt, nltb→le, eqb→eq}
 use Rattle.facts.specs.Bounded.{sum}
 use Rattle.facts.proofs.Tests.{cases, differ}
-use Rattle.splines.specs.Knots.{knot}
+use Rattle.grid.specs.Knots.{knot}
+use Rattle.grid.proofs.Knots.{knot-at, knot-le, knot-gt}
 use Rattle.splines.specs.Values.{rise, fall, basis, from}
 use Rattle.splines.specs.Local.{full}
-use Rattle.splines.proofs.Knots.{knot-at, knot-le, knot-gt}
 use Rattle.splines.proofs.Three.{three, three-0, three-1, three-2, three-off, places}
 use Rattle.splines.proofs.Recursion.{zero-behind, zero-before, rise-near, fall-near, rise-far, fall-far, one-last, one-first, two-last, two-middle, two-first}
 

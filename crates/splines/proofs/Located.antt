@@ -1,17 +1,18 @@
 -- What code finds of a point is where it lies. Assumes nothing.
-use mathlib.Core.Path.{_≡_, refl, sym, ap, _∙_}
+use mathlib.Core.Path.{_≡_, refl, _∙_}
 use Prim.Native.Nat.{ℕ, suc, _+_, _-_, _*_, _<_, _≤_}
 use native.Mathlib.Nat.{mul-le-mul, le-trans}
 use native.Mathlib.Numerals.{add-one}
 use native.Mathlib.Omega.{arith}
-use lib.Dec.{eqb}
+use lib.Dec.{ltb}
 use Rattle.grid.specs.declared.Side.{Side}
+use Rattle.grid.specs.Knots.{times}
+use Rattle.grid.proofs.Knots.{some-cells}
 use Rattle.splines.specs.Values.{cellOf}
 use Rattle.splines.specs.Local.{outer, localOf}
 use Rattle.splines.specs.Claims.{OnSide}
 use Rattle.splines.proofs.Local.{Point}
 use Rattle.splines.proofs.Cells.{cell-inside, cell-point}
-use Rattle.splines.proofs.Opened.{full-start, full-end}
 use Rattle.splines.proofs.Sides.{outers}
 
 -- products are small
@@ -23,10 +24,10 @@ square a b = mul-le-mul (le-trans a b) (le-trans a b)
 
 module _ {s : Side} {h x c : ℕ} (on : OnSide s h x) (e : c ≡ cellOf h (s .cells) x) where
   pub inside : c < s .cells
-  inside = rw e (cell-inside h (s .cells) x (on .cells≥))
+  inside = rw e (cell-inside h (s .cells) x (some-cells s (on .sized)))
 
   point : Point h c x (x - c * h) (suc c * h - x)
-  point = rw e (cell-point h (s .cells) x (on .parts≥) (on .cells≥) (on .point≤))
+  point = rw e (cell-point h (s .cells) x (on .parts≥) (some-cells s (on .sized)) (on .point≤))
 
   pub starts : c * h ≤ x
   starts = omega (arith, point .place)
@@ -37,14 +38,14 @@ module _ {s : Side} {h x c : ℕ} (on : OnSide s h x) (e : c ≡ cellOf h (s .ce
   behind-is : h - (x - c * h) ≡ suc c * h - x
   behind-is = omega (arith, point .parts)
 
-  module _ {low high : ℕ} (a : low ≡ outer (s .degree) (eqb c 0) h (h - (x - c * h))) (b : high ≡ outer (s .degree) (eqb (c + 1) (s .cells)) h (x - c * h)) where
+  module _ {low high t t′ : ℕ} (k : t ≡ times s c) (a : low ≡ outer (s .degree) (ltb 1 t) h (h - (x - c * h))) (k′ : t′ ≡ times s (c + 1)) (b : high ≡ outer (s .degree) (ltb 1 t′) h (x - c * h)) where
     low-is : low ≡ localOf s h x .low
     unfolding localOf
-    low-is = a ∙ rw (behind-is, e) (ap (λ t. outer (s .degree) t h (suc (cellOf h (s .cells) x) * h - x)) (sym (full-start (s .degree) (s .cells) (cellOf h (s .cells) x) (on .degree≥) (rw e at inside))))
+    low-is = a ∙ rw (behind-is, k, e)
 
     high-is : high ≡ localOf s h x .high
     unfolding localOf
-    high-is = b ∙ rw (add-one, e) (ap (λ t. outer (s .degree) t h (x - cellOf h (s .cells) x * h)) (sym (full-end (s .degree) (s .cells) (cellOf h (s .cells) x) (on .degree≥) (rw e at inside))))
+    high-is = b ∙ rw (k′, add-one, e)
 
     pub rest : low + high ≤ 2 * h * h
     unfolding localOf

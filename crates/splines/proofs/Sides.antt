@@ -1,28 +1,26 @@
--- The values at a point of a side: those of the functions over its cell are as code computes them, the others are 0; together they make 1.
--- Assumes nothing.
-use mathlib.Core.Path.{_≡_, sym, _∙_}
+-- The values at a point of a side: those of the functions over its cell are as code computes them, the others are 0; together they make
+-- 1, and on a line both its cells give them. Assumes nothing.
+use mathlib.Core.Path.{_≡_, _∙_}
 use mathlib.Core.Bool.{Bool, true, false, cond}
 use Prim.Native.Nat.{ℕ, zero, suc, _+_, _-_, _*_, _<_, _≤_}
 use native.Mathlib.Omega.{arith}
-use lib.Dec.{T, eqb, eqb→eq}
+use lib.Dec.{eqb, eqb→eq}
 use Rattle.facts.specs.Bounded.{sum}
 use Rattle.facts.proofs.Sums.{sum-same}
 use Rattle.facts.proofs.Tests.{cases, not-e, T-true, T-false, eqb-of, differ}
 use Rattle.grid.specs.declared.Side.{Side}
-use Rattle.grid.specs.Plan.{covers}
-use Rattle.grid.specs.Side.{functions, firstOver}
-use Rattle.grid.proofs.First.{Over}
-use Rattle.grid.proofs.Spans.{covers-test}
-use Rattle.splines.specs.Knots.{timesOn, knotOn}
-use Rattle.splines.specs.Values.{scale, cellOf, value, valueOn}
+use Rattle.grid.specs.Knots.{times, knotOn, functions, covers, firstOver}
+use Rattle.grid.proofs.Knots.{knot-next, some-cells, knots-to, knots-all, first-lt, covers-test}
+use Rattle.splines.specs.Values.{basis, scale, cellOf, from, value, valueOn}
 use Rattle.splines.specs.Local.{full, outer, localOf, pieceOf}
 use Rattle.splines.specs.Claims.{OnSide, WholeFactors, Values}
-use Rattle.splines.proofs.Knots.{knot-next}
 use Rattle.splines.proofs.Recursion.{whole-factors}
 use Rattle.splines.proofs.Three.{three, three-0, three-1, three-2, three-off, places, three-most, three-sum}
-use Rattle.splines.proofs.Cells.{cell-inside, cell-point}
-use Rattle.splines.proofs.Opened.{open-times, knots-to, knots-all}
+use Rattle.splines.proofs.Local.{Open}
+use Rattle.splines.proofs.Cells.{cell-inside, cell-line, cell-point}
+use Rattle.splines.proofs.Opened.{open-times}
 use Rattle.splines.proofs.Values.{degrees, whole, second, third, makes, locally}
+use Rattle.splines.proofs.Lines as lines
 
 -- the functions over a cell, counted from the first
 abbrev Pieces : ℕ → Type 0
@@ -63,10 +61,10 @@ module _ (s : Side) (h x : ℕ) (on : OnSide s h x) where
   c = cellOf h (s .cells) x
 
   abbrev l : Bool
-  l = full (timesOn s) c
+  l = full (times s) c
 
   abbrev r : Bool
-  r = full (timesOn s) (suc c)
+  r = full (times s) (suc c)
 
   abbrev u : ℕ
   u = x - c * h
@@ -74,37 +72,40 @@ module _ (s : Side) (h x : ℕ) (on : OnSide s h x) where
   abbrev v : ℕ
   v = suc c * h - x
 
+  cells≥ : 1 ≤ s .cells
+  cells≥ = some-cells s (on .sized)
+
+  opened : Open p (s .cells) (times s)
+  opened = open-times s (on .sized)
+
   pub within : c < s .cells
-  within = cell-inside h (s .cells) x (on .cells≥)
+  within = cell-inside h (s .cells) x cells≥
 
   -- the first function over the point's cell
   abbrev f : ℕ
   f = firstOver s c
 
-  over-first : sum (suc c) (timesOn s) ≡ f + (p + 1)
-  unfolding firstOver
-  over-first = knots-to p (s .cells) c within
+  over-first : (y : ℕ) → y < s .cells → sum (suc y) (times s) ≡ firstOver s y + (p + 1)
+  over-first y l = omega (arith, knots-to s (on .sized) y l)
 
-  all : functions s + (p + 1) ≡ sum (suc (s .cells)) (timesOn s)
-  unfolding functions
-  all = sym (knots-all p (s .cells) (on .cells≥))
+  all : functions s + (p + 1) ≡ sum (suc (s .cells)) (times s)
+  all = omega (arith, knots-all s (on .sized))
 
   value-three : (i : ℕ) → i < functions s → valueOn s h i x ≡ three f (outer p l h v) (second p l r h u v) (third p l r h u v) i
   unfolding valueOn
   value-three i k =
-      locally p (on .degree≥) (on .degree≤) (s .cells) (timesOn s) (open-times p (s .cells) (on .degree≥) (on .cells≥)) h x f (on .parts≥) (on .point≤) over-first i
+      locally p (on .sized .degree≥) (on .degree≤) (s .cells) (times s) opened h x f (on .parts≥) (on .point≤) (over-first c within) i
       (omega (arith, all))
 
   make : outer p l h v + second p l r h u v + third p l r h u v ≡ 2 * h * h
-  make = makes p (on .degree≥) (on .degree≤) l r h u v (cell-point h (s .cells) x (on .parts≥) (on .cells≥) (on .point≤) .parts)
+  make = makes p (on .sized .degree≥) (on .degree≤) l r h u v (cell-point h (s .cells) x (on .parts≥) cells≥ (on .point≤) .parts)
 
   pub outers : outer p l h v + outer p r h u ≤ 2 * h * h
   outers = omega (arith, make, high-le p l r h u v)
 
   -- the last function over the cell is one of the side's
   pub over-last : f + p < functions s
-  unfolding functions firstOver
-  over-last = omega (arith, within)
+  over-last = first-lt s (on .sized) c within
 
   third-0 : p ≡ 1 → third p l r h u v ≡ 0
   third-0 e = rw (T-true (eqb p 1) (eqb-of p 1 e))
@@ -112,18 +113,18 @@ module _ (s : Side) (h x : ℕ) (on : OnSide s h x) where
   -- the functions over the cell
   pub value-over : (j : ℕ) → j ≤ p → valueOn s h (f + j) x ≡ pieceOf (localOf s h x) j
   unfolding pieceOf localOf
-  value-over j k = value-three (f + j) (omega (arith, over-last)) ∙ pieces p (on .degree≥) (on .degree≤) f _ _ _ j k
+  value-over j k = value-three (f + j) (omega (arith, over-last)) ∙ pieces p (on .sized .degree≥) (on .degree≤) f _ _ _ j k
 
   -- the others
-  pub value-outside : (i : ℕ) → i < functions s → (Over s i c → ⊥) → valueOn s h i x ≡ 0
+  pub value-outside : (i : ℕ) → i < functions s → (f ≤ i → i ≤ f + p → ⊥) → valueOn s h i x ≡ 0
   value-outside i k off =
       value-three i k
       ∙ places f i
-      (λ e. absurd (off (record { from = omega arith; to = omega arith })))
-      (λ e. absurd (off (record { from = omega arith; to = omega (arith, on .degree≥) })))
+      (λ e. absurd (off (omega arith) (omega arith)))
+      (λ e. absurd (off (omega arith) (omega (arith, on .sized .degree≥))))
       (λ e. cases (eqb p 1)
       (λ y. three-2 f _ _ _ i e ∙ third-0 (eqb→eq p 1 y))
-      (λ y. absurd (off (record { from = omega arith; to = omega (arith, on .degree≥, differ p 1 y) }))))
+      (λ y. absurd (off (omega arith) (omega (arith, on .sized .degree≥, differ p 1 y)))))
       (λ a b d. three-off f _ _ _ i a b d)
 
   value-most : (i : ℕ) → i < functions s → valueOn s h i x ≤ 2 * h * h
@@ -132,26 +133,28 @@ module _ (s : Side) (h x : ℕ) (on : OnSide s h x) where
   value-one : sum (functions s) (λ i. valueOn s h i x) ≡ 2 * h * h
   value-one =
       sum-same (functions s) _ _ value-three
-      ∙ three-sum (functions s) f _ _ _ (omega (arith, over-last, on .degree≥)) (λ e. third-0 (omega (arith, over-last, on .degree≥)))
+      ∙ three-sum (functions s) f _ _ _ (omega (arith, over-last, on .sized .degree≥)) (λ e. third-0 (omega (arith, over-last, on .sized .degree≥)))
       ∙ make
 
   near-knots : (d i : ℕ) → i + d < functions s + (p + 1) → knotOn s (i + d) ≤ knotOn s i + d
   near-knots zero i b = let e : i + 0 ≡ i = omega arith in rw e (omega arith)
   near-knots (suc d) i b =
       let e : i + suc d ≡ suc (i + d) = omega arith in
-      let o = open-times p (s .cells) (on .degree≥) (on .cells≥) in
-      rw e (omega (arith, knot-next (timesOn s) (s .cells) (o .least) (i + d) (omega (arith, all)), near-knots d i (omega arith)))
+      rw e (omega (arith, knot-next (times s) (s .cells) (opened .least) (i + d) (omega (arith, all)), near-knots d i (omega arith)))
 
   value-factors : (d i : ℕ) → 1 ≤ d → d ≤ p → i + d < functions s + (p + 1) → knotOn s i < knotOn s (i + d) → WholeFactors h d (knotOn s i) (knotOn s (i + d)) x
   value-factors d i g l b m = whole-factors h d (knotOn s i) (knotOn s (i + d)) x m (omega (arith, near-knots d i b)) (omega (arith, on .degree≤))
 
   value-whole : (i : ℕ) → valueOn s h i x * scale h p ≡ value h (s .cells) p (knotOn s) i x * (2 * h * h)
   unfolding valueOn
-  value-whole i = whole p (on .degree≥) (on .degree≤) h (s .cells) (knotOn s) i x (on .parts≥)
+  value-whole i = whole p (on .sized .degree≥) (on .degree≤) h (s .cells) (knotOn s) i x (on .parts≥)
 
-  over-covers : (i : ℕ) → Over s i c → T (covers (s .cells) p i c)
-  unfolding firstOver
-  over-covers i o = covers-test (s .cells) p i c within (record { from = o .to; to = o .from })
+  value-continuous : (c i : ℕ) → suc c < s .cells → x ≡ suc c * h → i < functions s
+      → basis h c (λ d. x) p (from (knotOn s) i) ≡ value h (s .cells) p (knotOn s) i x
+  unfolding value
+  value-continuous c i l e k =
+      rw (e, cell-line h (s .cells) (suc c) (on .parts≥) l)
+      (lines.continuous p (on .sized .degree≥) (on .degree≤) (s .cells) (times s) opened h c (firstOver s c) i l (over-first c (omega arith)) (omega (arith, all)))
 
   pub values : Values s h x
   values = record {
@@ -159,5 +162,6 @@ module _ (s : Side) (h x : ℕ) (on : OnSide s h x) where
     whole = value-whole;
     most = value-most;
     one = value-one;
-    outside = λ i k y. value-outside i k (λ o. not-e (covers (s .cells) p i c) y (over-covers i o));
+    outside = λ i k y. value-outside i k (λ a b. not-e (covers s i c) y (covers-test s (on .sized) i c within a b));
+    continuous = value-continuous;
   }

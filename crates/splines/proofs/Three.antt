@@ -1,5 +1,5 @@
 -- Three numbers side by side, and 0 elsewhere: what the functions over a cell have there. Assumes nothing.
-use mathlib.Core.Path.{_≡_, refl, ap, _∙_}
+use mathlib.Core.Path.{_≡_, refl, sym, ap, _∙_}
 use mathlib.Core.Logic.{_≢_}
 use mathlib.Core.Bool.{cond}
 use Prim.Native.Nat.{ℕ, _+_, _-_, _*_, _≤_, _<_}
@@ -48,6 +48,16 @@ places f i a b d e =
 
 pub three-same : (f i : ℕ) {p q r p′ q′ r′ : ℕ} → p ≡ p′ → q ≡ q′ → r ≡ r′ → three f p q r i ≡ three f p′ q′ r′ i
 three-same f i a b d = rw (a, b, d)
+
+-- a 0 in front goes behind
+pub three-shift : (f q r i : ℕ) → three f 0 q r i ≡ three (f + 1) q r 0 i
+three-shift f q r i =
+    places f i
+    (λ e. rw (three-0 f 0 q r i e, three-off (f + 1) q r 0 i (omega arith) (omega arith) (omega arith)))
+    (λ e. rw (three-1 f 0 q r i e, three-0 (f + 1) q r 0 i e))
+    (λ e. rw (three-2 f 0 q r i e, three-1 (f + 1) q r 0 i (omega arith)))
+    (λ x y z. rw (three-off f 0 q r i x y z) (sym (cases (eqb i (f + 3)) (λ w. three-2 (f + 1) q r 0 i (omega (arith, eqb→eq i (f + 3) w)))
+    (λ w. three-off (f + 1) q r 0 i y (omega arith) (omega (arith, differ i (f + 3) w))))))
 
 pub three-times : (f p q r k i : ℕ) → three f p q r i * k ≡ three f (k * p) (k * q) (k * r) i
 three-times f p q r k i =

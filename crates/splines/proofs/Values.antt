@@ -8,7 +8,7 @@ use native.Mathlib.Omega.{arith}
 use lib.Dec.{eqb, eqb→eq}
 use Rattle.facts.specs.Bounded.{sum}
 use Rattle.facts.proofs.Tests.{cases, differ}
-use Rattle.splines.specs.Knots.{knot}
+use Rattle.grid.specs.Knots.{knot}
 use Rattle.splines.specs.Values.{scale, cellOf, value, valueIn}
 use Rattle.splines.specs.Local.{full, outer}
 use Rattle.splines.proofs.Three.{three, three-same, three-times}

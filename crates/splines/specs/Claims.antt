@@ -1,19 +1,17 @@
 -- What is claimed of the values at a point of a side. Definitions only.
 use mathlib.Core.Path.{_≡_}
 use mathlib.Core.Bool.{not}
-use Prim.Native.Nat.{ℕ, _+_, _-_, _*_, _≤_, _<_}
+use Prim.Native.Nat.{ℕ, suc, _+_, _-_, _*_, _≤_, _<_}
 use lib.Dec.{T}
 use Rattle.facts.specs.Bounded.{sum}
 use Rattle.grid.specs.declared.Side.{Side}
-use Rattle.grid.specs.Plan.{covers}
-use Rattle.grid.specs.Side.{functions}
-use Rattle.splines.specs.Knots.{knotOn}
-use Rattle.splines.specs.Values.{rise, fall, scale, cellOf, value, valueOn}
+use Rattle.grid.specs.Knots.{knotOn, functions, covers}
+use Rattle.grid.specs.Side.{Sized}
+use Rattle.splines.specs.Values.{rise, fall, basis, scale, cellOf, from, value, valueOn}
 
 -- degree 1 or 2, h parts to a cell, x a point up to the far edge
 pub record OnSide (s : Side) (h x : ℕ) : Type 0 where
-  pub cells≥ : 1 ≤ s .cells
-  pub degree≥ : 1 ≤ s .degree
+  pub sized : Sized s
   pub degree≤ : s .degree ≤ 2
   pub parts≥ : 1 ≤ h
   pub point≤ : x ≤ s .cells * h
@@ -34,4 +32,7 @@ pub record Values (s : Side) (h x : ℕ) : Type 0 where
   pub most : (i : ℕ) → i < functions s → valueOn s h i x ≤ 2 * h * h
   pub one : sum (functions s) (λ i. valueOn s h i x) ≡ 2 * h * h
   -- a function is 0 where it does not cover the point's cell
-  pub outside : (i : ℕ) → i < functions s → T (not (covers (s .cells) (s .degree) i (cellOf h (s .cells) x))) → valueOn s h i x ≡ 0
+  pub outside : (i : ℕ) → i < functions s → T (not (covers s i (cellOf h (s .cells) x))) → valueOn s h i x ≡ 0
+  -- a function is continuous: on the line behind cell c, corner or not, the recursion gives in c the value that it has in the next cell
+  pub continuous : (c i : ℕ) → suc c < s .cells → x ≡ suc c * h → i < functions s
+      → basis h c (λ d. x) (s .degree) (from (knotOn s) i) ≡ value h (s .cells) (s .degree) (knotOn s) i x

@@ -1,4 +1,3 @@
-pub mod Knots
 pub mod Values
 pub mod Local
 pub mod Claims

@@ -4,11 +4,11 @@ use mathlib.Core.Bool.{Bool, cond}
 use Prim.Native.Nat.{ℕ, suc, _-_, _*_}
 use lib.Dec.{eqb, ltb}
 use Rattle.grid.specs.declared.Side.{Side}
+use Rattle.grid.specs.Knots.{times}
 use Rattle.splines.specs.declared.LocalValues.{LocalValues}
-use Rattle.splines.specs.Knots.{timesOn}
 use Rattle.splines.specs.Values.{cellOf}
 
--- the knot on line j is taken more than once
+-- the knot on line j is taken more than once: both ends are, and at degree 2 the corners
 abbrev pub full : (ℕ → ℕ) → ℕ → Bool
 full m j = ltb 1 (m j)
 
@@ -21,8 +21,8 @@ outer p l h v = cond (eqb p 1) (2 * h * v) (cond l (2 * (v * v)) (v * v))
 unfoldable pub localOf : Side → ℕ → ℕ → LocalValues
 localOf s h x =
     let c = cellOf h (s .cells) x in
-    let low = outer (s .degree) (full (timesOn s) c) h (suc c * h - x) in
-    let high = outer (s .degree) (full (timesOn s) (suc c)) h (x - c * h) in
+    let low = outer (s .degree) (full (times s) c) h (suc c * h - x) in
+    let high = outer (s .degree) (full (times s) (suc c)) h (x - c * h) in
     record { degree = s .degree; cell = c; low = low; middle = 2 * h * h - low - high; high = high }
 
 -- the value of function j of those over the cell, counted from the first

@@ -4,7 +4,7 @@ use mathlib.Core.Bool.{_&&_, cond}
 use Prim.Native.Nat.{ℕ, zero, suc, min, _+_, _-_, _*_, _/_}
 use lib.Dec.{leb, ltb}
 use Rattle.grid.specs.declared.Side.{Side}
-use Rattle.splines.specs.Knots.{knotOn}
+use Rattle.grid.specs.Knots.{knotOn}
 
 -- the recursion's two factors at step d, (x - a) / (b - a) and (b - x) / (b - a) between the lines a and b, of which d * h make 1; 0 where
 -- b is a. Nothing is lost where b - a divides d, as it does up to degree 2

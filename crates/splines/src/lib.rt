@@ -2,6 +2,8 @@
 use grid::Side;
 ghost use mathlib.Core.Path.{_≡_};
 ghost use Prim.Native.Nat.{_≤_};
+ghost use Rattle.grid.specs.Knots.{times};
+ghost use Rattle.grid.specs.Side.{SideIn};
 ghost use Rattle.splines.specs.Values.{cellOf};
 ghost use Rattle.splines.specs.Local.{outer, localOf, pieceOf};
 ghost use Rattle.splines.specs.Claims.{OnSide};
@@ -43,6 +45,22 @@ fn cell_of(parts: u32, cells: u32, x: u32) -> u32
     cells - 1
 }
 
+// How often the knot on line j is taken.
+fn times(side: Side, j: u32) -> u32
+    requires { ⌜ SideIn side ⌝ }
+    requires { ⌜ j ≤ side .cells ⌝ }
+    ensures { λ r. ⌜ r ≡ times side j ⌝ }
+{
+    let degree = side.degree;
+    if (j == 0) | (j == side.cells) {
+        return degree + 1;
+    }
+    if side.is_corner(j) {
+        return degree;
+    }
+    1
+}
+
 // The first of the functions over a cell, or the last: v parts lie between the point and the line where it ends. `full`: the knot on the
 // cell's other line is taken more than once.
 fn outer(degree: u32, full: bool, parts: u32, v: u32) -> u32
@@ -68,8 +86,8 @@ pub fn locate(side: Side, parts: u32, x: u32) -> LocalValues
     let degree = side.degree;
     let cell = cell_of(parts, cells, x);
     let before = x - cell * parts;
-    let low = outer(degree, cell == 0, parts, parts - before);
-    let high = outer(degree, cell + 1 == cells, parts, before);
+    let low = outer(degree, 1 < times(side, cell), parts, parts - before);
+    let high = outer(degree, 1 < times(side, cell + 1), parts, before);
     let middle = 2 * parts * parts - low - high;
     LocalValues {
         degree,
