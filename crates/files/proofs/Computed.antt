@@ -1,4 +1,4 @@
--- Req 01 worked by hand: files, and whole calls of reading and writing, as rows of one table under one theorem that the
+-- Req 01, and what Req 05 says of files, worked by hand: files, and whole calls of reading and writing, as rows of one table under one theorem that the
 -- checker computes. What is expected is written out. Assumes nothing.
 use mathlib.Core.Path.{_≡_, refl}
 use mathlib.Core.Bool.{Bool, true, false, _&&_}
@@ -10,13 +10,14 @@ use Rattle.facts.specs.Bounded.{some, every}
 use Rattle.facts.specs.Numbers.{elem, all, listed, tabulate}
 use Rattle.grid.specs.declared.Plan.{Plan}
 use Rattle.grid.specs.Numbering.{offset, number, levelOf, placeOn, place}
-use Rattle.grid.specs.Plan.{between, inRange, ratio, grown, tooLarge, lastLevel, above, below, parent, child, covers, supportedAt, supported, apart, ancestor, nearAt, near}
+use Rattle.grid.specs.Plan.{between, numbersInRange, cornersInRange, inRange, ratio, grown, tooLarge, lastLevel, above, below, parent, child, supportedAt, supported, ancestor, nearAt, near}
+use Rattle.grid.specs.Knots.{isSet, isCorner, cornersTo, times, knotFrom, knot, beyond, functions, covers, apart, together}
 use Rattle.mesh.specs.Mesh.{absent, refined, children, cellFits, isMesh, isAdmissible, tableOf, labelOf, labels, isLabelled, refusal3, refusal6, check}
 use Rattle.outcomes.specs.Runs.{Tables}
 use Rattle.outcomes.proofs.Examples.{same, plan, W0, tables}
 use Rattle.codec.specs.Numbers as codec
 use Rattle.codec.specs.Numbers.{encodeGroups, encodeNumber, decodeGroups, decodeNumber, encodeNumbers, front, onward, decodeNumbers, encodeBehind, encodeRising, decodeBehind, decodeRising}
-use Rattle.files.specs.File.{File, badFile, gotFile, encodeFile, fileOf, withCells, withHead, decodeFile, rebuilt, refusal13, readRefusal, answeredPlan, ReadOutcome, readFile, readMesh, WriteOutcome, unwritten, writeText, writeMesh}
+use Rattle.files.specs.File.{File, badFile, gotFile, noCorners, encodeCorners, encodeFile, fileOf, notZeros, decodeCorners, withCorners, withCells, withHead, decodeFile, rebuilt, refusal13, readRefusal, answeredPlan, ReadOutcome, readFile, readMesh, WriteOutcome, unwritten, writeText, writeMesh}
 
 -- ---- rows
 
@@ -35,7 +36,9 @@ samePlan p q =
     eqb (p .columns) (q .columns)
     && (eqb (p .rows) (q .rows)
     && (eqb (p .levels) (q .levels)
-    && (eqb (p .«degree_across») (q .«degree_across») && (eqb (p .«degree_up») (q .«degree_up») && eqb (p .class) (q .class)))))
+    && (eqb (p .«degree_across») (q .«degree_across»)
+    && (eqb (p .«degree_up») (q .«degree_up»)
+    && (eqb (p .class) (q .class) && (eqb (p .«corners_across») (q .«corners_across») && eqb (p .«corners_up») (q .«corners_up»)))))))
 
 -- with nothing left behind it
 abbrev pub isFile : File → Plan → List ℕ → Bool
@@ -71,6 +74,19 @@ small = plan 1 1 2 1 1 0
 -- the smallest plan with a mesh that is not admissible: T = 42, F = 66
 abbrev pub classTwo : Plan
 classTwo = plan 2 1 3 1 1 2
+
+-- a plan with corners
+abbrev pub with : Plan → ℕ → ℕ → Plan
+with p across up = record {
+  columns = p .columns;
+  rows = p .rows;
+  levels = p .levels;
+  «degree_across» = p .«degree_across»;
+  «degree_up» = p .«degree_up»;
+  class = p .class;
+  «corners_across» = across;
+  «corners_up» = up;
+}
 
 -- what is lent holds 9s, which no mesh and none of these files has
 abbrev pub nines : ℕ → List ℕ
@@ -131,11 +147,17 @@ table =
     lists (plan 1 2 3 4 5 6) [] (1 ∷ 2 ∷ 3 ∷ 4 ∷ 5 ∷ 6 ∷ 0 ∷ [])
     ∷ lists (plan 1 2 3 4 5 6) (7 ∷ 10 ∷ 210 ∷ []) (1 ∷ 2 ∷ 3 ∷ 4 ∷ 5 ∷ 6 ∷ 3 ∷ 7 ∷ 3 ∷ 200 ∷ 1 ∷ [])
     ∷ lists (plan 128 1 1 1 1 0) (16384 ∷ 16385 ∷ []) (128 ∷ 1 ∷ 1 ∷ 1 ∷ 1 ∷ 1 ∷ 0 ∷ 2 ∷ 128 ∷ 128 ∷ 1 ∷ 1 ∷ [])
+    -- Req 05: "both numbers after the last cell", or behind the count; "leaves them out if both are zero", not if one is
+    ∷ lists (with (plan 1 2 3 4 5 6) 2 4) [] (1 ∷ 2 ∷ 3 ∷ 4 ∷ 5 ∷ 6 ∷ 0 ∷ 2 ∷ 4 ∷ [])
+    ∷ lists (with (plan 1 2 3 4 5 6) 0 32768) (7 ∷ 10 ∷ []) (1 ∷ 2 ∷ 3 ∷ 4 ∷ 5 ∷ 6 ∷ 2 ∷ 7 ∷ 3 ∷ 0 ∷ 128 ∷ 128 ∷ 2 ∷ [])
+    ∷ lists (with (plan 1 2 3 4 5 6) 300 0) (7 ∷ []) (1 ∷ 2 ∷ 3 ∷ 4 ∷ 5 ∷ 6 ∷ 1 ∷ 7 ∷ 172 ∷ 2 ∷ 0 ∷ [])
     -- "Reading rebuilds both tables": W0 fresh, W0 after P3, and meshes of a smaller plan and of one with a class
     ∷ reads (3 ∷ 1 ∷ 3 ∷ 1 ∷ 1 ∷ 0 ∷ 0 ∷ []) (lent 63 94) 0 W0 fresh0
     ∷ reads (3 ∷ 1 ∷ 3 ∷ 1 ∷ 1 ∷ 0 ∷ 2 ∷ 0 ∷ 1 ∷ []) (lent 63 94) 0 W0 afterP3
     ∷ reads (1 ∷ 1 ∷ 2 ∷ 1 ∷ 1 ∷ 0 ∷ 1 ∷ 0 ∷ []) (lent 5 13) 0 small oneRefined
     ∷ reads (2 ∷ 1 ∷ 3 ∷ 1 ∷ 1 ∷ 2 ∷ 3 ∷ 0 ∷ 1 ∷ 1 ∷ []) (lent 42 66) 0 classTwo admissible
+    -- of degree 1 a corner adds no function
+    ∷ reads (3 ∷ 1 ∷ 3 ∷ 1 ∷ 1 ∷ 0 ∷ 2 ∷ 0 ∷ 1 ∷ 2 ∷ 0 ∷ []) (lent 63 94) 0 (with W0 2 0) afterP3
     -- 12 "where a number is cut off": no bytes, in the plan, before the count, in the count, in a cell's second and third group,
     -- and a count of more cells than follow
     ∷ unreadable []
@@ -159,23 +181,39 @@ table =
     -- "a zero difference"
     ∷ unreadable (3 ∷ 1 ∷ 3 ∷ 1 ∷ 1 ∷ 0 ∷ 2 ∷ 0 ∷ 0 ∷ [])
     ∷ unreadable (3 ∷ 1 ∷ 3 ∷ 1 ∷ 1 ∷ 0 ∷ 3 ∷ 0 ∷ 1 ∷ 0 ∷ [])
+    -- Req 05: "two zeros, or a lone number, on file get 12", behind a cell and behind the count
+    ∷ unreadable (3 ∷ 1 ∷ 3 ∷ 1 ∷ 1 ∷ 0 ∷ 2 ∷ 0 ∷ 1 ∷ 0 ∷ 0 ∷ [])
+    ∷ unreadable (3 ∷ 1 ∷ 3 ∷ 1 ∷ 1 ∷ 0 ∷ 0 ∷ 0 ∷ 0 ∷ [])
+    ∷ unreadable (3 ∷ 1 ∷ 3 ∷ 1 ∷ 1 ∷ 0 ∷ 0 ∷ 0 ∷ 0 ∷ 9 ∷ [])
+    ∷ unreadable (3 ∷ 1 ∷ 3 ∷ 1 ∷ 1 ∷ 0 ∷ 2 ∷ 0 ∷ 1 ∷ 2 ∷ [])
+    ∷ unreadable (3 ∷ 1 ∷ 3 ∷ 1 ∷ 1 ∷ 0 ∷ 0 ∷ 0 ∷ [])
+    -- and so do corners cut off, too long and not shortest
+    ∷ unreadable (3 ∷ 1 ∷ 3 ∷ 1 ∷ 1 ∷ 0 ∷ 0 ∷ 130 ∷ [])
+    ∷ unreadable (3 ∷ 1 ∷ 3 ∷ 1 ∷ 1 ∷ 0 ∷ 0 ∷ 2 ∷ 130 ∷ [])
+    ∷ unreadable (3 ∷ 1 ∷ 3 ∷ 1 ∷ 1 ∷ 0 ∷ 0 ∷ 2 ∷ 129 ∷ 129 ∷ 129 ∷ 1 ∷ [])
+    ∷ unreadable (3 ∷ 1 ∷ 3 ∷ 1 ∷ 1 ∷ 0 ∷ 0 ∷ 130 ∷ 0 ∷ 0 ∷ [])
     -- "12 .., then 1 to 5 in their order": before 1 and 2, and before 4
     ∷ unreadable (0 ∷ 1 ∷ 3 ∷ 1 ∷ 1 ∷ 0 ∷ [])
     ∷ unreadable (16 ∷ 16 ∷ 5 ∷ 1 ∷ 1 ∷ 0 ∷ 1 ∷ [])
+    ∷ unreadable (0 ∷ 1 ∷ 3 ∷ 1 ∷ 1 ∷ 0 ∷ 0 ∷ 2 ∷ [])
     ∷ refusesRead (1 ∷ 1 ∷ 2 ∷ 1 ∷ 1 ∷ 0 ∷ 2 ∷ 5 ∷ 0 ∷ []) (lent 5 13) 12 zeroPlan
     -- 1: no columns; class 1; before 2, and before 3 and 13
     ∷ refusesRead (0 ∷ 1 ∷ 3 ∷ 1 ∷ 1 ∷ 0 ∷ 0 ∷ []) (lent 0 0) 1 zeroPlan
     ∷ refusesRead (3 ∷ 1 ∷ 3 ∷ 1 ∷ 1 ∷ 1 ∷ 0 ∷ []) (lent 63 94) 1 zeroPlan
     ∷ refusesRead (17 ∷ 16 ∷ 8 ∷ 1 ∷ 1 ∷ 0 ∷ 0 ∷ []) (lent 2 2) 1 zeroPlan
-    ∷ refusesRead (3 ∷ 1 ∷ 3 ∷ 1 ∷ 5 ∷ 0 ∷ 0 ∷ 0 ∷ []) (lent 2 2) 1 zeroPlan
+    ∷ refusesRead (3 ∷ 1 ∷ 3 ∷ 1 ∷ 5 ∷ 0 ∷ 0 ∷ 2 ∷ 0 ∷ 9 ∷ []) (lent 2 2) 1 zeroPlan
+    -- Req 05: "a bit outside 1 to A-1 (or B-1) is set": bits 0 and 3 of three columns, bit 1 of one row
+    ∷ refusesRead (3 ∷ 1 ∷ 3 ∷ 1 ∷ 1 ∷ 0 ∷ 0 ∷ 1 ∷ 0 ∷ []) (lent 63 94) 1 zeroPlan
+    ∷ refusesRead (3 ∷ 1 ∷ 3 ∷ 1 ∷ 1 ∷ 0 ∷ 0 ∷ 8 ∷ 0 ∷ []) (lent 63 94) 1 zeroPlan
+    ∷ refusesRead (3 ∷ 1 ∷ 3 ∷ 1 ∷ 1 ∷ 0 ∷ 0 ∷ 0 ∷ 2 ∷ []) (lent 63 94) 1 zeroPlan
     -- 2: T = 87,296; before 3 and 13
-    ∷ refusesRead (16 ∷ 16 ∷ 5 ∷ 1 ∷ 1 ∷ 0 ∷ 0 ∷ 0 ∷ []) (lent 2 2) 2 zeroPlan
+    ∷ refusesRead (16 ∷ 16 ∷ 5 ∷ 1 ∷ 1 ∷ 0 ∷ 0 ∷ 2 ∷ 0 ∷ 9 ∷ []) (lent 2 2) 2 zeroPlan
     -- 3: by either table; "Reading answers the plan too .. so that a caller knows what to lend"; before 4 and 13
     ∷ refusesRead (3 ∷ 1 ∷ 3 ∷ 1 ∷ 1 ∷ 0 ∷ 0 ∷ []) (lent 62 94) 3 W0
     ∷ refusesRead (3 ∷ 1 ∷ 3 ∷ 1 ∷ 1 ∷ 0 ∷ 0 ∷ []) (lent 63 95) 3 W0
     ∷ refusesRead (3 ∷ 1 ∷ 3 ∷ 1 ∷ 1 ∷ 0 ∷ 0 ∷ []) (lent 0 0) 3 W0
     ∷ refusesRead (1 ∷ 1 ∷ 2 ∷ 1 ∷ 1 ∷ 0 ∷ 1 ∷ 5 ∷ []) (lent 6 13) 3 small
-    ∷ refusesRead (1 ∷ 1 ∷ 2 ∷ 1 ∷ 1 ∷ 0 ∷ 0 ∷ 0 ∷ []) (lent 5 12) 3 small
+    ∷ refusesRead (3 ∷ 1 ∷ 3 ∷ 1 ∷ 1 ∷ 0 ∷ 0 ∷ 4 ∷ 0 ∷ 9 ∷ []) (lent 0 0) 3 (with W0 4 0)
     -- 4: "also for a listed cell of T or more", alone and behind a cell that may be refined
     ∷ refusesRead (1 ∷ 1 ∷ 2 ∷ 1 ∷ 1 ∷ 0 ∷ 1 ∷ 5 ∷ []) (lent 5 13) 4 small
     ∷ refusesRead (1 ∷ 1 ∷ 2 ∷ 1 ∷ 1 ∷ 0 ∷ 2 ∷ 0 ∷ 5 ∷ []) (lent 5 13) 4 small
@@ -186,25 +224,27 @@ table =
     -- before 5 (below), by a cell whose parent is not listed and by T, and before 13
     ∷ refusesRead (2 ∷ 1 ∷ 3 ∷ 1 ∷ 1 ∷ 2 ∷ 3 ∷ 0 ∷ 2 ∷ 2 ∷ []) (lent 42 66) 4 classTwo
     ∷ refusesRead (2 ∷ 1 ∷ 3 ∷ 1 ∷ 1 ∷ 2 ∷ 3 ∷ 0 ∷ 2 ∷ 40 ∷ []) (lent 42 66) 4 classTwo
-    ∷ refusesRead (1 ∷ 1 ∷ 2 ∷ 1 ∷ 1 ∷ 0 ∷ 1 ∷ 5 ∷ 0 ∷ []) (lent 5 13) 4 small
+    ∷ refusesRead (3 ∷ 1 ∷ 3 ∷ 1 ∷ 1 ∷ 0 ∷ 1 ∷ 63 ∷ 2 ∷ 0 ∷ 9 ∷ []) (lent 63 94) 4 (with W0 2 0)
     -- 5: cells 0 and 2; before 13
     ∷ refusesRead (2 ∷ 1 ∷ 3 ∷ 1 ∷ 1 ∷ 2 ∷ 2 ∷ 0 ∷ 2 ∷ []) (lent 42 66) 5 classTwo
-    ∷ refusesRead (2 ∷ 1 ∷ 3 ∷ 1 ∷ 1 ∷ 2 ∷ 2 ∷ 0 ∷ 2 ∷ 0 ∷ []) (lent 42 66) 5 classTwo
-    -- 13 "where bytes follow the last number": the count, or a cell
-    ∷ refusesRead (3 ∷ 1 ∷ 3 ∷ 1 ∷ 1 ∷ 0 ∷ 0 ∷ 0 ∷ []) (lent 63 94) 13 W0
-    ∷ refusesRead (1 ∷ 1 ∷ 2 ∷ 1 ∷ 1 ∷ 0 ∷ 1 ∷ 0 ∷ 1 ∷ []) (lent 5 13) 13 small
+    ∷ refusesRead (2 ∷ 1 ∷ 3 ∷ 1 ∷ 1 ∷ 2 ∷ 2 ∷ 0 ∷ 2 ∷ 2 ∷ 0 ∷ 9 ∷ []) (lent 42 66) 5 (with classTwo 2 0)
+    -- 13 "where bytes follow the last number", which is one of corners: a number, or a byte that is none
+    ∷ refusesRead (3 ∷ 1 ∷ 3 ∷ 1 ∷ 1 ∷ 0 ∷ 0 ∷ 6 ∷ 0 ∷ 0 ∷ []) (lent 63 94) 13 (with W0 6 0)
+    ∷ refusesRead (3 ∷ 1 ∷ 3 ∷ 1 ∷ 1 ∷ 0 ∷ 2 ∷ 0 ∷ 1 ∷ 2 ∷ 0 ∷ 255 ∷ []) (lent 63 94) 13 (with W0 2 0)
     -- "Writing answers its length", and keeps the bytes past it
     ∷ writes W0 fresh0 (nines 9) 0 7 (3 ∷ 1 ∷ 3 ∷ 1 ∷ 1 ∷ 0 ∷ 0 ∷ 9 ∷ 9 ∷ [])
     ∷ writes W0 afterP3 (nines 12) 0 9 (3 ∷ 1 ∷ 3 ∷ 1 ∷ 1 ∷ 0 ∷ 2 ∷ 0 ∷ 1 ∷ 9 ∷ 9 ∷ 9 ∷ [])
     ∷ writes classTwo admissible (nines 11) 0 10 (2 ∷ 1 ∷ 3 ∷ 1 ∷ 1 ∷ 2 ∷ 3 ∷ 0 ∷ 1 ∷ 1 ∷ 9 ∷ [])
+    ∷ writes (with W0 2 0) afterP3 (nines 12) 0 11 (3 ∷ 1 ∷ 3 ∷ 1 ∷ 1 ∷ 0 ∷ 2 ∷ 0 ∷ 1 ∷ 2 ∷ 0 ∷ 9 ∷ [])
     -- just enough bytes; 10 where there is one less, or none
     ∷ writes small oneRefined (nines 8) 0 8 (1 ∷ 1 ∷ 2 ∷ 1 ∷ 1 ∷ 0 ∷ 1 ∷ 0 ∷ [])
     ∷ refusesWrite small oneRefined (nines 7) 10
-    ∷ refusesWrite W0 afterP3 (nines 8) 10
+    ∷ refusesWrite (with W0 2 0) afterP3 (nines 10) 10
     ∷ refusesWrite small oneRefined [] 10
-    -- "refuses 1 to 6, then 10": no columns; T = 87,296; either table's length; W0 fresh with cell 0 absent; cells 0 and 2; W0 fresh
+    -- "refuses 1 to 6, then 10": no columns, a corner behind the third; T = 87,296; either table's length; W0 fresh with cell 0 absent; cells 0 and 2; W0 fresh
     -- with function 0 deactivated
     ∷ refusesWrite (plan 0 1 3 1 1 0) (lent 0 0) (nines 9) 1
+    ∷ refusesWrite (with W0 8 0) fresh0 (nines 9) 1
     ∷ refusesWrite (plan 16 16 5 1 1 0) (lent 2 2) (nines 9) 2
     ∷ refusesWrite W0 (tables (drop 1 (fresh0 .cells)) (fresh0 .functions)) (nines 9) 3
     ∷ refusesWrite W0 (tables (fresh0 .cells) (drop 1 (fresh0 .functions))) (nines 9) 3
@@ -216,9 +256,9 @@ table =
 
 -- the order of 4, 5 and 13, where all three, the last two or one are due
 pub late : refusal13 classTwo (0 ∷ 2 ∷ 42 ∷ []) (0 ∷ []) ∷ refusal13 classTwo (0 ∷ 2 ∷ []) (0 ∷ []) ∷ refusal13 classTwo (0 ∷ []) (0 ∷ []) ∷ [] ≡ 4 ∷ 5 ∷ 13 ∷ []
-unfolding some every elem all tabulate offset number levelOf placeOn place ratio grown lastLevel above below parent child apart ancestor nearAt near absent refined children cellFits isMesh isAdmissible tableOf rebuilt refusal13
+unfolding some every elem all tabulate offset number levelOf placeOn place ratio grown lastLevel above below parent child isSet isCorner cornersTo times knotFrom knot beyond functions covers apart together ancestor nearAt near absent refined children cellFits isMesh isAdmissible tableOf rebuilt refusal13
 late = refl
 
 pub worked : T (allHold table)
-unfolding table some every elem all listed tabulate offset number levelOf placeOn place between inRange ratio grown tooLarge lastLevel above below parent child covers supportedAt supported apart ancestor nearAt near absent refined children cellFits isMesh isAdmissible tableOf labelOf labels isLabelled refusal3 refusal6 check codec.above encodeGroups encodeNumber decodeGroups decodeNumber encodeNumbers front onward decodeNumbers encodeBehind encodeRising decodeBehind decodeRising encodeFile fileOf withCells withHead decodeFile rebuilt refusal13 readRefusal answeredPlan readFile readMesh unwritten writeText writeMesh
+unfolding table some every elem all listed tabulate offset number levelOf placeOn place between numbersInRange cornersInRange inRange ratio grown tooLarge lastLevel above below parent child isSet isCorner cornersTo times knotFrom knot beyond functions covers apart together supportedAt supported ancestor nearAt near absent refined children cellFits isMesh isAdmissible tableOf labelOf labels isLabelled refusal3 refusal6 check codec.above encodeGroups encodeNumber decodeGroups decodeNumber encodeNumbers front onward decodeNumbers encodeBehind encodeRising decodeBehind decodeRising noCorners encodeCorners encodeFile fileOf notZeros decodeCorners withCorners withCells withHead decodeFile rebuilt refusal13 readRefusal answeredPlan readFile readMesh unwritten writeText writeMesh
 worked = tt

@@ -15,9 +15,8 @@ use Rattle.files.specs.declared.Outline.{Outline}
 use Rattle.files.specs.declared.Judged.{Judged}
 use Rattle.files.specs.declared.Judged.the-variants.{Good, Refused}
 use Rattle.grid.specs.declared.Plan.{Plan}
-use Rattle.grid.specs.Plan.{planOf}
-use Rattle.files.specs.File.{badFile, withCells, withHead, decodeFile}
-use Rattle.files.specs.Steps.{numbersOf, cellsOf, GoodFile, JudgesFile}
+use Rattle.files.specs.File.{badFile, decodeCorners, withCorners, withCells, withHead, decodeFile}
+use Rattle.files.specs.Steps.{CornersFound, planWith, numbersOf, cellsOf, GoodFile, JudgesFile}
 
 pub file-no-head : (s : List ℕ) → decodeNumbers 7 s ≡ badMany → decodeFile s ≡ badFile
 unfolding decodeFile withHead
@@ -30,7 +29,7 @@ module _ {s ns : List ℕ} {to : ℕ} (seven : length ns ≡ 7) (f : AllFound s 
   pub count-small : getD ns 6 0 < numberLimit
   count-small = small-at (numbers-canonical 7 s ns (drop to s) head-reads .small) 6 (omega arith)
 
-  file-cells : decodeFile s ≡ withCells (planOf ns) (decodeRising (getD ns 6 0) (drop to s))
+  file-cells : decodeFile s ≡ withCells ns (decodeRising (getD ns 6 0) (drop to s))
   unfolding decodeFile withHead
   file-cells = rw head-reads refl
 
@@ -38,11 +37,17 @@ module _ {s ns : List ℕ} {to : ℕ} (seven : length ns ≡ 7) (f : AllFound s 
   unfolding withCells
   file-no-cells e = file-cells ∙ rw e refl
 
-  pub file-good : {e : End} {q : Plan} → CellsFound s to (getD ns 6 0) e → q ≡ planOf ns
-      → GoodFile s (record { plan = q; count = getD ns 6 0; first = to; end = e .at; last = e .last })
-  unfolding withCells cellsOf numbersOf
-  file-good {e} k p = rw p (ends-good 0 (e .last) (decodeRising (getD ns 6 0) (drop to s)) (drop (e .at) s) (k .reads) (λ cs m l.
-      record { file = file-cells ∙ rw m refl; cells = k .reads; inside = k .inside }))
+  module _ {e : End} (k : CellsFound s to (getD ns 6 0) e) where
+    pub file-no-corners : decodeCorners (drop (e .at) s) ≡ badMany → decodeFile s ≡ badFile
+    unfolding withCells withCorners
+    file-no-corners b = ends-good 0 (e .last) (decodeRising (getD ns 6 0) (drop to s)) (drop (e .at) s) (k .reads) (λ cs m l.
+        file-cells ∙ rw (m, b) refl)
+
+    pub file-good : {across up end : ℕ} {q : Plan} → CornersFound s (e .at) across up end → q ≡ planWith ns across up
+        → GoodFile s (record { plan = q; count = getD ns 6 0; first = to; end = end; last = e .last })
+    unfolding withCells withCorners cellsOf numbersOf
+    file-good f p = rw p (ends-good 0 (e .last) (decodeRising (getD ns 6 0) (drop to s)) (drop (e .at) s) (k .reads) (λ cs m l.
+        record { file = file-cells ∙ rw (m, f .reads) refl; behind = drop (e .at) s; cells = k .reads; inside = f .inside }))
 
 -- ---- what an answer of `judge` says
 

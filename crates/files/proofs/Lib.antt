@@ -1,6 +1,7 @@
 pub mod Computed
 pub mod Coarse
 pub mod Coding
+pub mod CornerNumbers
 pub mod Decoding
 pub mod Longest
 pub mod Meshes

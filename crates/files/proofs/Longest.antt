@@ -1,12 +1,13 @@
--- How long a file can be: no mesh has one of more than 5,469 bytes, and one mesh has as many. Assumes nothing.
+-- How long a file can be: no mesh has one of more than 5,470 bytes, and one mesh has as many. Assumes nothing.
 use mathlib.Core.Path.{_≡_, refl, sym, ap, subst}
-use mathlib.Core.List.{List, append-nil}
-use Prim.Native.Nat.{ℕ, zero, suc, _+_, _-_, _*_, _^_, _≤_, _<_}
-use native.Mathlib.Nat.{pow-suc, mul-le-mul}
+use mathlib.Core.List.{List, _++_, append-nil}
+use Prim.Native.Nat.{ℕ, zero, suc, _+_, _-_, _*_, _%_, _^_, _≤_, _<_}
+use native.Mathlib.Nat.{pow-suc, pow-le-pow-right, mul-le-mul, le-refl}
 use native.Mathlib.Numerals.{add-one}
 use native.Mathlib.Omega.{arith}
 use lib.Dec.{T, eqb→eq, ltb, ltb→lt, lt→ltb, lit≤, nltb→le}
 use lib.ListN.{length, getD, length-append}
+use lib.Pow.{pow-mono}
 use Rattle.facts.specs.Numbers.{listed}
 use Rattle.facts.proofs.Tests.{cases}
 use Rattle.facts.proofs.Turns.{listed-short}
@@ -22,7 +23,7 @@ use Rattle.grid.proofs.Levels.{level-before, level-from}
 use Rattle.grid.proofs.Totals.{cells-closed}
 use Rattle.mesh.specs.Mesh.{refined, tableOf, labels, check}
 use Rattle.mesh.proofs.Bridge.{Good, is-mesh, check-good, good-table, good-check, refined-tableOf}
-use Rattle.codec.specs.Numbers.{encodeNumber, encodeNumbers, encodeBehind, encodeRising}
+use Rattle.codec.specs.Numbers.{encodeGroups, encodeNumber, encodeNumbers, encodeBehind, encodeRising}
 use Rattle.codec.specs.Fitting.{numberLimit, Behind, last, next, Rising, empty, first}
 use Rattle.codec.proofs.Numbers.{short}
 use Rattle.codec.proofs.Groups.{bytes-one, bytes-two}
@@ -30,8 +31,9 @@ use Rattle.listing.specs.Judged.{lastOf}
 use Rattle.listing.specs.Cells.{refinedBelow, refinedBytes}
 use Rattle.listing.proofs.Cells.{refined-none, count-yes, bytes-none, bytes-yes, last-yes, refined-rising}
 use Rattle.files.specs.Bounds.{mostFileBytes}
-use Rattle.files.specs.File.{headNumbers, encodeFile, fileOf}
+use Rattle.files.specs.File.{headNumbers, noCorners, encodeCorners, encodeFile, fileOf}
 use Rattle.files.proofs.Coarse.{coarser, listed-coarser}
+use Rattle.files.proofs.CornerNumbers.{cornerBytes, corners-within, corners-short}
 
 -- ---- the bytes of a number
 
@@ -79,12 +81,67 @@ fourfold p k =
     let e : 3 * cellOffset p (suc k) + p .columns * p .rows ≡ p .columns * p .rows * (4 ^ k * 4) = rw pow-suc at (cells-closed p (suc k)) in
     omega (arith, cells-closed p k)
 
-coarser-small : (p : Plan) → InRange p → cellTotal p ≤ mostCells → coarser p ≤ 5461
-coarser-small p range small =
-    let e : suc (p .levels - 1) ≡ p .levels = omega (arith, range .levels≥) in
-    let f : cellTotal p ≡ 4 * coarser p + p .columns * p .rows = rw e at (fourfold p (p .levels - 1)) in
-    let m : 1 * 1 ≤ p .columns * p .rows = mul-le-mul (range .columns≥) (range .rows≥) in
-    omega arith
+-- of a plan that is not too large, with n columns times rows and k + 1 levels: how many cells c the first k can have
+data Sized (n c : ℕ) : Type 0 where
+  wide : c ≤ 5456 → Sized n c
+  narrow : n ≤ 4 → c ≤ 5460 → Sized n c
+  single : n ≤ 1 → c ≤ 5461 → Sized n c
+
+sized : (k n c : ℕ) → k ≤ 7 → 3 * c + n ≡ n * 4 ^ k → 4 * c + n ≤ mostCells → Sized n c
+sized k n c h e m =
+    cases (ltb k 5) (λ t. shallow (ltb→lt k 5 t)) (λ f.
+    cases (ltb k 6) (λ t. let q = at 5 (omega (arith, nltb→le k 5 f, ltb→lt k 6 t)) in let l : n ≤ 16 = omega arith in wide (omega arith)) (λ g.
+    cases (ltb k 7) (λ t. let q = at 6 (omega (arith, nltb→le k 6 g, ltb→lt k 7 t)) in narrow (omega arith) (omega arith)) (λ i.
+    let q = at 7 (omega (arith, nltb→le k 7 i)) in single (omega arith) (omega arith))))
+  where
+    shallow : k < 5 → Sized n c
+    shallow l = let q : 4 ^ k ≤ 4 ^ 4 = pow-le-pow-right (lit≤ tt) {i = k} {j = 4} (omega arith) in wide (omega (arith, mul-le-mul (le-refl n) q))
+
+    at : (j : ℕ) → k ≡ j → 3 * c + n ≡ n * 4 ^ j
+    at j q = rw q at e
+
+-- ---- the corners: the more cells, the fewer bytes
+
+-- no bit from n on is set
+bits-one : (n bits : ℕ) → n ≤ 4 → bits < 2 ^ n → length (encodeNumber bits) ≡ 1
+bits-one n bits h l = let m : 2 ^ n ≤ 2 ^ 4 = pow-mono h in one-byte bits (omega arith)
+
+-- nor bit 0
+bits-none : (n bits : ℕ) → n ≤ 1 → bits < 2 ^ n → bits % 2 ≡ 0 → bits ≡ 0
+bits-none n bits h l e = let m : 2 ^ n ≤ 2 ^ 1 = pow-mono h in omega arith
+
+no-bytes : (a b : ℕ) → a ≡ 0 → b ≡ 0 → length (encodeCorners a b) ≡ 0
+unfolding encodeCorners noCorners
+no-bytes a b x y = rw (x, y) refl
+
+module _ (p : Plan) (range : InRange p) (small : cellTotal p ≤ mostCells) where
+  columns≤ : p .columns ≤ p .columns * p .rows
+  columns≤ = omega (arith, mul-le-mul (le-refl (p .columns)) (range .rows≥))
+
+  rows≤ : p .rows ≤ p .columns * p .rows
+  rows≤ = omega (arith, mul-le-mul (range .columns≥) (le-refl (p .rows)))
+
+  -- a byte for each cell before the last level, and the corners
+  pub cells-and-corners : coarser p + length (cornerBytes p) ≤ 5462
+  cells-and-corners = go (sized (p .levels - 1) (p .columns * p .rows) (coarser p) (omega arith) (cells-closed p (p .levels - 1)) total)
+    where
+      total : 4 * coarser p + p .columns * p .rows ≤ mostCells
+      total = let e : suc (p .levels - 1) ≡ p .levels = omega (arith, range .levels≥) in omega (arith, rw e at (fourfold p (p .levels - 1)))
+
+      go : Sized (p .columns * p .rows) (coarser p) → coarser p + length (cornerBytes p) ≤ 5462
+      go (wide c) = omega (arith, corners-short (p .«corners_across») (p .«corners_up»))
+      go (narrow n c) = omega (
+        arith,
+        corners-within (p .«corners_across») (p .«corners_up»),
+        bits-one (p .columns) (p .«corners_across») (omega (arith, columns≤)) (range .cornersAcross<),
+        bits-one (p .rows) (p .«corners_up») (omega (arith, rows≤)) (range .cornersUp<),
+      )
+      go (single n c) = omega (
+        arith,
+        no-bytes (p .«corners_across») (p .«corners_up»)
+            (bits-none (p .columns) (p .«corners_across») (omega (arith, columns≤)) (range .cornersAcross<) (range .evenAcross))
+            (bits-none (p .rows) (p .«corners_up») (omega (arith, rows≤)) (range .cornersUp<) (range .evenUp)),
+      )
 
 -- ---- the whole file
 
@@ -103,17 +160,23 @@ head-bytes p count range = rw (
 
 -- where no cell from n on is refined
 file-parts : (p : Plan) (table : List ℕ) (n : ℕ) → InRange p → listed (cellTotal p) (refined table) ≡ listed n (refined table)
-    → length (fileOf p table) ≡ 6 + (length (encodeNumber (length (refinedBelow table n))) + length (refinedBytes table n))
+    → length (fileOf p table)
+    ≡ 6 + (length (encodeNumber (length (refinedBelow table n))) + length (refinedBytes table n) + length (cornerBytes p))
 unfolding fileOf encodeFile refinedBelow refinedBytes
 file-parts p table n range e =
     let ls = listed n (refined table) in
-    rw e (omega (arith, length-append (encodeNumbers (headNumbers p (length ls))) (encodeRising ls), head-bytes p (length ls) range))
+    rw e (omega (
+      arith,
+      length-append (encodeNumbers (headNumbers p (length ls))) (encodeRising ls ++ cornerBytes p),
+      length-append (encodeRising ls) (cornerBytes p),
+      head-bytes p (length ls) range,
+    ))
 
 pub file-short : (p : Plan) (cs fs : List ℕ) → check p cs fs ≡ 0 → length (fileOf p cs) ≤ mostFileBytes
 unfolding refinedBelow
 file-short p cs fs e =
     let G = check-good p cs fs e .0 in
-    let small = coarser-small p (G .range) (G .small) in
+    let small = cells-and-corners p (G .range) (G .small) in
     let n = length (refinedBelow cs (coarser p)) in
     let k : n ≤ coarser p = listed-short (refined cs) (coarser p) in
     omega (
@@ -123,7 +186,7 @@ file-short p cs fs e =
       cells-short cs (coarser p) (omega arith),
     )
 
--- ---- and it is reached: a mesh of 1 column, 1 row and 8 levels with all cells refined that can be
+-- ---- and it is reached: a mesh of 4 columns, 1 row and 7 levels with a corner and all cells refined that can be
 
 -- where the first cells are refined, each takes one byte: 0 the first, and then differences of 1
 module _ (table : List ℕ) where
@@ -151,75 +214,79 @@ module _ (table : List ℕ) where
         all-bytes i below,
       ))
 
-abbrev pub deepest : Plan
-deepest = record { columns = 1; rows = 1; levels = 8; «degree_across» = 1; «degree_up» = 1; class = 0 }
+abbrev pub cornered : Plan
+cornered = record { columns = 4; rows = 1; levels = 7; «degree_across» = 1; «degree_up» = 1; class = 0; «corners_across» = 2; «corners_up» = 0 }
 
 -- the cells of the levels before the last
 abbrev pub coarse : Cells
-coarse c = ltb c 5461
+coarse c = ltb c 5460
 
-deepest-total : cellTotal deepest ≡ 21845
+cornered-total : cellTotal cornered ≡ 21844
 unfolding offset grown ratio
-deepest-total = refl
+cornered-total = refl
 
-deepest-coarser : coarser deepest ≡ 5461
+cornered-coarser : coarser cornered ≡ 5460
 unfolding offset grown ratio
-deepest-coarser = refl
+cornered-coarser = refl
 
-deepest-range : InRange deepest
-deepest-range = omega arith
+cornered-range : InRange cornered
+cornered-range = omega arith
 
--- they are those of a level below 7
-module _ (c : ℕ) (i : c < cellTotal deepest) where
-  abbrev inside : CellInside deepest (cellPlace deepest c)
-  inside = cell-inside deepest deepest-range c i
+-- they are those of a level below 6
+module _ (c : ℕ) (i : c < cellTotal cornered) where
+  abbrev inside : CellInside cornered (cellPlace cornered c)
+  inside = cell-inside cornered cornered-range c i
 
-  abbrev is : cellNumber deepest (cellPlace deepest c) ≡ c
-  is = cell-number-place deepest deepest-range c i
+  abbrev is : cellNumber cornered (cellPlace cornered c) ≡ c
+  is = cell-number-place cornered cornered-range c i
 
-  coarse-level : T (coarse c) → cellLevel deepest c < 7
-  coarse-level t = level-before (columnsAt deepest) (rowsAt deepest) 8 c inside is 7 (omega (arith, deepest-coarser, ltb→lt c 5461 t))
+  coarse-level : T (coarse c) → cellLevel cornered c < 6
+  coarse-level t = level-before (columnsAt cornered) (rowsAt cornered) 7 c inside is 6 (omega (arith, cornered-coarser, ltb→lt c 5460 t))
 
-  level-coarse : cellLevel deepest c < 7 → T (coarse c)
-  level-coarse l = cases (ltb c 5461) (λ t. t) (λ t.
-      let m = level-from (columnsAt deepest) (rowsAt deepest) 8 c inside is 7 (omega (arith, deepest-coarser, nltb→le c 5461 t)) in
+  level-coarse : cellLevel cornered c < 6 → T (coarse c)
+  level-coarse l = cases (ltb c 5460) (λ t. t) (λ t.
+      let m = level-from (columnsAt cornered) (rowsAt cornered) 7 c inside is 6 (omega (arith, cornered-coarser, nltb→le c 5460 t)) in
       absurd (omega arith))
 
-coarse-inside : Inside (hierarchy deepest) coarse
-coarse-inside c t = omega (arith, deepest-total, ltb→lt c 5461 t)
+coarse-inside : Inside (hierarchy cornered) coarse
+coarse-inside c t = omega (arith, cornered-total, ltb→lt c 5460 t)
 
-coarse-mesh : MeshSet (hierarchy deepest) coarse
+coarse-mesh : MeshSet (hierarchy cornered) coarse
 coarse-mesh = record {
-  closed = λ c i t l. level-coarse (parent deepest c) (parent-lt deepest deepest-range c i l)
-      (omega (arith, parent-level deepest deepest-range c i l, coarse-level c i t));
+  closed = λ c i t l. level-coarse (parent cornered c) (parent-lt cornered cornered-range c i l)
+      (omega (arith, parent-level cornered cornered-range c i l, coarse-level c i t));
   shallow = λ c i t. omega (arith, coarse-level c i t);
 }
 
 -- class 0 has no neighbourhoods
-coarse-admissible : Admissible (hierarchy deepest) coarse
-coarse-admissible q c i t n = absurd (near-places deepest deepest-range q c n .graded refl)
+coarse-admissible : Admissible (hierarchy cornered) coarse
+coarse-admissible q c i t n = absurd (near-places cornered cornered-range q c n .graded refl)
 
-abbrev pub deepestCells : List ℕ
-deepestCells = tableOf deepest coarse
+abbrev pub corneredCells : List ℕ
+corneredCells = tableOf cornered coarse
 
-deepest-good : Good deepest deepestCells
-deepest-good = good-table deepest deepest-range coarse coarse-inside (omega (arith, deepest-total)) coarse-mesh coarse-admissible
+cornered-good : Good cornered corneredCells
+cornered-good = good-table cornered cornered-range coarse coarse-inside (omega (arith, cornered-total)) coarse-mesh coarse-admissible
 
 byte-two : (table : List ℕ) (c : ℕ) → T (refined table c) → getD table c 0 ≡ 2
 unfolding refined
 byte-two table c t = eqb→eq (getD table c 0) 2 t
 
-coarse-byte : (c : ℕ) → c < coarser deepest → getD deepestCells c 0 ≡ 2
+coarse-byte : (c : ℕ) → c < coarser cornered → getD corneredCells c 0 ≡ 2
 coarse-byte c l =
-    let t : T (coarse c) = lt→ltb c 5461 (omega (arith, deepest-coarser)) in
-    byte-two deepestCells c (subst (λ S. T (S c)) (sym (refined-tableOf deepest deepest-range coarse coarse-inside)) t)
+    let t : T (coarse c) = lt→ltb c 5460 (omega (arith, cornered-coarser)) in
+    byte-two corneredCells c (subst (λ S. T (S c)) (sym (refined-tableOf cornered cornered-range coarse coarse-inside)) t)
 
-pub longest : (check deepest deepestCells (labels deepest deepestCells) ≡ 0) × (length (fileOf deepest deepestCells) ≡ mostFileBytes)
+corner-bytes : length (encodeCorners 2 0) ≡ 2
+unfolding encodeCorners noCorners encodeNumbers encodeNumber encodeGroups
+corner-bytes = refl
+
+pub longest : (check cornered corneredCells (labels cornered corneredCells) ≡ 0) × (length (fileOf cornered corneredCells) ≡ mostFileBytes)
 longest =
-    let cs = deepestCells in
-    let n = coarser deepest in
-    let two : length (encodeNumber 5461) ≡ 2 = ap length (bytes-two 5461 (lit≤ tt) (lit≤ tt)) in
-    let count : length (encodeNumber (length (refinedBelow cs n))) ≡ 2 = rw (all-counted cs n coarse-byte, deepest-coarser) two in
-    let below = listed-coarser deepest cs deepest-range (is-mesh deepest cs deepest-good) in
-    let bytes = file-parts deepest cs n deepest-range below in
-    (good-check deepest cs deepest-good, omega (arith, all-bytes cs n coarse-byte, deepest-coarser))
+    let cs = corneredCells in
+    let n = coarser cornered in
+    let two : length (encodeNumber 5460) ≡ 2 = ap length (bytes-two 5460 (lit≤ tt) (lit≤ tt)) in
+    let count : length (encodeNumber (length (refinedBelow cs n))) ≡ 2 = rw (all-counted cs n coarse-byte, cornered-coarser) two in
+    let below = listed-coarser cornered cs cornered-range (is-mesh cornered cs cornered-good) in
+    let bytes = file-parts cornered cs n cornered-range below in
+    (good-check cornered cs cornered-good, omega (arith, all-bytes cs n coarse-byte, cornered-coarser, corner-bytes))

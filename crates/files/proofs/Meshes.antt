@@ -23,7 +23,7 @@ use Rattle.listing.specs.Cells.{refinedBelow}
 use Rattle.listing.proofs.Cells.{refined-rising}
 use Rattle.files.specs.File.{fileOf, encodeFile, gotFile, decodeFile, rebuilt, refusal13, readRefusal}
 use Rattle.files.proofs.Rising.{rises, listed-elem}
-use Rattle.files.proofs.Coding.{head-small, Writable, file-whole, file-only, file-rising}
+use Rattle.files.proofs.Coding.{head-small, corners-small, Writable, file-whole, file-only, file-rising}
 
 -- ---- refusals 1 to 3
 
@@ -59,6 +59,7 @@ module _ (p : Plan) (cs fs : List ℕ) (e : check p cs fs ≡ 0) where
       record {
         head = head-small p (length cells) (G .range) (omega (arith, listed-short (refined cs) (cellTotal p)));
         rising = refined-rising cs (cellTotal p) (omega arith) .0;
+        corners = corners-small p (G .range);
       }
 
   pub file-read : decodeFile (fileOf p cs) ≡ gotFile p cells []

@@ -93,17 +93,17 @@ module _ (s : List ℕ) (h : Outline) (g : GoodFile s h) where
   -- the listed cells, all below t where the last is
   cells-below : (t : ℕ) → h .last < t → T (all (λ c. ltb c t) (cellsOf s h))
   unfolding cellsOf numbersOf
-  cells-below t l = ends-good 0 (h .last) (decodeRising (h .count) (drop (h .first) s)) (drop (h .end) s) (g .cells) (λ cs e q.
-      rw e (last-all (rising-canonical (h .count) (drop (h .first) s) cs (drop (h .end) s) e .rises) t (rw q l)))
+  cells-below t l = ends-good 0 (h .last) (decodeRising (h .count) (drop (h .first) s)) (g .behind) (g .cells) (λ cs e q.
+      rw e (last-all (rising-canonical (h .count) (drop (h .first) s) cs (g .behind) e .rises) t (rw q l)))
 
   last-is : lastOf 0 (cellsOf s h) ≡ h .last
   unfolding cellsOf numbersOf
-  last-is = ends-good 0 (h .last) (decodeRising (h .count) (drop (h .first) s)) (drop (h .end) s) (g .cells) (λ cs e q. rw e q)
+  last-is = ends-good 0 (h .last) (decodeRising (h .count) (drop (h .first) s)) (g .behind) (g .cells) (λ cs e q. rw e q)
 
   module _ (p : Plan) (t new : List ℕ) (l : h .last < length t) (z : Clear t) (e : new ≡ markedBy (decodeRising (h .count) (drop (h .first) s)) t) where
     new-is : new ≡ marked (cellsOf s h) t
     unfolding cellsOf numbersOf markedBy
-    new-is = ends-good 0 (h .last) (decodeRising (h .count) (drop (h .first) s)) (drop (h .end) s) (g .cells) (λ cs q _. e ∙ rw q refl)
+    new-is = ends-good 0 (h .last) (decodeRising (h .count) (drop (h .first) s)) (g .behind) (g .cells) (λ cs q _. e ∙ rw q refl)
 
     refined-is : (c : ℕ) → refined new c ≡ elem c (cellsOf s h)
     unfolding refined

@@ -1,7 +1,7 @@
--- The bytes of a mesh's file: a head of numbers and the refined cells, and what the lent bytes hold when they are written. Assumes nothing.
+-- The bytes of a mesh's file: a head of numbers, the refined cells and the corners, and what the lent bytes hold when they are written. Assumes nothing.
 use mathlib.Core.Path.{_≡_, refl, sym, ap, subst, _∙_}
 use mathlib.Core.Logic.{_≢_}
-use mathlib.Core.List.{List, _++_}
+use mathlib.Core.List.{List, _++_, append-assoc}
 use Prim.Native.Nat.{ℕ, _+_, _-_, _≤_, _<_}
 use native.Mathlib.Nat.{zero-add}
 use native.Mathlib.Omega.{arith}
@@ -30,6 +30,7 @@ use Rattle.files.specs.declared.WriteAnswer.{WriteAnswer}
 use Rattle.files.specs.File.{headNumbers, encodeFile, fileOf, WriteOutcome, unwritten, writeText, writeMesh}
 use Rattle.files.proofs.Coarse.{coarser, coarser-le, listed-coarser}
 use Rattle.files.proofs.Coding.{head-small}
+use Rattle.files.proofs.CornerNumbers.{cornerBytes}
 
 -- ---- the cells before the last level: no other is refined in a mesh
 
@@ -70,12 +71,19 @@ module _ (p : Plan) (cells part : List ℕ) (k : Part p cells part) (m : Measure
   pub small-head : Small (headNumbers p (m .count))
   small-head = head-small p (m .count) (k .range) (omega (arith, few-cells))
 
-  pub file-parts : encodeNumbers (headNumbers p (m .count)) ++ refinedBytes part (length part) ≡ fileOf p cells
+  pub file-parts : encodeNumbers (headNumbers p (m .count)) ++ (refinedBytes part (length part) ++ cornerBytes p) ≡ fileOf p cells
   unfolding fileOf encodeFile refinedBytes
   file-parts = let n : m .count ≡ length (listed (cellTotal p) (refined cells)) = w .count ∙ ap length (k .lists) in rw (k .lists, n) refl
 
-  pub file-length : length (fileOf p cells) ≡ length (encodeNumbers (headNumbers p (m .count))) + m .bytes
-  file-length = sym (ap length file-parts) ∙ omega (arith, length-append (encodeNumbers (headNumbers p (m .count))) (refinedBytes part (length part)), w .bytes)
+  pub file-length : length (fileOf p cells) ≡ length (encodeNumbers (headNumbers p (m .count))) + m .bytes + length (cornerBytes p)
+  file-length =
+      sym (ap length file-parts)
+      ∙ omega (
+        arith,
+        length-append (encodeNumbers (headNumbers p (m .count))) (refinedBytes part (length part) ++ cornerBytes p),
+        length-append (refinedBytes part (length part)) (cornerBytes p),
+        w .bytes,
+      )
 
 -- ---- a text in the lent bytes
 
@@ -91,14 +99,20 @@ wrote text file new n r h e w =
     let b : new ≡ text ++ drop (length text) file = w .bytes ∙ rw zero-add refl in
     rw (le-ltb (length file) (length text) h, e, b) refl
 
--- the head, then the cells
+-- the head, the cells, the corners
 module _ (p : Plan) (cells part : List ℕ) (k : Part p cells part) (m : Measured) (w : Measures part m) where
-  pub wrote-parts : (file mid new : List ℕ) (n at r : ℕ) → length (fileOf p cells) ≤ length file → n ≡ length (fileOf p cells)
-      → Writes file 0 (encodeNumbers (headNumbers p (m .count))) at mid → Writes mid at (refinedBytes part (length part)) r new
+  pub wrote-parts : (file f g new : List ℕ) (n at to r : ℕ) → length (fileOf p cells) ≤ length file → n ≡ length (fileOf p cells)
+      → Writes file 0 (encodeNumbers (headNumbers p (m .count))) at f → Writes f at (refinedBytes part (length part)) to g
+      → Writes g to (cornerBytes p) r new
       → _≡_ {A = WriteOutcome} (record { answer = record { number = 0; length = n }; file = new }) (writeText (fileOf p cells) file)
-  wrote-parts file mid new n at r h e a b =
+  wrote-parts file f g new n at to r h e a b c =
+      let head = encodeNumbers (headNumbers p (m .count)) in
+      let bytes = refinedBytes part (length part) in
+      let l = file-length p cells part k m w in
+      let s : head ++ bytes ++ cornerBytes p ≡ fileOf p cells = append-assoc head bytes _ ∙ file-parts p cells part k m w in
       wrote (fileOf p cells) file new n r h e
-      (subst (λ (t : List ℕ). Writes file 0 t r new) (file-parts p cells part k m w) (writes-more (omega (arith, file-length p cells part k m w)) a b))
+      (subst (λ (t : List ℕ). Writes file 0 t r new) s
+      (writes-more (omega (arith, l, length-append head bytes, w .bytes)) (writes-more (omega (arith, l)) a b) c))
 
 -- ---- the check before
 

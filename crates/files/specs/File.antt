@@ -1,10 +1,10 @@
--- Document 02, Req 01, "Walls kept on disk": the file of a mesh ("wall"), what bytes are read as, and reading and writing as functions
--- of their whole input. Everywhere cs and fs are the lent cell and function table. Definitions only.
-use mathlib.Core.Bool.{not, _||_, cond}
+-- Document 02, Req 01, "Walls kept on disk", and what Req 05 adds to it: the file of a mesh ("wall"), what bytes are read as, and reading
+-- and writing as functions of their whole input. Everywhere cs and fs are the lent cell and function table. Definitions only.
+use mathlib.Core.Bool.{Bool, not, _&&_, _||_, cond}
 use mathlib.Core.List.{List, [], _∷_, _++_}
 use Prim.Native.Nat.{ℕ}
 use lib.Dec.{ltb, eqb}
-use lib.ListN.{length, getD, drop}
+use lib.ListN.{length, getD, take, drop}
 use Rattle.facts.specs.Numbers.{elem, all, listed}
 use Rattle.grid.specs.declared.Plan.{Plan}
 use Rattle.grid.specs.Plan.{planOf, cellTotal}
@@ -19,29 +19,53 @@ use Rattle.files.specs.declared.WriteAnswer.{WriteAnswer}
 abbrev pub headNumbers : Plan → ℕ → List ℕ
 headNumbers p count = p .columns ∷ p .rows ∷ p .levels ∷ p .«degree_across» ∷ p .«degree_up» ∷ p .class ∷ count ∷ []
 
--- the head, "the first split cell if there is one, then each difference from the one before, in rising order"
+-- neither direction has a corner
+unfoldable pub noCorners : ℕ → ℕ → Bool
+noCorners across up = eqb across 0 && eqb up 0
+
+-- Req 05: "A saved wall puts both numbers after the last cell, and leaves them out if both are zero"
+unfoldable pub encodeCorners : ℕ → ℕ → List ℕ
+encodeCorners across up = cond (noCorners across up) [] (encodeNumbers (across ∷ up ∷ []))
+
+-- the head, "the first split cell if there is one, then each difference from the one before, in rising order", the corners
 unfoldable pub encodeFile : Plan → List ℕ → List ℕ
-encodeFile p cells = encodeNumbers (headNumbers p (length cells)) ++ encodeRising cells
+encodeFile p cells =
+    encodeNumbers (headNumbers p (length cells)) ++ (encodeRising cells ++ encodeCorners (p .«corners_across») (p .«corners_up»))
 
 -- the file of the mesh with this cell table
 unfoldable pub fileOf : Plan → List ℕ → List ℕ
 fileOf p table = encodeFile p (listed (cellTotal p) (refined table))
 
--- ---- what bytes are read as: a plan, listed cells and the bytes behind them; `badFile` gets refusal 12
+-- ---- what bytes are read as: a plan, listed cells and the bytes that are left; `badFile` gets refusal 12
 
 pub data File : Type 0 where
   badFile : File
   gotFile : Plan → List ℕ → List ℕ → File
 
+-- Req 05: "two zeros .. on file get 12"
+unfoldable pub notZeros : Many → Many
+notZeros badMany = badMany
+notZeros (gotMany ns s) = cond (noCorners (getD ns 0 0) (getD ns 1 0)) badMany (gotMany ns s)
+
+-- the corners: both numbers are 0 where nothing is left behind the last cell; "a lone number" is a second one cut off
+unfoldable pub decodeCorners : List ℕ → Many
+decodeCorners [] = gotMany (0 ∷ 0 ∷ []) []
+decodeCorners (b ∷ s) = notZeros (decodeNumbers 2 (b ∷ s))
+
+-- the corners behind the cells: the plan has the six numbers of the head, and these
+unfoldable pub withCorners : List ℕ → List ℕ → Many → File
+withCorners head cells badMany = badFile
+withCorners head cells (gotMany corners s) = gotFile (planOf (take 6 head ++ corners)) cells s
+
 -- the cells behind the head
-unfoldable pub withCells : Plan → Many → File
-withCells p badMany = badFile
-withCells p (gotMany cells s) = gotFile p cells s
+unfoldable pub withCells : List ℕ → Many → File
+withCells head badMany = badFile
+withCells head (gotMany cells s) = withCorners head cells (decodeCorners s)
 
 -- a head, and as many cells as it counts
 unfoldable pub withHead : Many → File
 withHead badMany = badFile
-withHead (gotMany ns s) = withCells (planOf ns) (decodeRising (getD ns 6 0) s)
+withHead (gotMany head s) = withCells head (decodeRising (getD head 6 0) s)
 
 unfoldable pub decodeFile : List ℕ → File
 decodeFile s = withHead (decodeNumbers 7 s)
@@ -65,7 +89,7 @@ unfoldable pub readRefusal : Plan → List ℕ → List ℕ → List ℕ → Lis
 readRefusal p cells rest cs fs = cond (eqb (refusal3 p cs fs) 0) (refusal13 p cells rest) (refusal3 p cs fs)
 
 abbrev pub noPlan : Plan
-noPlan = record { columns = 0; rows = 0; levels = 0; «degree_across» = 0; «degree_up» = 0; class = 0 }
+noPlan = record { columns = 0; rows = 0; levels = 0; «degree_across» = 0; «degree_up» = 0; class = 0; «corners_across» = 0; «corners_up» = 0 }
 
 -- "Reading answers the plan too, also with refusals 3, 4, 5 and 13 ..; with the others it is all zeros"
 unfoldable pub answeredPlan : ℕ → Plan → Plan

@@ -1,18 +1,22 @@
-// A mesh and its file: document 02, Req 01. Any bytes, plans and tables are taken; what is refused gets its number and nothing is written.
+// A mesh and its file: document 02, Req 01, with the corners of Req 05. Any bytes, plans and tables are taken; what is refused gets its
+// number and nothing is written.
 use codec::Cursor;
 use codec::Reached;
+use codec::Step;
 use grid::MOST_CELLS;
 use grid::Plan;
 use listing::Listed;
 ghost use mathlib.Core.Path.{_≡_};
-ghost use Prim.Native.Nat.{_≤_, _<_};
+ghost use Prim.Native.Nat.{_+_, _≤_, _<_};
 ghost use lib.ListN.{length};
+ghost use Rattle.facts.specs.Writing.{Writes};
+ghost use Rattle.codec.specs.Fitting.{numberLimit};
 ghost use Rattle.grid.specs.Bounds.{mostCells};
 ghost use Rattle.grid.specs.Plan.{cellTotal};
 ghost use Rattle.mesh.specs.Mesh.{refusal3};
 ghost use Rattle.nesting.specs.Table.{CellTable, MeshTable};
-ghost use Rattle.files.specs.File.{fileOf, rebuilt, noPlan, answeredPlan, readMesh, writeText, writeMesh};
-ghost use Rattle.files.specs.Steps.{leftByRead, leftByWrite, cellsOf, GoodFile, JudgesFile, Clear, tableRefusal};
+ghost use Rattle.files.specs.File.{noCorners, encodeCorners, fileOf, rebuilt, noPlan, answeredPlan, readMesh, writeText, writeMesh};
+ghost use Rattle.files.specs.Steps.{leftByRead, leftByWrite, ReadsCorners, planWith, cellsOf, GoodFile, JudgesFile, Clear, tableRefusal};
 
 // What reading answers: a refusal or 0, and the plan, all zeros with refusals 1, 2 and 12.
 #[repr(C)]
@@ -28,7 +32,7 @@ pub struct WriteAnswer {
     pub length: u32,
 }
 
-// A file that can be read: its plan, how many cells it lists, where their numbers begin and end, and the last of them.
+// A file that can be read: its plan, how many cells it lists and where their numbers begin, where the last number ends, and the last cell.
 struct Outline {
     plan: Plan,
     count: u32,
@@ -43,7 +47,59 @@ enum Judged {
     Refused,
 }
 
-// Refusal 12, in one pass over the bytes: the head, and as many cells as it counts. What stands behind the last number is left for later.
+// The corner numbers that a file ends with, both 0 where it has none, and the place behind them; or refusal 12.
+enum Corners {
+    Pair(u32, u32, Cursor),
+    Wrong,
+}
+
+// Neither direction has a corner.
+fn no_corners(across: u32, up: u32) -> bool
+    ensures { λ r. ⌜ r ≡ noCorners across up ⌝ }
+{
+    (across == 0) & (up == 0)
+}
+
+// The corner numbers behind the last cell. A lone number and two zeros are refused.
+fn read_corners(s: &[u8], from: usize) -> Corners
+    requires { ⌜ from ≤ length (now s) ⌝ }
+    ensures { λ r. ⌜ ReadsCorners (now (s .entry)) from r ⌝ }
+{
+    if s.len() <= from {
+        return Corners::Pair(0, 0, Cursor { at: from });
+    }
+    let Step::Number(across, c) = codec::read(s, Cursor { at: from }) else {
+        return Corners::Wrong;
+    };
+    let Step::Number(up, end) = codec::read(s, c) else {
+        return Corners::Wrong;
+    };
+    let zeros = no_corners(across, up);
+    if zeros {
+        return Corners::Wrong;
+    }
+    Corners::Pair(across, up, end)
+}
+
+// The plan of a head, without its last number, which is the count, and of corners.
+fn plan_with(head: &[u32], across: u32, up: u32) -> Plan
+    requires { ⌜ length (now head) ≡ 7 ⌝ }
+    ensures { λ r. ⌜ r ≡ planWith (now (head .entry)) across up ⌝ }
+{
+    Plan {
+        columns: head[0],
+        rows: head[1],
+        levels: head[2],
+        degree_across: head[3],
+        degree_up: head[4],
+        class: head[5],
+        corners_across: across,
+        corners_up: up,
+    }
+}
+
+// Refusal 12, in one pass over the bytes: the head, as many cells as it counts, and the corners. What stands behind the last number is left
+// for later.
 fn judge(s: &[u8]) -> Judged
     ensures { λ r. ⌜ JudgesFile (now (s .entry)) r ⌝ }
 {
@@ -56,12 +112,15 @@ fn judge(s: &[u8]) -> Judged
     let Listed::Cells(e) = listing::read_cells(s, first, count) else {
         return Judged::Refused;
     };
-    let plan = grid::plan_of(&head);
+    let Corners::Pair(across, up, end) = read_corners(s, e.at) else {
+        return Judged::Refused;
+    };
+    let plan = plan_with(&head, across, up);
     Judged::Good(Outline {
         plan,
         count,
         first,
-        end: e.at,
+        end: end.at,
         last: e.last,
     })
 }
@@ -77,6 +136,8 @@ fn no_plan() -> Plan
         degree_across: 0,
         degree_up: 0,
         class: 0,
+        corners_across: 0,
+        corners_up: 0,
     }
 }
 
@@ -169,6 +230,30 @@ fn unwritten(number: u32) -> WriteAnswer
     WriteAnswer { number, length: 0 }
 }
 
+// How many bytes the corner numbers take.
+fn size_corners(across: u32, up: u32) -> usize
+    requires { ⌜ (across < numberLimit) × (up < numberLimit) ⌝ }
+    ensures { λ r. ⌜ r ≡ length (encodeCorners across up) ⌝ }
+{
+    if no_corners(across, up) {
+        return 0;
+    }
+    codec::size(across) + codec::size(up)
+}
+
+// The corner numbers put at a place, nothing where both are 0; the place behind them.
+fn write_corners(across: u32, up: u32, out: &mut [u8], at: usize) -> usize
+    requires { ⌜ (across < numberLimit) × (up < numberLimit) ⌝ }
+    requires { ⌜ at + length (encodeCorners across up) ≤ length (now out) ⌝ }
+    ensures { λ r. ⌜ Writes (now (out .entry)) at (encodeCorners across up) r (now (out .exit)) ⌝ }
+{
+    if no_corners(across, up) {
+        return at;
+    }
+    let middle = codec::write(out, at, across);
+    codec::write(out, middle, up)
+}
+
 // Writing, when the tables are checked: the whole length is known before the first byte is written. No cell of the last level is
 // refined, so that level, most of the table, is not read.
 fn write_mesh(plan: Plan, cells: &[u8], file: &mut [u8]) -> WriteAnswer
@@ -187,12 +272,15 @@ fn write_mesh(plan: Plan, cells: &[u8], file: &mut [u8]) -> WriteAnswer
         plan.class,
         listed.count,
     ];
-    let length = codec::size_all(&head) + listed.bytes;
+    let across = plan.corners_across;
+    let up = plan.corners_up;
+    let length = codec::size_all(&head) + listed.bytes + size_corners(across, up);
     if file.len() < length {
         return unwritten(10);
     }
     let at = codec::write_all(&head, file, 0);
-    listing::write_cells(coarse, file, at);
+    let end = listing::write_cells(coarse, file, at);
+    write_corners(across, up, file, end);
     WriteAnswer {
         number: 0,
         length: length as u32,

@@ -1,10 +1,12 @@
--- `judge` meets its contract: the head, then the cells. Assumes nothing.
+-- `judge` meets its contract: the head, then the cells, then the corners. Assumes nothing.
 use mathlib.Core.Path.{_≡_}
-use lib.ListN.{length}
+use lib.ListN.{length, getD}
 use Rattle.codec.specs.Steps.{AllFound}
 use Rattle.codec.proofs.Steps.{all-found, all-missing}
+use Rattle.listing.specs.Judged.{CellsFound}
 use Rattle.listing.proofs.Judging.{cells-found, cells-missing}
-use Rattle.files.proofs.Decoding.{file-no-head, count-small, file-no-cells, file-good}
+use Rattle.files.proofs.CornerNumbers.{corners-found, corners-missing}
+use Rattle.files.proofs.Decoding.{file-no-head, count-small, file-no-cells, file-no-corners, file-good}
 use borrow.Author.Needs.{needs}
 use Rattle.files.proofs.judge.Statement.{statement}
 use Rattle.files.proofs.judge.Tie as tie
@@ -12,6 +14,8 @@ use Rattle.files.proofs.judge.Reads as reads
 use Rattle.files.proofs.judge.Lts as lts
 use Rattle.codec.proofs.read_all.Reads as read-all-reads
 use Rattle.listing.proofs.read_cells.Reads as read-cells-reads
+use Rattle.files.proofs.read_corners.Reads as read-corners-reads
+use Rattle.files.proofs.plan_with.Reads as plan-with-reads
 
 slice-aggregate-read-all : tie.Need-slice-aggregate-read-all
 slice-aggregate-read-all c = search needs
@@ -55,17 +59,37 @@ returns-2 c =
     let h = c .before .before .before .before in
     file-no-cells (seven (c .before .before .before .before .before .before .before)) (headed h) (cells-missing _ _ _ (c .before .before .read-cells .result) (c .before .before .read-cells .ensures) (c .enum-told2 .given .1))
 
-slice-aggregate-plan-of : tie.Need-slice-aggregate-plan-of
-slice-aggregate-plan-of c = search needs
+-- the cells
+listed : (c : tie.After-e) → CellsFound (c .before .before .before .before .before .before .before .before .before .before .args .s .now) (c .before .before .before .before .c .given .0 .0 .at) (getD (c .before .before .before .before .before .before .before .read-all .last .1 .1 .0) 6 0) (c .e .given .0 .0)
+listed c = let r = c .before .before .read-cells in cells-found _ _ _ (r .result) (c .e .given .0 .0) (r .ensures) (c .e .given .1)
 
-plan-of-requires : tie.Need-plan-of-requires
-plan-of-requires c κs = search needs
+read-corners-requires : tie.Need-read-corners-requires
+read-corners-requires c κs = listed (c .before) .inside
+
+enum-known-across : tie.Need-enum-known-across
+enum-known-across c = search needs
+
+enum-told-3 : tie.Need-enum-told-3
+enum-told-3 c = search needs
 
 returns-3 : tie.Need-returns-3
 returns-3 c =
-    let r = c .before .before .before .before .before .read-cells in
-    let e = c .before .before .before .e .given in
-    file-good (seven (c .before .before .before .before .before .before .before .before .before .before)) (headed (c .before .before .before .before .before .before .before)) (cells-found _ _ _ (r .result) (e .0 .0) (r .ensures) (e .1)) (c .plan-of .ensures)
+    let h = c .before .before .before .before .before .before .before .before in
+    let r = c .before .before .read-corners in
+    file-no-corners (seven (h .before .before .before)) (headed h) (listed (c .before .before .before .before)) (corners-missing _ _ (r .result) (r .ensures) (c .enum-told3 .given .1))
+
+slice-aggregate-plan-with : tie.Need-slice-aggregate-plan-with
+slice-aggregate-plan-with c = search needs
+
+plan-with-requires : tie.Need-plan-with-requires
+plan-with-requires c κs = search needs
+
+returns-4 : tie.Need-returns-4
+returns-4 c =
+    let h = c .before .before .before .before .before .before .before .before .before .before .before in
+    let r = c .before .before .before .before .before .read-corners in
+    let v = c .before .before .before .across .given in
+    file-good (seven (h .before .before .before)) (headed h) (listed (c .before .before .before .before .before .before .before)) (corners-found _ _ (r .result) (v .0 .0) (v .0 .1 .0) (v .0 .1 .1 .0) (r .ensures) (v .1)) (c .plan-with .ensures)
 
 pub judge-spec : {M : Type 1} → statement M
 judge-spec =
@@ -81,6 +105,10 @@ judge-spec =
     enum-known-e
     enum-told-2
     returns-2
-    slice-aggregate-plan-of
-    plan-of-requires
-    returns-3)
+    read-corners-requires
+    enum-known-across
+    enum-told-3
+    returns-3
+    slice-aggregate-plan-with
+    plan-with-requires
+    returns-4)
