@@ -52,6 +52,7 @@ marks (suc n) = bytes " 7" ++ marks n
 table : List Row
 table =
     reads (bytes "wall 3 1 3 1 1 2") Wall (3 ∷ 1 ∷ 3 ∷ 1 ∷ 1 ∷ 2 ∷ []) ∷
+    reads (bytes "wall 3 1 3 2 2 0 2 0") Wall (3 ∷ 1 ∷ 3 ∷ 2 ∷ 2 ∷ 0 ∷ 2 ∷ 0 ∷ []) ∷
     reads (bytes "split 0") Split (0 ∷ []) ∷
     reads (bytes "split 3") Split (3 ∷ []) ∷
     reads (bytes "join 1") Join (1 ∷ []) ∷
@@ -72,6 +73,7 @@ table =
     unreadable (bytes "split 99999999999999999999") ∷
     unreadable (bytes "wall 3 1 3 1 1") ∷
     unreadable (bytes "wall 3 1 3 1 1 2 0") ∷
+    unreadable (bytes "wall 3 1 3 1 1 2 0 0 0") ∷
     unreadable (bytes "wall") ∷
     unreadable (bytes "fsplit" ++ marks 65) ∷
     unreadable (bytes "split -1") ∷

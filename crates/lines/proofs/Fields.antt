@@ -5,13 +5,15 @@ use mathlib.Core.List.{List, [], _∷_, _++_, map, append-nil}
 use Prim.Native.Nat.{ℕ, _+_, _≤_, _<_}
 use native.Mathlib.Numerals.{add-one}
 use native.Mathlib.Omega.{arith}
+use lib.Dec.{eqb, eqb→eq}
 use lib.ListN.{length, set, take, drop, take-append-drop, drop-of-length-le, length-map, length-append}
 use lib.Seq.{drop-cons, drop-drop, take-suc-set, drop-set-lt, append-snoc}
 use Rattle.lines.specs.declared.Number.the-variants.{Value, NoNumber}
 use Rattle.lines.specs.declared.Kind.{Kind}
 use Rattle.lines.specs.declared.Kind.the-variants.{Unreadable, Wall, Split, Join, SplitFunctions, JoinFunctions}
 use Rattle.lines.specs.declared.Field.{Field}
-use borrow.Author.Tests.{le-leb, lt-leb, leb-true, eqb-true}
+use borrow.Author.Tests.{le-leb, lt-leb, leb-true}
+use Rattle.facts.proofs.Tests.{or-e, true-T}
 use Rattle.lines.specs.Reading.{upTo, fieldsOf, valueOf, isNumber, numberOf, allNumbers, kindOf, fits, noMeaning, meaningOf, meaning, meaningIn, Reads}
 use Rattle.lines.specs.Steps.{fieldsBehind, counted, ReadsField}
 use Rattle.lines.proofs.Output.{counts}
@@ -107,7 +109,7 @@ fits-counted k fs = go (allNumbers fs) refl
 
 fits-room : (k : Kind) (n : ℕ) → fits k n ≡ true → n ≤ 64
 fits-room Unreadable n e = absurd (let z : _≡_ {A = ℕ} 0 1 = cc in let w : ⊥ = omega arith in w)
-fits-room Wall n e = omega (arith, eqb-true n 6 e)
+fits-room Wall n e = or-e (eqb n 6) _ (true-T _ e) (λ t. omega (arith, eqb→eq n 6 t)) (λ t. omega (arith, eqb→eq n 8 t))
 fits-room Split n e = leb-true n 64 e
 fits-room Join n e = leb-true n 64 e
 fits-room SplitFunctions n e = leb-true n 64 e

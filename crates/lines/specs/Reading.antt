@@ -1,7 +1,7 @@
--- What the bytes of a session's input mean. Every place named here is in document 01, "The session program".
+-- What the bytes of a session's input mean. Every place named here is in document 01, "The session program", or document 02, Req 05.
 -- Assumes nothing: these are definitions.
 use mathlib.Core.Path.{_≡_}
-use mathlib.Core.Bool.{Bool, true, false, cond, _&&_}
+use mathlib.Core.Bool.{Bool, true, false, cond, _&&_, _||_}
 use mathlib.Core.List.{List, [], _∷_, _++_, map}
 use Prim.Native.Nat.{ℕ, _+_, _-_, _*_, _^_, _≤_, _<_}
 use lib.ListN.{length, take, drop}
@@ -90,10 +90,11 @@ kindOf w =
     (cond (same w (bytes "fsplit")) SplitFunctions
     (cond (same w (bytes "fjoin")) JoinFunctions Unreadable))))
 
--- "`wall` with the plan", six numbers; the others "with up to 64 marks"
+-- "`wall` with the plan", six numbers, or eight: Req 05, "edges across and up .. a `wall` line may end in them", in both or neither;
+-- the others "with up to 64 marks"
 abbrev pub fits : Kind → ℕ → Bool
 fits Unreadable n = false
-fits Wall n = eqb n 6
+fits Wall n = eqb n 6 || eqb n 8
 fits Split n = leb n 64
 fits Join n = leb n 64
 fits SplitFunctions n = leb n 64

@@ -129,7 +129,7 @@ fn fits(kind: Kind, count: usize) -> bool
 {
     match kind {
         Kind::Unreadable => false,
-        Kind::Wall => count == 6,
+        Kind::Wall => (count == 6) | (count == 8),
         Kind::Split => count <= 64,
         Kind::Join => count <= 64,
         Kind::SplitFunctions => count <= 64,

@@ -6,10 +6,10 @@ use mathlib.Core.List.{List, [], _∷_, _++_}
 use Prim.Native.Nat.{ℕ, _≤_, _<_}
 use native.Mathlib.Omega.{arith}
 use lib.Dec.{eqb, leb, ltb, eqb-refl}
-use lib.ListN.{length, take, drop, length-append, length-replicate, length-map}
+use lib.ListN.{length, take, drop, length-append, length-replicate}
 use lib.Seq.{length-take-le, take-at}
 use Rattle.outcomes.proofs.Results.{written-take}
-use borrow.Author.Tests.{lt-ltb, le-ltb, le-leb, eqb-true, eqb-false, ne-eqb}
+use borrow.Author.Tests.{lt-ltb, le-ltb, le-leb, eqb-false, ne-eqb}
 use Rattle.facts.proofs.Tests.{T-true}
 use Rattle.grid.specs.declared.Plan.{Plan}
 use types.Run.{OneOf}
@@ -23,7 +23,7 @@ use Rattle.lines.specs.declared.Kind.{Kind}
 use Rattle.lines.specs.declared.Kind.the-variants.{Unreadable, Wall, Split, Join, SplitFunctions, JoinFunctions}
 use Rattle.lines.proofs.Kind as kinds
 use Rattle.lines.specs.declared.Line.{Line}
-use Rattle.lines.specs.Reading.{valueOf, allNumbers, kindOf, fits, Meaning, meaningOf, meaning, meaningIn, Reads}
+use Rattle.lines.specs.Reading.{Meaning, meaning, meaningIn, Reads}
 use Rattle.lines.specs.Writing.{digits, items, answer, question, large, Prints}
 use Rattle.script.specs.Session.{State, noWall, wall, Reply, reply, blank, opening, shown, calling, obey, stepOf}
 use Rattle.script.specs.declared.Hand.{Hand}
@@ -235,19 +235,6 @@ by-functions JoinFunctions h = refl
 
 -- ---- a line that was read
 
-wall-fields : (fs : List (List ℕ)) → meaningOf fs .kind ≡ Wall → 6 ≤ length (meaningOf fs .numbers)
-unfolding meaningOf
-wall-fields [] e = absurd (let z : _≡_ {A = ℕ} 0 1 = cc in let w : ⊥ = omega arith in w)
-wall-fields (w ∷ fs) e = go (fits (kindOf w) (length fs)) (allNumbers fs) refl refl
-  where
-    go : (a b : Bool) → fits (kindOf w) (length fs) ≡ a → allNumbers fs ≡ b → 6 ≤ length (meaningOf (w ∷ fs) .numbers)
-    go true true f g =
-        let k : kindOf w ≡ Wall = rw (f, g) at e in
-        let n : eqb (length fs) 6 ≡ true = sym (ap (λ (x : Kind). fits x (length fs)) k) ∙ f in
-        rw (f, g) (omega (arith, eqb-true (length fs) 6 n, length-map fs valueOf))
-    go true false f g = absurd (let k : Unreadable ≡ Wall = rw (f, g) at e in let z : _≡_ {A = ℕ} 0 1 = cc in let y : ⊥ = omega arith in y)
-    go false b f g = absurd (let k : Unreadable ≡ Wall = rw f at e in let z : _≡_ {A = ℕ} 0 1 = cc in let y : ⊥ = omega arith in y)
-
 module _ (s old : List ℕ) (line : Line) (new : List ℕ) (room : 64 ≤ length old) (r : Reads s old line new) where
   selected : meaningIn (length old) s ≡ meaning s
   selected = rw (le-leb 64 (length old) room) refl
@@ -260,9 +247,6 @@ module _ (s old : List ℕ) (line : Line) (new : List ℕ) (room : 64 ≤ length
 
   pub read-kind : line .kind ≡ meaning s .kind
   read-kind = r .kind ∙ ap (λ (m : Meaning). m .kind) selected
-
-  pub read-plan : line .kind ≡ Wall → 6 ≤ length (take (line .count) new)
-  read-plan e = rw read-numbers (wall-fields _ (sym read-kind ∙ e))
 
   pub read-step : (t : State) → obey (line .kind) t (take (line .count) new) ≡ stepOf t s
   unfolding stepOf

@@ -10,10 +10,10 @@ inputBytes = 16384
 abbrev pub wallCells : ℕ
 wallCells = 4096
 
--- the most functions of a plan with at most so many cells (grid, proofs/Totals.antt)
+-- the most functions of a plan with at most so many cells (grid, proofs/Totals.antt): 15 13 3 4 4 has them with a corner on every inner line
 abbrev pub wallFunctions : ℕ
-wallFunctions = 5784
+wallFunctions = 18001
 
--- what holds every answer about such a wall
+-- what holds every answer about such a wall: 243,080
 abbrev pub answerBytes : ℕ
 answerBytes = answerRoom wallCells wallFunctions

@@ -9,7 +9,6 @@ ghost use Rattle.grid.specs.Plan.{inRange, cellTotal, functionTotal};
 ghost use Rattle.outcomes.specs.Calls.{outcome};
 ghost use Rattle.outcomes.specs.Contracts.{Meets};
 ghost use Rattle.calls.specs.Parts as parts;
-ghost use Rattle.lines.specs.declared.Kind.the-variants.{Wall};
 ghost use Rattle.lines.specs.Writing.{answer as answer·line, question as question·line, large as large·line};
 ghost use Rattle.script.specs.Session.{opening, calling, obey as obey·kind, stepOf};
 ghost use Rattle.script.specs.Steps.{held, HandSized, directionOf, byOf, Said, Answered, Replied};
@@ -21,14 +20,14 @@ use grid::Plan;
 use lines::Kind;
 use outcomes::Answer;
 
-// The input that a session reads, the cells and functions of its largest wall, and the bytes of its longest answer.
+// The input that a session reads, the cells and functions of its largest walls, and room for its longest answer, 243,080 bytes.
 pub const INPUT_BYTES: usize = 16384;
 
 pub const WALL_CELLS: usize = 4096;
 
-pub const WALL_FUNCTIONS: usize = 5784;
+pub const WALL_FUNCTIONS: usize = 18001;
 
-pub const ANSWER_BYTES: usize = 108693;
+pub const ANSWER_BYTES: usize = 11 * (WALL_CELLS + WALL_FUNCTIONS) + 13;
 
 // The wall in hand and the lengths of its tables. Without cells there is none.
 pub struct Hand {
@@ -272,7 +271,6 @@ fn obey(
     out: &mut [u8],
 ) -> Done
     requires { ⌜ HandSized hand ⌝ }
-    requires { ⌜ (kind ≡ Wall → 6 ≤ length (now numbers)) ⌝ }
     requires { ⌜ (wallCells ≤ length (now cells)) × (wallFunctions ≤ length (now functions)) ⌝ }
     requires { ⌜ (wallCells ≤ length (now «cell_list»)) × (wallFunctions ≤ length (now «function_list»)) ⌝ }
     requires { ⌜ answerBytes ≤ length (now out) ⌝ }
@@ -344,6 +342,8 @@ pub fn no_wall() -> Hand
         degree_across: 0,
         degree_up: 0,
         class: 0,
+        corners_across: 0,
+        corners_up: 0,
     };
     Hand {
         plan,

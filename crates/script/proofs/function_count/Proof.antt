@@ -1,4 +1,4 @@
--- `function_count` meets its contract: a wall of 4,096 cells at most has 5,784 functions at most. Assumes nothing.
+-- `function_count` meets its contract: a wall of 4,096 cells at most has 18,001 functions at most. Assumes nothing.
 use native.Mathlib.Omega.{arith}
 use Rattle.grid.proofs.Totals.{session-functions-bound}
 use borrow.Author.Needs.{needs}

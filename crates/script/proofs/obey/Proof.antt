@@ -17,16 +17,17 @@ enum-told-2 : tie.Need-enum-told-2
 enum-told-2 c = search needs
 
 plan-of-requires : tie.Need-plan-of-requires
-plan-of-requires c κs = c .before .before .before .before .before .before .before .before .pre .1 .0 (c .enum-told2 .given .1)
+plan-of-requires c κs = search needs
 
 slice-aggregate-open : tie.Need-slice-aggregate-open
 slice-aggregate-open c = search needs
 
 open-requires : tie.Need-open-requires
-open-requires c κs = (c .before .before .before .before .before .before .before .before .before .before .before .before .before .pre .0, (c .before .before .before .before .before .before .before .before .before .before .before .before .before .pre .1 .1 .0, (refl, c .before .before .before .before .before .before .before .before .before .before .before .before .before .pre .1 .1 .1 .1)))
+open-requires c κs = let s = c .before .before .before .before .before .before .before .before .before .before .before .before .before in
+    (s .pre .0, (s .pre .1 .0, (refl, s .pre .1 .1 .1)))
 
 change-requires : tie.Need-change-requires
-change-requires c κs = (c .before .before .before .before .before .before .before .before .before .before .before .before .pre .0, (c .before .before .before .before .before .before .before .before .before .before .before .before .pre .1 .1 .0, (c .before .before .before .before .before .before .before .before .before .before .before .before .pre .1 .1 .1 .0, c .before .before .before .before .before .before .before .before .before .before .before .before .pre .1 .1 .1 .1)))
+change-requires c κs = c .before .before .before .before .before .before .before .before .before .before .before .before .pre
 
 same-length : tie.Need-same-length
 same-length c = search needs

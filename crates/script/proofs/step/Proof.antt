@@ -1,6 +1,6 @@
 -- `step` meets its contract: a line is read, and what it asks is done. Assumes nothing.
 use Rattle.script.specs.Session.{obey}
-use Rattle.script.proofs.Replies.{read-plan, read-step, replied-as}
+use Rattle.script.proofs.Replies.{read-step, replied-as}
 use borrow.Author.Needs.{needs}
 use Rattle.script.proofs.step.Statement.{statement}
 use Rattle.script.proofs.step.Tie as tie
@@ -16,8 +16,7 @@ slice-aggregate-obey c = c .before .before .before .read-line .ensures .inside .
 
 obey-requires : tie.Need-obey-requires
 obey-requires c κs = let s = c .before .before .before .before .before .before .before .before .before .before .before .before .before .before .before .before .before in
-    let r = c .before .before .before .before .before .before .before .before .read-line in
-    (s .pre .0, (read-plan (s .args .line .now) (s .args .numbers .now) (r .result) _ (s .pre .1 .0) (r .ensures), (s .pre .1 .1 .0, (s .pre .1 .1 .1 .0, s .pre .1 .1 .1 .1))))
+    (s .pre .0, s .pre .1 .1)
 
 same-length : tie.Need-same-length
 same-length c = search needs
