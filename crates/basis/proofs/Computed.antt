@@ -6,7 +6,8 @@ use lib.ListN.{getD}
 use Rattle.facts.specs.Bounded.{some, every, sum}
 use Rattle.facts.specs.Numbers.{elem, tabulate, listed}
 use Rattle.grid.specs.Numbering.{offset, number, levelOf, placeOn, place}
-use Rattle.grid.specs.Plan.{between, inRange, tooLarge, ratio, grown, above, below, parent, child, lastLevel, covers, supportedAt, supported, apart, ancestor, nearAt, near, cellLevel, planOf}
+use Rattle.grid.specs.Plan.{between, numbersInRange, cornersInRange, inRange, tooLarge, ratio, grown, above, below, parent, child, lastLevel, supportedAt, supported, ancestor, nearAt, near, cellLevel, planOf}
+use Rattle.grid.specs.Knots.{isSet, isCorner, cornersTo, times, knotFrom, knot, beyond, functions, covers, apart, together}
 use Rattle.mesh.specs.Mesh.{absent, active, refined, children, cellFits, isMesh, isAdmissible, tableOf, labelOf, labels, isLabelled, refusal3, refusal6, check}
 use Rattle.basis.specs.Basis.{finest, cellOver, inSupport}
 use Rattle.basis.specs.Levels.{inCell, over, within, levelsOver}
@@ -46,5 +47,5 @@ pub worked :
     ∷ ((0 ∷ 1 ∷ 2 ∷ []) ∷ (0 ∷ 1 ∷ 2 ∷ []) ∷ [])
     ∷ ((5 ∷ 1 ∷ 2 ∷ []) ∷ (0 ∷ 1 ∷ 2 ∷ []) ∷ [])
     ∷ []
-unfolding some every sum elem tabulate listed offset number levelOf placeOn place between inRange tooLarge ratio grown above below parent child lastLevel covers supportedAt supported apart ancestor nearAt near absent active refined children cellFits isMesh isAdmissible tableOf labelOf labels isLabelled refusal3 refusal6 check finest cellOver inSupport inCell over levelsOver
+unfolding some every sum elem tabulate listed offset number levelOf placeOn place between numbersInRange cornersInRange inRange tooLarge ratio grown above below parent child lastLevel isSet isCorner cornersTo times knotFrom knot beyond functions covers apart together supportedAt supported ancestor nearAt near absent active refined children cellFits isMesh isAdmissible tableOf labelOf labels isLabelled refusal3 refusal6 check finest cellOver inSupport inCell over levelsOver
 worked = refl

@@ -8,13 +8,14 @@ use Rattle.facts.specs.Bounded.{some, every}
 use Rattle.facts.specs.Numbers.{elem, tabulate}
 use Rattle.grid.specs.declared.Plan.{Plan}
 use Rattle.grid.specs.Numbering.{offset, number, levelOf, placeOn, place}
-use Rattle.grid.specs.Plan.{ratio, grown, above, parent, covers, supportedAt, supported, ancestor, functionTotal}
+use Rattle.grid.specs.Plan.{ratio, grown, above, parent, supportedAt, supported, ancestor, functionTotal}
+use Rattle.grid.specs.Knots.{isSet, isCorner, cornersTo, times, knotFrom, knot, beyond, functions, covers}
 use Rattle.mesh.specs.Mesh.{absent, refined, tableOf, labelOf}
 use Rattle.basis.specs.Basis.{finest, cellOver, inSupport, inRegion, insideRegion, member, activeFunction, deactivatedFunction}
 
 -- document 01's W0 and W2, by their class
 abbrev pub plan : ℕ → Plan
-plan m = record { columns = 3; rows = 1; levels = 3; «degree_across» = 1; «degree_up» = 1; class = m }
+plan m = record { columns = 3; rows = 1; levels = 3; «degree_across» = 1; «degree_up» = 1; class = m; «corners_across» = 0; «corners_up» = 0 }
 
 pub record Row : Type 0 where
   pub on : Plan
@@ -56,5 +57,5 @@ table =
     ∷ []
 
 pub worked : T (allHold table)
-unfolding table some every elem tabulate offset number levelOf placeOn place ratio grown above parent covers supportedAt supported ancestor absent refined tableOf labelOf finest cellOver inSupport inRegion insideRegion member activeFunction deactivatedFunction
+unfolding table some every elem tabulate offset number levelOf placeOn place ratio grown above parent isSet isCorner cornersTo times knotFrom knot beyond functions covers supportedAt supported ancestor absent refined tableOf labelOf finest cellOver inSupport inRegion insideRegion member activeFunction deactivatedFunction
 worked = tt

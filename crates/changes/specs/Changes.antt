@@ -26,7 +26,7 @@ pub record ListedTo (from : ℕ) (old new : List ℕ) (n : ℕ) (list : List ℕ
   pub count : n ≡ length (changed from old new)
   pub begins : list ≡ written (changed from old new) list
 
--- the function table of a plan and room for its new labels: F bytes each (document 01: T is at most 21,845; F, then, at most 26,220)
+-- the function table of a plan and room for its new labels: F bytes each
 pub record Rooms (p : Plan) (functions made : List ℕ) : Type 0 where
   pub functions-are : length functions ≡ functionTotal p
   pub made-is : length made ≡ functionTotal p

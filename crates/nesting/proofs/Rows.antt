@@ -33,8 +33,8 @@ at k r c = record { level = k; row = r; column = c }
 -- numbers of cells fit 32 bits
 total-small : (p : Plan) → InRange p → cellTotal p < 2 ^ 32
 total-small p range =
-    let b : offset (widened (columnsAt p) 0) (widened (rowsAt p) 0) (p .levels) ≤ 4210704 * p .levels = offset-small p range 0 0 (record { across≤ = omega arith; up≤ = omega arith }) (p .levels) (le-refl (p .levels)) in
-    let c : cellTotal p ≤ 4210704 * p .levels = subst (λ n. n ≤ 4210704 * p .levels) (as-cells p (λ w h. offset w h (p .levels))) b in
+    let b : offset (widened (columnsAt p) 0) (widened (rowsAt p) 0) (p .levels) ≤ 4397409 * p .levels = offset-small p range 0 0 (record { across≤ = omega arith; up≤ = omega arith }) (p .levels) (le-refl (p .levels)) in
+    let c : cellTotal p ≤ 4397409 * p .levels = subst (λ n. n ≤ 4397409 * p .levels) (as-cells p (λ w h. offset w h (p .levels))) b in
     omega (arith, range .levels≤)
 
 -- the cells of the levels below the first, and those of one level more

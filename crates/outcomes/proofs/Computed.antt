@@ -7,7 +7,8 @@ use Rattle.facts.specs.Bounded.{some, every}
 use Rattle.facts.specs.Numbers.{elem, tabulate, listed}
 use Rattle.grid.specs.declared.Plan.{Plan}
 use Rattle.grid.specs.Numbering.{offset, number, levelOf, placeOn, place}
-use Rattle.grid.specs.Plan.{between, ratio, grown, above, below, parent, covers, supportedAt, supported, planOf}
+use Rattle.grid.specs.Plan.{between, ratio, grown, above, below, parent, supportedAt, supported, planOf}
+use Rattle.grid.specs.Knots.{isSet, isCorner, cornersTo, times, knotFrom, knot, beyond, functions as functionCount, covers}
 use Rattle.mesh.specs.Mesh.{absent, active, refined, tableOf, labelOf, labels}
 use Rattle.outcomes.specs.Calls.{underMarked, changed, written, Outcome}
 use Rattle.outcomes.specs.Steps.{Settled, Relabelled, roomRefusal, settleCells, relabel, inSteps}
@@ -38,7 +39,7 @@ pub both-steps :
     ≡ ((0 ∷ 1 ∷ 2 ∷ []) ∷ (0 ∷ []) ∷ (0 ∷ 3 ∷ []) ∷ (0 ∷ 7 ∷ []) ∷ (0 ∷ 3 ∷ 7 ∷ []) ∷ [])
     ∷ ((11 ∷ 0 ∷ 0 ∷ []) ∷ [] ∷ [] ∷ (7 ∷ 7 ∷ []) ∷ (7 ∷ []) ∷ [])
     ∷ []
-unfolding some every elem tabulate listed offset number levelOf placeOn place between ratio grown above below parent covers supportedAt supported absent active refined tableOf labelOf labels changed written roomRefusal settleCells relabel inSteps
+unfolding some every elem tabulate listed offset number levelOf placeOn place between ratio grown above below parent isSet isCorner cornersTo times knotFrom knot beyond functionCount covers supportedAt supported absent active refined tableOf labelOf labels changed written roomRefusal settleCells relabel inSteps
 both-steps = refl
 
 -- ---- each step, on P7's second split, of 3: cells 1 and 3 become refined, functions 1, 5 and 8 deactivated
@@ -68,7 +69,7 @@ pub relabelled :
     ≡ ((3 ∷ []) ∷ (0 ∷ 1 ∷ 4 ∷ 5 ∷ 8 ∷ []) ∷ (1 ∷ 5 ∷ 8 ∷ 7 ∷ []) ∷ [])
     ∷ ((0 ∷ []) ∷ (0 ∷ 4 ∷ []) ∷ (7 ∷ 7 ∷ 7 ∷ 7 ∷ []) ∷ [])
     ∷ []
-unfolding some every elem tabulate listed offset number levelOf placeOn place between ratio grown above below parent covers supportedAt supported absent active refined tableOf labelOf labels changed written relabel
+unfolding some every elem tabulate listed offset number levelOf placeOn place between ratio grown above below parent isSet isCorner cornersTo times knotFrom knot beyond functionCount covers supportedAt supported absent active refined tableOf labelOf labels changed written relabel
 relabelled = refl
 
 pub settled :
@@ -81,7 +82,7 @@ pub settled :
     ∷ ((11 ∷ 0 ∷ 0 ∷ []) ∷ (0 ∷ []) ∷ (7 ∷ 7 ∷ 7 ∷ []) ∷ [])
     ∷ ((10 ∷ 0 ∷ 0 ∷ []) ∷ (0 ∷ []) ∷ (7 ∷ []) ∷ [])
     ∷ []
-unfolding some every elem tabulate listed offset number levelOf placeOn place between ratio grown above below parent covers supportedAt supported absent active refined tableOf labelOf labels changed written roomRefusal settleCells
+unfolding some every elem tabulate listed offset number levelOf placeOn place between ratio grown above below parent isSet isCorner cornersTo times knotFrom knot beyond functionCount covers supportedAt supported absent active refined tableOf labelOf labels changed written roomRefusal settleCells
 settled = refl
 
 -- ---- the printed sets
@@ -111,12 +112,12 @@ pub printed :
     ∷ ((5 ∷ 6 ∷ 11 ∷ 12 ∷ []) ∷ (1 ∷ []) ∷ (0 ∷ 2 ∷ 5 ∷ 6 ∷ 11 ∷ 12 ∷ []) ∷ [] ∷ (11 ∷ 18 ∷ 25 ∷ []) ∷ (0 ∷ 1 ∷ 2 ∷ 3 ∷ 4 ∷ 5 ∷ 6 ∷ 7 ∷ 11 ∷ 18 ∷ 25 ∷ []) ∷ [] ∷ [])
     ∷ ((5 ∷ 6 ∷ 11 ∷ 12 ∷ 15 ∷ 16 ∷ 27 ∷ 28 ∷ []) ∷ (0 ∷ 1 ∷ 3 ∷ []) ∷ (2 ∷ 4 ∷ 5 ∷ 6 ∷ 9 ∷ 10 ∷ 11 ∷ 12 ∷ []) ∷ (1 ∷ 5 ∷ 8 ∷ []) ∷ (10 ∷ 11 ∷ 17 ∷ 18 ∷ 24 ∷ 25 ∷ 29 ∷ 30 ∷ 42 ∷ 43 ∷ []) ∷ (2 ∷ 3 ∷ 6 ∷ 7 ∷ 9 ∷ 10 ∷ 11 ∷ 15 ∷ 16 ∷ 17 ∷ 18 ∷ 22 ∷ 23 ∷ 24 ∷ 25 ∷ []) ∷ (0 ∷ 1 ∷ 4 ∷ 5 ∷ 8 ∷ []) ∷ [])
     ∷ []
-unfolding some every elem tabulate listed offset number levelOf placeOn place between ratio grown above below parent covers supportedAt supported absent active refined tableOf labelOf labels isNew isActiveCell isDeactivatedCell isToDeactivate isCandidate isActiveFunction isDeactivatedFunction
+unfolding some every elem tabulate listed offset number levelOf placeOn place between ratio grown above below parent isSet isCorner cornersTo times knotFrom knot beyond functionCount covers supportedAt supported absent active refined tableOf labelOf labels isNew isActiveCell isDeactivatedCell isToDeactivate isCandidate isActiveFunction isDeactivatedFunction
 printed = refl
 
 -- P3 W0 fresh, split by function 1: 0 1; 0 1 4 5. Its neighbours are those over cells 0 and 1
 pub neighbors :
     listed 94 (isNeighbor (W 0) (1 ∷ [])) ∷ listed 94 (isToDeactivateNear (W 0) (wall (0 ∷ 1 ∷ [])) (labelled []) (1 ∷ [])) ∷ []
     ≡ (0 ∷ 1 ∷ 2 ∷ 4 ∷ 5 ∷ 6 ∷ []) ∷ (0 ∷ 1 ∷ 4 ∷ 5 ∷ []) ∷ []
-unfolding some every elem tabulate listed offset number levelOf placeOn place between ratio grown above below parent covers supportedAt supported absent active refined tableOf labelOf labels underMarked isNeighbor isToDeactivateNear
+unfolding some every elem tabulate listed offset number levelOf placeOn place between ratio grown above below parent isSet isCorner cornersTo times knotFrom knot beyond functionCount covers supportedAt supported absent active refined tableOf labelOf labels underMarked isNeighbor isToDeactivateNear
 neighbors = refl

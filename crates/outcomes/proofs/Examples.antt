@@ -12,7 +12,8 @@ use Rattle.facts.proofs.Tests.{T-true}
 use Rattle.hierarchy.specs.Hierarchy.{reach, needs, closure}
 use Rattle.grid.specs.declared.Plan.{Plan}
 use Rattle.grid.specs.Numbering.{offset, number, levelOf, placeOn, place}
-use Rattle.grid.specs.Plan.{between, inRange, ratio, grown, tooLarge, lastLevel, above, below, parent, child, covers, supportedAt, supported, apart, ancestor, nearAt, near, cellTotal, functionTotal}
+use Rattle.grid.specs.Plan.{between, numbersInRange, cornersInRange, inRange, ratio, grown, tooLarge, lastLevel, above, below, parent, child, supportedAt, supported, ancestor, nearAt, near, cellTotal, functionTotal}
+use Rattle.grid.specs.Knots.{isSet, isCorner, cornersTo, times, knotFrom, knot, beyond, functions as functionCount, covers, apart, together}
 use Rattle.mesh.specs.Mesh.{Opened, absent, active, refined, children, cellFits, isMesh, isAdmissible, reactivable, tableOf, labelOf, labels, isLabelled, refusal3, refusal6, check, freshCells, freshFunctions, openMesh}
 use Rattle.outcomes.specs.Calls.{Direction, refine, coarsen, By, cells, functions, Outcome, eligible, isTooDeep, markRefusal, underMarked, underKept, selected, base, smallest, changed, written, refused, settle, newCells, refusal, outcome}
 use Rattle.outcomes.specs.Runs.{Tables, covered}
@@ -131,7 +132,7 @@ allHold (r ∷ rs) = let rest = allHold rs in holds r && rest
 
 -- the plan's numbers in document 01's order
 abbrev pub plan : ℕ → ℕ → ℕ → ℕ → ℕ → ℕ → Plan
-plan a b l p q m = record { columns = a; rows = b; levels = l; «degree_across» = p; «degree_up» = q; class = m }
+plan a b l p q m = record { columns = a; rows = b; levels = l; «degree_across» = p; «degree_up» = q; class = m; «corners_across» = 0; «corners_up» = 0 }
 
 abbrev pub W0 : Plan
 W0 = plan 3 1 3 1 1 0
@@ -252,5 +253,5 @@ table =
     ∷ []
 
 pub worked : T (allHold table)
-unfolding table planRefusal some every sum elem all listed tabulate stored first reach needs closure offset number levelOf placeOn place between inRange ratio grown tooLarge lastLevel above below parent child covers supportedAt supported apart ancestor nearAt near absent active refined children cellFits isMesh isAdmissible labelOf labels isLabelled refusal3 refusal6 check freshCells freshFunctions openMesh reactivable eligible isTooDeep markRefusal underMarked underKept selected base tableOf smallest changed written refused settle newCells refusal outcome covered
+unfolding table planRefusal some every sum elem all listed tabulate stored first reach needs closure offset number levelOf placeOn place between numbersInRange cornersInRange inRange ratio grown tooLarge lastLevel above below parent child isSet isCorner cornersTo times knotFrom knot beyond functionCount covers apart together supportedAt supported ancestor nearAt near absent active refined children cellFits isMesh isAdmissible labelOf labels isLabelled refusal3 refusal6 check freshCells freshFunctions openMesh reactivable eligible isTooDeep markRefusal underMarked underKept selected base tableOf smallest changed written refused settle newCells refusal outcome covered
 worked = tt

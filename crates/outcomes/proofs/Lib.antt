@@ -9,3 +9,4 @@ pub mod UndoByCells
 pub mod UndoByFunctions
 pub mod Steps
 pub mod Printed
+pub mod AtCorners

@@ -7,7 +7,9 @@ use lib.Dec.{eqb, eqb→eq}
 use lib.ListN.{getD}
 use Rattle.facts.proofs.Tests.{cases, not-e, eqb-of, T-true, T-false}
 use Rattle.grid.specs.declared.Plan.{Plan}
-use Rattle.grid.specs.Plan.{functionTotal}
+use Rattle.grid.specs.Plan.{acrossAt, upAt, functionTotal}
+use Rattle.grid.proofs.Laws.{in-range}
+use Rattle.grid.proofs.Results.{plan-by-knots, smooth, range-inner}
 use Rattle.mesh.specs.Mesh.{check, count}
 use Rattle.mesh.proofs.Area.{area-4}
 use Rattle.mesh.proofs.Bridge.{check-good, is-mesh}
@@ -51,6 +53,9 @@ main = record {
   area = count-area;
   opened = opened-checked;
   fewLevels = λ p cs fs checked classed. few-levels p cs fs checked (omega (arith, classed));
+  byKnots = λ p t. plan-by-knots p (in-range p t);
+  smoothPlan = λ p a b k. (smooth (acrossAt p k) a, smooth (upAt p k) b);
+  innerCorners = range-inner;
   repeats = call-repeats;
   reordered = call-reordered;
 }

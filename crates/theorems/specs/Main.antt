@@ -4,13 +4,14 @@
 use mathlib.Core.Path.{_≡_}
 use mathlib.Core.Bool.{cond}
 use mathlib.Core.List.{List, [], _∷_}
-use mathlib.Core.Logic.{_≢_}
+use mathlib.Core.Logic.{_≢_, _↔_}
 use Prim.Native.Nat.{ℕ, _-_, _*_, _^_, _<_, _≤_}
 use lib.Dec.{T}
 use lib.ListN.{getD}
 use Rattle.facts.specs.Numbers.{elem}
 use Rattle.grid.specs.declared.Plan.{Plan}
-use Rattle.grid.specs.Plan.{functionTotal}
+use Rattle.grid.specs.Plan.{numbersInRange, inRange, acrossAt, upAt, functionTotal}
+use Rattle.grid.specs.Claims.{ByKnots, Smooth, OnlyInner}
 use Rattle.mesh.specs.Mesh.{check, openMesh, count}
 use Rattle.outcomes.specs.Calls.{Direction, refine, By, cells, functions, Outcome, refused, newCells, refusal, outcome}
 use Rattle.outcomes.specs.Steps.{relabel, inSteps, relabelledBy}
@@ -88,6 +89,13 @@ pub record Main : Type 0 where
   -- Document 02, Req 02: "For a graded wall, show that the active functions over an active cell of level k all have levels from k-m+1
   -- to k". Graded: check passes, with a class other than 0; so it is after every accepted call (`acceptedCall`, `.checked`)
   pub fewLevels : (p : Plan) (cs fs : List ℕ) → check p cs fs ≡ 0 → p .class ≢ 0 → FewLevels p cs fs
+  -- Document 02, Req 05: "supports follow from the knots", across and up, on every level of a plan that refusal 1 does not meet
+  pub byKnots : (p : Plan) → T (inRange p) → (k : ℕ) → ByKnots (acrossAt p k) × ByKnots (upAt p k)
+  -- and without corners all is as document 01 has it
+  pub smoothPlan : (p : Plan) → p .«corners_across» ≡ 0 → p .«corners_up» ≡ 0 → (k : ℕ) → Smooth (acrossAt p k) × Smooth (upAt p k)
+  -- Req 05: "It refuses 1 where a bit outside 1 to A-1 (or B-1) is set"
+  pub innerCorners : (p : Plan) → T (inRange p)
+      ↔ (T (numbersInRange p) × OnlyInner (p .columns) (p .«corners_across») × OnlyInner (p .rows) (p .«corners_up»))
   -- Document 01: "Marks may repeat; repeats mean one mark": each mark once, where it stands first, has the same outcome
   pub repeats : (d : Direction) (by : By) (p : Plan) (cs fs marks cl fl : List ℕ)
       → outcome d by p cs fs (once marks) cl fl ≡ outcome d by p cs fs marks cl fl
