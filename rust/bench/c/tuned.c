@@ -1,7 +1,8 @@
 /*
  * The tuned version. Each table is worked on a level at a time, by loops over bytes that a compiler
  * turns into vector instructions at -O3. What belongs to many cells at once, as supports and
- * neighbourhoods do, is found as the least byte of every window of a level.
+ * neighbourhoods do, is found as the least byte of every window of a level. Where there are corners
+ * windows are of many sizes, and each is walked: that much is plain and not tuned.
  */
 #include "tuned.h"
 
@@ -9,12 +10,16 @@
 
 enum { MOST_LEVELS = 8, WIDEST_ROW = 512, ROOM = WALLMIRROR_MAX_FUNCTIONS };
 
+/* The most functions in a row: those of 16 columns on level 5, of degree 4, with 15 corners. */
+enum { MOST_ACROSS = WIDEST_ROW + 4 + 15 * 3 };
+
 /* Where the levels of a plan begin in the tables, and their sizes. */
 struct layout {
     uint32_t levels, across, up;
+    uint32_t corners_across, corners_up; /* 0 where the degree is 1, since they change nothing */
     uint32_t back; /* how many levels up a cell has its neighbourhood, or 0 for none */
     size_t columns[MOST_LEVELS], rows[MOST_LEVELS], cells_at[MOST_LEVELS + 1];
-    size_t functions_at[MOST_LEVELS + 1];
+    size_t functions_across[MOST_LEVELS], functions_at[MOST_LEVELS + 1];
 };
 
 static uint32_t lay_out(struct layout *at, WallmirrorPlan plan)
@@ -22,13 +27,17 @@ static uint32_t lay_out(struct layout *at, WallmirrorPlan plan)
     uint32_t level;
     if (plan.columns - 1 > 15 || plan.rows - 1 > 15 || plan.levels - 1 > 7 ||
         plan.degree_across - 1 > 3 || plan.degree_up - 1 > 3 ||
-        plan.admissibility_class == 1 || plan.admissibility_class > 8)
+        plan.admissibility_class == 1 || plan.admissibility_class > 8 ||
+        plan.corners_across >> plan.columns != 0 || plan.corners_up >> plan.rows != 0 ||
+        ((plan.corners_across | plan.corners_up) & 1) != 0)
         return WALLMIRROR_PLAN_OUT_OF_RANGE;
     if (!wallmirror_plan_is_valid(plan))
         return WALLMIRROR_TOO_MANY_CELLS;
     at->levels = plan.levels;
     at->across = plan.degree_across;
     at->up = plan.degree_up;
+    at->corners_across = plan.degree_across == 1 ? 0 : plan.corners_across;
+    at->corners_up = plan.degree_up == 1 ? 0 : plan.corners_up;
     at->back = plan.admissibility_class == 0 ? 0 : plan.admissibility_class - 1;
     at->cells_at[0] = at->functions_at[0] = 0;
     for (level = 0; level < plan.levels; level++) {
@@ -36,8 +45,10 @@ static uint32_t lay_out(struct layout *at, WallmirrorPlan plan)
         at->columns[level] = columns;
         at->rows[level] = rows;
         at->cells_at[level + 1] = at->cells_at[level] + columns * rows;
+        at->functions_across[level] = wallmirror_functions_across(plan, level);
         at->functions_at[level + 1] =
-            at->functions_at[level] + (columns + at->across) * (rows + at->up);
+            at->functions_at[level] +
+            at->functions_across[level] * wallmirror_functions_up(plan, level);
     }
     return 0;
 }
@@ -45,6 +56,17 @@ static uint32_t lay_out(struct layout *at, WallmirrorPlan plan)
 static size_t cells_of(const struct layout *at, uint32_t level)
 {
     return at->cells_at[level + 1] - at->cells_at[level];
+}
+
+static int has_corners(const struct layout *at)
+{
+    return (at->corners_across | at->corners_up) != 0;
+}
+
+/* Whether a line of a level is a corner. */
+static int is_corner(uint32_t corners, uint32_t level, size_t line)
+{
+    return line % ((size_t)1 << level) == 0 && (corners >> (line >> level) & 1) != 0;
 }
 
 /* ---- Windows ---- */
@@ -98,16 +120,106 @@ static void windows(const uint8_t *from, size_t columns, size_t rows, size_t pad
     least_of(spare, padded, out, n + up * width, width, up + 1);
 }
 
+/* ---- Windows with corners ---- */
+
+/* The entries from one to just before another. */
+struct span {
+    uint16_t from, to;
+};
+
+/* One direction of a level: the cells that each function covers, and for each cell the functions
+ * over it and the cells that these cover. */
+struct side {
+    size_t cells, functions;
+    struct span covered[MOST_ACROSS], over[WIDEST_ROW], near[WIDEST_ROW];
+};
+
+static void lay_side(struct side *side, size_t cells, uint32_t level, uint32_t degree,
+                     uint32_t corners)
+{
+    size_t cell, i, first = 0, next = 0;
+    /* From cell to cell one function ends and one begins; over a corner one alone goes on. */
+    for (cell = 0; cell < cells; cell++) {
+        first += is_corner(corners, level, cell) ? degree : cell > 0;
+        side->over[cell].from = (uint16_t)first;
+        side->over[cell].to = (uint16_t)(first + degree + 1);
+        for (; next < first + degree + 1; next++)
+            side->covered[next].from = (uint16_t)cell;
+        for (i = first; i < next; i++)
+            side->covered[i].to = (uint16_t)(cell + 1);
+    }
+    side->cells = cells;
+    side->functions = next;
+    for (cell = 0; cell < cells; cell++) {
+        side->near[cell].from = side->covered[side->over[cell].from].from;
+        side->near[cell].to = side->covered[side->over[cell].to - 1].to;
+    }
+}
+
+static void lay_sides(const struct layout *at, uint32_t level, struct side *across, struct side *up)
+{
+    lay_side(across, at->columns[level], level, at->across, at->corners_across);
+    lay_side(up, at->rows[level], level, at->up, at->corners_up);
+}
+
+/*
+ * Entry (j, i) of out, `stride` to a row, is the least byte of from within span j of its rows and
+ * span i of its columns. from has `height` rows of `width`.
+ */
+static void least_over(const uint8_t *from, size_t width, size_t height, const struct span *across,
+                       size_t columns, const struct span *up, size_t rows, uint8_t *out,
+                       size_t stride)
+{
+    uint8_t least[ROOM];
+    size_t row, i, j, k;
+    for (row = 0; row < height; row++)
+        for (i = 0; i < columns; i++) {
+            uint8_t so_far = from[row * width + across[i].from];
+            for (k = across[i].from + 1u; k < across[i].to; k++)
+                so_far = from[row * width + k] < so_far ? from[row * width + k] : so_far;
+            least[row * columns + i] = so_far;
+        }
+    for (j = 0; j < rows; j++) {
+        uint8_t *restrict to = out + j * stride;
+        memcpy(to, least + up[j].from * columns, columns);
+        for (k = up[j].from + 1u; k < up[j].to; k++) {
+            const uint8_t *restrict more = least + k * columns;
+            for (i = 0; i < columns; i++)
+                to[i] = more[i] < to[i] ? more[i] : to[i];
+        }
+    }
+}
+
+/* ---- Supports and neighbourhoods ---- */
+
 /*
  * Entry (row + up, column + across) of out, with columns + across to a row, is the least byte of
- * the cells that differ by at most the degrees.
+ * the neighbourhood of a cell: the cells that differ by at most the degrees, or fewer at corners.
  */
 static void neighbourhoods(const struct layout *at, uint32_t level, const uint8_t *from,
                            uint8_t *out)
 {
     uint8_t spare[ROOM];
-    windows(from, at->columns[level], at->rows[level], at->across, 2 * at->across, 2 * at->up,
-            spare, out);
+    struct side across, up;
+    size_t columns = at->columns[level], rows = at->rows[level], width = columns + at->across;
+    if (!has_corners(at)) {
+        windows(from, columns, rows, at->across, 2 * at->across, 2 * at->up, spare, out);
+        return;
+    }
+    lay_sides(at, level, &across, &up);
+    least_over(from, columns, rows, across.near, columns, up.near, rows,
+               out + at->up * width + at->across, width);
+}
+
+/* For each function the least byte of its support, on a level with corners. */
+static void over_cornered(const struct layout *at, uint32_t level, const uint8_t *cells,
+                          uint8_t *functions)
+{
+    struct side across, up;
+    lay_sides(at, level, &across, &up);
+    least_over(cells + at->cells_at[level], across.cells, up.cells, across.covered,
+               across.functions, up.covered, up.functions, functions + at->functions_at[level],
+               across.functions);
 }
 
 /* For each function the least byte of its support. */
@@ -115,6 +227,11 @@ static void over_supports(const struct layout *at, const uint8_t *cells, uint8_t
 {
     uint8_t spare[ROOM];
     uint32_t level;
+    if (has_corners(at)) {
+        for (level = 0; level < at->levels; level++)
+            over_cornered(at, level, cells, functions);
+        return;
+    }
     for (level = 0; level < at->levels; level++)
         windows(cells + at->cells_at[level], at->columns[level], at->rows[level], at->across,
                 at->across, at->up, spare, functions + at->functions_at[level]);
@@ -267,21 +384,40 @@ static uint32_t judge(const uint8_t *kinds, size_t total, size_t deep, const uin
     return 0;
 }
 
+/*
+ * For each cell of a level the least weight of the functions over it. Entry (row + up, column +
+ * across) of out, with columns + across to a row, is that of a cell.
+ */
+static void over_cells(const struct layout *at, uint32_t level, const uint8_t *weights,
+                       uint8_t *out)
+{
+    uint8_t rows_done[ROOM], spare[ROOM];
+    struct side across, up;
+    size_t width = at->columns[level] + at->across;
+    size_t count = at->functions_at[level + 1] - at->functions_at[level];
+    if (!has_corners(at)) {
+        least_of(weights, spare, rows_done, count, 1, at->across + 1);
+        least_of(rows_done, spare, out, count, width, at->up + 1);
+        return;
+    }
+    lay_sides(at, level, &across, &up);
+    least_over(weights, across.functions, up.functions, across.over, across.cells, up.over,
+               up.cells, out + at->up * width + at->across, width);
+}
+
 /* Flags the cells of kind 1 over which the least weight of the functions of their level is 1. */
 static void flag_covered(const struct layout *at, const uint8_t *weights, const uint8_t *kinds,
                          uint8_t *flags)
 {
-    uint8_t across[ROOM], least[ROOM], spare[ROOM];
+    uint8_t least[ROOM];
     uint32_t level;
     size_t row, i;
     for (level = 0; level + 1 < at->levels; level++) {
         const uint8_t *from = weights + at->functions_at[level];
         size_t n = at->columns[level], width = n + at->across;
-        size_t count = at->functions_at[level + 1] - at->functions_at[level];
-        if (!memchr(from, 1, count))
+        if (!memchr(from, 1, at->functions_at[level + 1] - at->functions_at[level]))
             continue;
-        least_of(from, spare, across, count, 1, at->across + 1);
-        least_of(across, spare, least, count, width, at->up + 1);
+        over_cells(at, level, from, least);
         for (row = 0; row < at->rows[level]; row++) {
             const uint8_t *over = least + (row + at->up) * width + at->across;
             size_t first = at->cells_at[level] + row * n;
@@ -595,10 +731,11 @@ static size_t next_number(const uint8_t *file, size_t len, size_t at, uint32_t *
     return 0;
 }
 
-/* What a file begins with, and where its cells stand. */
+/* What a file begins with, where its cells stand, its corners, and where these end. */
 struct listing {
     uint32_t numbers[7]; /* the plan and the count of cells */
-    size_t first, end;
+    uint32_t corners_across, corners_up;
+    size_t first, end, behind;
 };
 
 /* Whether the file has all its numbers. */
@@ -613,8 +750,15 @@ static int read_listing(const uint8_t *file, size_t len, struct listing *listing
     for (i = 0; i < listing->numbers[6]; i++)
         if ((at = next_number(file, len, at, &value)) == 0 || (i > 0 && value == 0))
             return 0;
-    listing->end = at;
-    return 1;
+    listing->end = listing->behind = at;
+    listing->corners_across = listing->corners_up = 0;
+    if (at == len)
+        return 1;
+    if ((at = next_number(file, len, at, &listing->corners_across)) == 0 ||
+        (at = next_number(file, len, at, &listing->corners_up)) == 0)
+        return 0;
+    listing->behind = at;
+    return (listing->corners_across | listing->corners_up) != 0;
 }
 
 /* Makes the listed cells refined and the cells that are then present active. Whether every listed
@@ -656,7 +800,7 @@ WallmirrorRead tuned_read(const uint8_t *file, size_t file_len, uint8_t *cells, 
                           uint8_t *functions, size_t functions_len)
 {
     uint8_t new_cells[ROOM];
-    WallmirrorRead answer = {0, {0, 0, 0, 0, 0, 0}};
+    WallmirrorRead answer = {0, {0, 0, 0, 0, 0, 0, 0, 0}};
     struct listing listing;
     struct layout at;
     WallmirrorPlan plan;
@@ -670,6 +814,8 @@ WallmirrorRead tuned_read(const uint8_t *file, size_t file_len, uint8_t *cells, 
     plan.degree_across = listing.numbers[3];
     plan.degree_up = listing.numbers[4];
     plan.admissibility_class = listing.numbers[5];
+    plan.corners_across = listing.corners_across;
+    plan.corners_up = listing.corners_up;
     answer.number = lay_out(&at, plan);
     if (answer.number != 0)
         return answer;
@@ -680,7 +826,7 @@ WallmirrorRead tuned_read(const uint8_t *file, size_t file_len, uint8_t *cells, 
         answer.number = WALLMIRROR_NOT_A_MESH;
     else if (!is_admissible(&at, new_cells))
         answer.number = WALLMIRROR_NOT_ADMISSIBLE;
-    else if (listing.end != file_len)
+    else if (listing.behind != file_len)
         answer.number = WALLMIRROR_TRAILING_BYTES;
     if (answer.number != 0)
         return answer;
@@ -724,6 +870,8 @@ WallmirrorWritten tuned_write(WallmirrorPlan plan, const uint8_t *cells, size_t 
             before = i;
         }
     length += size_of(count);
+    if ((plan.corners_across | plan.corners_up) != 0)
+        length += size_of(plan.corners_across) + size_of(plan.corners_up);
     if (file_len < length) {
         written.number = WALLMIRROR_CELL_LIST_TOO_SHORT;
         return written;
@@ -737,29 +885,41 @@ WallmirrorWritten tuned_write(WallmirrorPlan plan, const uint8_t *cells, size_t 
     to = put_number(to, count);
     for (i = 0; i < count; i++)
         to = put_number(to, listed[i]);
+    if ((plan.corners_across | plan.corners_up) != 0)
+        put_number(put_number(to, plan.corners_across), plan.corners_up);
     written.length = (uint32_t)length;
     return written;
 }
 
 /* ---- Heights ---- */
 
+/* Whether the functions over a cell beside the line begin or end at it: an end, or a corner. */
+static int is_sharp(size_t n, uint32_t level, uint32_t corners, size_t line)
+{
+    return line == 0 || line == n || is_corner(corners, level, line);
+}
+
 /*
  * The values of the degree + 1 functions over the cell that has the place, on a level of n cells of
- * `size` eighths; answers the cell. The far edge belongs to the last one.
+ * `size` eighths; answers the first of these functions. The far edge belongs to the last cell.
  */
-static size_t values_at(uint32_t degree, size_t n, size_t size, size_t place, double values[3])
+static size_t values_at(uint32_t degree, size_t n, uint32_t level, uint32_t corners, size_t size,
+                        size_t place, double values[3])
 {
-    size_t cell = place / size < n ? place / size : n - 1;
+    size_t cell = place / size < n ? place / size : n - 1, first = cell;
     double t = (double)(place - cell * size) / (double)size;
     if (degree == 1) {
         values[0] = 1 - t;
         values[1] = t;
         return cell;
     }
-    values[0] = (1 - t) * (1 - t) * (cell == 0 ? 1 : 0.5);
-    values[2] = t * t * (cell == n - 1 ? 1 : 0.5);
+    values[0] = (1 - t) * (1 - t) * (is_sharp(n, level, corners, cell) ? 1 : 0.5);
+    values[2] = t * t * (is_sharp(n, level, corners, cell + 1) ? 1 : 0.5);
     values[1] = 1 - values[0] - values[2];
-    return cell;
+    /* One function more for each corner at or before the cell. */
+    for (corners &= ((uint32_t)2 << (cell >> level)) - 1; corners != 0; corners &= corners - 1)
+        first++;
+    return first;
 }
 
 /* Whether an active function has a height beyond its limit. */
@@ -798,9 +958,11 @@ WallmirrorHeight tuned_height(WallmirrorPlan plan, const uint8_t *cells, size_t 
     /* Products and sums are exact, so their order does not matter. */
     for (level = 0; level < at.levels; level++) {
         double values_across[3], values_up[3], sum = 0;
-        size_t size = (size_t)8 << (at.levels - 1 - level), width = at.columns[level] + at.across;
-        size_t column = values_at(at.across, at.columns[level], size, across, values_across);
-        size_t row = values_at(at.up, at.rows[level], size, up, values_up);
+        size_t size = (size_t)8 << (at.levels - 1 - level), width = at.functions_across[level];
+        size_t column = values_at(at.across, at.columns[level], level, at.corners_across, size,
+                                  across, values_across);
+        size_t row =
+            values_at(at.up, at.rows[level], level, at.corners_up, size, up, values_up);
         size_t first = at.functions_at[level] + row * width + column;
         for (j = 0; j <= at.up; j++, first += width)
             for (i = 0; i <= at.across; i++)

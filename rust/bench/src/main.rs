@@ -1,6 +1,7 @@
 //! Prints, for meshes near the largest, what each call takes: the library, the tuned C version
-//! beside it (`c/tuned.c`), the model, and how often both tables could be read meanwhile. Then, for
-//! the smallest, what the height at one point takes. Run it in release mode:
+//! beside it (`c/tuned.c`), the model, and how often both tables could be read meanwhile. Some
+//! calls follow on meshes with corners, for which there are no goals. Then, for the smallest
+//! meshes, what the height at one point takes. Run it in release mode:
 //! `cargo run --release --offline -p bench`.
 //!
 //! The times are the least of many rounds. Library, C and reading take turns, so that a ratio
@@ -9,7 +10,7 @@
 mod versions;
 
 use differential::scenario::{self, Scenario};
-use differential::{Kind, Tables};
+use differential::{plan, Kind, Tables};
 use std::hint::black_box;
 use std::time::{Duration, Instant};
 use versions::{agree, Buffers, Call, LIBRARY, TUNED};
@@ -75,6 +76,8 @@ struct Row {
     /// How many times as long the library takes with lists that are just long enough: then the
     /// changes are counted before anything is written, for which the labels are made once more.
     counted: Option<f64>,
+    /// Whether the plan has corners, and so no goal.
+    cornered: bool,
 }
 
 impl Row {
@@ -87,7 +90,7 @@ impl Row {
     }
 
     fn goal(&self) -> Option<Goal> {
-        Goal::of(self.call, self.marks)
+        Goal::of(self.call, self.marks).filter(|_| !self.cornered)
     }
 
     fn misses(&self) -> bool {
@@ -128,16 +131,18 @@ fn main() {
     }
     println!("C: {}. Times in microseconds, the least of many rounds.\n", env!("TUNED_BY"));
     let mut rows: Vec<Row> = scenario::all().iter().flat_map(measure).collect();
+    let cornered: Vec<Row> = scenario::with_corners().iter().flat_map(measure_corners).collect();
     rows.extend(scenario::with_heights().iter().flat_map(measure_height));
     let points = measure_points();
     print_summary(&rows, &points);
+    print_summary_of_corners(&cornered);
 }
 
 /// Measures and prints every call but the height on the meshes of one scenario.
 fn measure(scenario: &Scenario) -> Vec<Row> {
     print_heading(scenario);
     let mut rows = vec![];
-    let mut add = |call, tables, marks: &[u32]| {
+    let mut add = |call, tables: &Tables, marks: &[u32]| {
         rows.push(time(call, tables, marks, scenario.to_string()));
         rows[rows.len() - 1].print();
     };
@@ -145,13 +150,35 @@ fn measure(scenario: &Scenario) -> Vec<Row> {
         add(call, &scenario.to_coarsen, &[]);
     }
     for kind in Kind::ALL {
-        let tables = scenario.before(kind);
-        let markable = tables.markable(kind);
-        // The last one is of the finest level, where a class asks for most.
-        add(Call::Change(kind), tables, &markable[markable.len() - 1..]);
-        if markable.len() > 1 {
-            add(Call::Change(kind), tables, &markable);
-        }
+        add_changes(scenario, kind, &mut add);
+    }
+    print_reading(scenario, &rows);
+    rows
+}
+
+/// A change with one mark, and with all that there are.
+fn add_changes(scenario: &Scenario, kind: Kind, add: &mut impl FnMut(Call, &Tables, &[u32])) {
+    let tables = scenario.before(kind);
+    let markable = tables.markable(kind);
+    // The last one is of the finest level, where a class asks for most.
+    add(Call::Change(kind), tables, &markable[markable.len() - 1..]);
+    if markable.len() > 1 {
+        add(Call::Change(kind), tables, &markable);
+    }
+}
+
+/// Measures and prints the check and the changes by cells on meshes with corners.
+fn measure_corners(scenario: &Scenario) -> Vec<Row> {
+    print_heading(scenario);
+    let mut rows = vec![];
+    let mut add = |call, tables: &Tables, marks: &[u32]| {
+        let row = time(call, tables, marks, scenario.to_string());
+        rows.push(Row { cornered: true, ..row });
+        rows[rows.len() - 1].print();
+    };
+    add(Call::Check, &scenario.to_coarsen, &[]);
+    for kind in [Kind::RefineCells, Kind::CoarsenCells] {
+        add_changes(scenario, kind, &mut add);
     }
     print_reading(scenario, &rows);
     rows
@@ -220,7 +247,8 @@ impl Point {
     const MOST: f64 = 3.0;
 
     fn measure(degree: u32, levels: u32) -> Point {
-        let tables = scenario::cornered([1, 1, levels, degree, degree, 0]).to_coarsen;
+        let tables =
+            scenario::towards_the_first_cell(plan([1, 1, levels, degree, degree, 0])).to_coarsen;
         let [[check, height], [tuned_check, tuned_height]] =
             time_small(Buffers::with_room(&tables));
         let (functions, tuned_after_check) = (tables.functions.len(), tuned_height - tuned_check);
@@ -264,7 +292,7 @@ impl Point {
 /// Measures and prints what one point takes after the check, on meshes so small that their tables
 /// hardly count, and answers for each degree how many times as long as C it takes on four levels.
 fn measure_points() -> [f64; 2] {
-    println!("one point of 1 by 1 cells, refined towards a corner, class 0; nanoseconds");
+    println!("one point of 1 by 1 cells, refined towards the first cell, class 0; nanoseconds");
     println!(
         "{:<6} {:>8} {:>9} {:>6} {:>8} {:>8} {:>11} {:>8} {:>8} {:>9}",
         "levels",
@@ -321,17 +349,31 @@ fn print_summary(rows: &[Row], points: &[f64]) {
     println!("{missed} of {goals} goals missed");
     for goal in Goal::ALL {
         let of_goal: Vec<&Row> = rows.iter().filter(|row| row.goal() == Some(goal)).collect();
-        let greatest = |ratio: fn(&Row) -> f64| {
-            let row = of_goal.iter().max_by(|a, b| ratio(a).total_cmp(&ratio(b))).expect("a row");
-            format!("{:.1}, {}", ratio(row), row.said())
-        };
         println!("{}, at most {:.0} times reading:", goal.name(), goal.most());
-        println!("  greatest ratio to reading {}", greatest(Row::to_read));
-        println!("  greatest ratio to C {}", greatest(Row::to_tuned));
+        print_greatest(&of_goal);
     }
     let counted = rows.iter().filter_map(|row| row.counted.map(|ratio| (ratio, row)));
     let (ratio, row) = counted.max_by(|a, b| a.0.total_cmp(&b.0)).expect("a row");
     println!("lists just long enough: at most {ratio:.2} times as long, {}", row.said());
+}
+
+/// The same for meshes with corners. The C version is not tuned for these.
+fn print_summary_of_corners(rows: &[Row]) {
+    for goal in [Goal::Check, Goal::OneCell, Goal::AllCells] {
+        let of_goal: Vec<&Row> =
+            rows.iter().filter(|row| Goal::of(row.call, row.marks) == Some(goal)).collect();
+        println!("{}, with corners:", goal.name());
+        print_greatest(&of_goal);
+    }
+}
+
+fn print_greatest(rows: &[&Row]) {
+    let greatest = |ratio: fn(&Row) -> f64| {
+        let row = rows.iter().max_by(|a, b| ratio(a).total_cmp(&ratio(b))).expect("a row");
+        format!("{:.1}, {}", ratio(row), row.said())
+    };
+    println!("  greatest ratio to reading {}", greatest(Row::to_read));
+    println!("  greatest ratio to C {}", greatest(Row::to_tuned));
 }
 
 fn microseconds(time: Duration) -> f64 {
@@ -370,7 +412,8 @@ fn time(call: Call, tables: &Tables, marks: &[u32], place: String) -> Row {
         model = model.min(timed(|| run_model(call, tables, marks, &buffers)));
     });
     let counted = matches!(call, Call::Change(_)).then(|| time_counted(call, tables, marks));
-    Row { call, place, marks: marks.len(), changed, library, tuned, model, read, counted }
+    let (marks, cornered) = (marks.len(), false);
+    Row { call, place, marks, changed, library, tuned, model, read, counted, cornered }
 }
 
 /// How many times as long a call takes with lists that are just long enough as with those of T and F

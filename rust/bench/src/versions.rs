@@ -182,7 +182,7 @@ pub struct Buffers {
     pub file: Vec<u8>,
     pub heights: Vec<i32>,
     pub point: (u32, u32),
-    pub answer: [u32; 7],
+    pub answer: [u32; 9],
 }
 
 impl Buffers {
@@ -194,7 +194,7 @@ impl Buffers {
             file,
             heights: vec![0; tables.functions.len()],
             point: (0, 0),
-            answer: [0; 7],
+            answer: [0; 9],
         }
     }
 
@@ -224,30 +224,39 @@ impl Buffers {
                 Call::Open => {
                     let number =
                         (version.open)(plan, cells.as_mut_ptr(), t, functions.as_mut_ptr(), f);
-                    [number, 0, 0, 0, 0, 0, 0]
+                    padded([number])
                 }
                 Call::Check => {
-                    let number = (version.check)(plan, cells.as_ptr(), t, functions.as_ptr(), f);
-                    [number, 0, 0, 0, 0, 0, 0]
+                    padded([(version.check)(plan, cells.as_ptr(), t, functions.as_ptr(), f)])
                 }
                 Call::Count => {
                     let count = (version.count)(plan, cells.as_ptr(), t, functions.as_ptr(), f);
                     let ffi::Count { number, active_cells, refined_cells, .. } = count;
-                    [number, active_cells, refined_cells, count.active_functions, count.area, 0, 0]
+                    let ffi::Count { active_functions, area, .. } = count;
+                    padded([number, active_cells, refined_cells, active_functions, area])
                 }
                 Call::Read => {
                     let (file, length) = (self.file.as_ptr(), self.file.len());
                     let (cells, functions) = (cells.as_mut_ptr(), functions.as_mut_ptr());
                     let ffi::Read { number, plan } =
                         (version.read)(file, length, cells, t, functions, f);
-                    let ffi::Plan { columns, rows, levels, degree_across, degree_up, class } = plan;
-                    [number, columns, rows, levels, degree_across, degree_up, class]
+                    [
+                        number,
+                        plan.columns,
+                        plan.rows,
+                        plan.levels,
+                        plan.degree_across,
+                        plan.degree_up,
+                        plan.class,
+                        plan.corners_across,
+                        plan.corners_up,
+                    ]
                 }
                 Call::Write => {
                     let (file, length) = (self.file.as_mut_ptr(), self.file.len());
                     let (cells, functions) = (cells.as_ptr(), functions.as_ptr());
                     let written = (version.write)(plan, cells, t, functions, f, file, length);
-                    [written.number, written.length, 0, 0, 0, 0, 0]
+                    padded([written.number, written.length])
                 }
                 Call::Height => {
                     let (heights, length) = (self.heights.as_ptr(), self.heights.len());
@@ -256,7 +265,7 @@ impl Buffers {
                     let ffi::Height { number, height } =
                         (version.height)(plan, cells, t, functions, f, heights, length, across, up);
                     let bits = height.to_bits();
-                    [number, bits as u32, (bits >> 32) as u32, 0, 0, 0, 0]
+                    padded([number, bits as u32, (bits >> 32) as u32])
                 }
                 Call::Change(kind) => {
                     let answer = (version.change)(kind)(
@@ -272,11 +281,18 @@ impl Buffers {
                         self.function_list.as_mut_ptr(),
                         self.function_list.len(),
                     );
-                    [answer.number, answer.cells, answer.functions, 0, 0, 0, 0]
+                    padded([answer.number, answer.cells, answer.functions])
                 }
             }
         };
     }
+}
+
+/// The numbers with zeros behind them.
+fn padded<const N: usize>(numbers: [u32; N]) -> [u32; 9] {
+    let mut padded = [0; 9];
+    padded[..N].copy_from_slice(&numbers);
+    padded
 }
 
 /// Runs both versions from the same buffers and sees that they leave the same. Answers the number
@@ -299,20 +315,22 @@ pub fn agree(call: Call, before: &Buffers, marks: &[u32]) -> (u32, u32) {
 #[cfg(test)]
 mod tests {
     use super::*;
-    use differential::{random_plan, random_refined, Random};
+    use differential::{has_corners, random_corners, random_plan, random_refined, Random};
     use model::Plan;
+    use wallmirror::{MAX_CELLS, MAX_FUNCTIONS};
 
     /// Random meshes, some with a wrong byte or another class, random marks, some of them wrong,
     /// files, some of them with a wrong byte, cut or longer, and heights and points, some beyond.
     #[test]
     fn tuned_is_as_the_library() {
         let mut random = Random::new(600);
-        let mut seen = [0; 16];
+        let (mut seen, mut cornered) = ([0; 16], 0);
         for turn in 0..4000 {
             let degrees = (random.below(4) as u32 + 1, random.below(4) as u32 + 1);
             let class = random.pick(&[0, 2, 2, 3, 4, 5, 8]);
             let most = if turn % 100 == 0 { 21_845 } else { 500 };
             let plan = random_plan(&mut random, degrees, class, most);
+            cornered += u32::from(has_corners(plan));
             let mut tables = Tables::with_refined(plan, &random_refined(&mut random, plan));
             let call = match random.below(11) {
                 0 => random.pick(&[Call::Open, Call::Check, Call::Count]),
@@ -324,26 +342,31 @@ mod tests {
             let marks = marks(&mut random, call, &tables);
             let (heights, point) = (heights(&mut random, &tables), point(&mut random, plan));
             let mut file = tables.file();
-            match random.below(8) {
+            match random.below(10) {
                 0 | 1 => wrong_byte(&mut random, &mut file),
                 2 => drop(file.pop()),
                 3 => file.push(0),
+                // Corners, perhaps behind others.
+                4 => file.extend([random_corners(&mut random, plan.columns.min(7)) as u8, 0]),
                 _ => {}
             }
-            match random.below(12) {
+            match random.below(15) {
                 0 => tables.plan.class = random.pick(&[0, 2, 3]),
                 1 => wrong_byte(&mut random, &mut tables.cells),
                 2 => wrong_byte(&mut random, &mut tables.functions),
                 3 => tables.plan.levels = random.below(10) as u32,
+                4 => tables.plan.corners_across = random_corners(&mut random, plan.columns),
+                5 => tables.plan.corners_up = 1 << random.below(20),
                 _ => {}
             }
-            let room = random.pick(&[0, 3, 21_845, 21_845]);
-            let function_room = random.pick(&[3, 26_220, 26_220]);
+            let room = random.pick(&[0, 3, MAX_CELLS, MAX_CELLS]);
+            let function_room = random.pick(&[3, MAX_FUNCTIONS, MAX_FUNCTIONS]);
             let before =
                 Buffers { heights, point, ..Buffers::new(&tables, room, function_room, file) };
             seen[agree(call, &before, &marks).0 as usize] += 1;
         }
         assert!(seen.iter().all(|&count| count > 0), "{seen:?}");
+        assert!(cornered > 1000, "{cornered}");
     }
 
     fn wrong_byte(random: &mut Random, table: &mut [u8]) {

@@ -107,10 +107,41 @@ impl Kind {
     }
 }
 
-/// The plan in the order A, B, L, p, q, m.
-pub fn plan(numbers: [u32; 6]) -> Plan {
-    let [columns, rows, levels, degree_across, degree_up, class] = numbers;
-    Plan { columns, rows, levels, degree_across, degree_up, class }
+/// The plan in the order A, B, L, p, q, m, and then both corner numbers, or none.
+pub fn plan<const N: usize>(numbers: [u32; N]) -> Plan {
+    let (&[columns, rows, levels, degree_across, degree_up, class], corners) =
+        numbers.split_first_chunk().expect("six numbers");
+    let (corners_across, corners_up) = match *corners {
+        [] => (0, 0),
+        [across, up] => (across, up),
+        _ => panic!("{numbers:?} are not six or eight numbers"),
+    };
+    Plan { columns, rows, levels, degree_across, degree_up, class, corners_across, corners_up }
+}
+
+/// A corner on every line between n columns or rows.
+pub fn all_corners(n: u32) -> u32 {
+    (1 << n) - 2
+}
+
+/// All sets of corners of n columns or rows.
+pub fn every_corners(n: u32) -> impl Iterator<Item = u32> {
+    (0..1 << (n - 1)).map(|set| set << 1)
+}
+
+/// Corners of n columns or rows: often none, often one, sometimes all, sometimes any.
+pub fn random_corners(random: &mut Random, n: u32) -> u32 {
+    match random.below(8) {
+        0..=1 => 0,
+        2..=4 if n > 1 => 2 << random.below(n as usize - 1),
+        5 => all_corners(n),
+        _ => random.bits() as u32 & all_corners(n),
+    }
+}
+
+/// Whether the plan has a corner that a degree above 1 makes something of.
+pub fn has_corners(plan: Plan) -> bool {
+    plan.degree_across > 1 && plan.corners_across != 0 || plan.degree_up > 1 && plan.corners_up != 0
 }
 
 pub fn raw(plan: Plan) -> ffi::Plan {
@@ -121,6 +152,22 @@ pub fn raw(plan: Plan) -> ffi::Plan {
         degree_across: plan.degree_across,
         degree_up: plan.degree_up,
         class: plan.class,
+        corners_across: plan.corners_across,
+        corners_up: plan.corners_up,
+    }
+}
+
+/// The same plan for the wrapper.
+pub fn of_wrapper(plan: Plan) -> wallmirror::Plan {
+    wallmirror::Plan {
+        columns: plan.columns,
+        rows: plan.rows,
+        levels: plan.levels,
+        degree_across: plan.degree_across,
+        degree_up: plan.degree_up,
+        class: plan.class,
+        corners_across: plan.corners_across,
+        corners_up: plan.corners_up,
     }
 }
 
@@ -545,7 +592,8 @@ pub fn undo_by_functions(tables: &mut Tables, log: &Log, spare: usize, random: &
     }
 }
 
-/// A plan of these degrees and class with at most so many cells on all levels.
+/// A plan of these degrees and class with at most so many cells on all levels, and with corners of
+/// every kind.
 pub fn random_plan(random: &mut Random, degrees: (u32, u32), class: u32, most: usize) -> Plan {
     loop {
         // Long and narrow, or square: both, at every number of levels.
@@ -555,7 +603,9 @@ pub fn random_plan(random: &mut Random, degrees: (u32, u32), class: u32, most: u
         let levels = random.below(8) as u32 + 1;
         let plan = plan([columns, rows, levels, degrees.0, degrees.1, class]);
         if plan.cell_total() <= most {
-            return plan;
+            let corners_across = random_corners(random, columns);
+            let corners_up = random_corners(random, rows);
+            return Plan { corners_across, corners_up, ..plan };
         }
     }
 }

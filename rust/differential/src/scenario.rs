@@ -1,16 +1,20 @@
 //! Meshes near the largest, on which the calls are timed and their stack is measured.
 
-use crate::{plan, Kind, Tables};
+use crate::{all_corners, plan, Kind, Tables};
+use model::Plan;
 
 /// A mesh to refine and a mesh to coarsen, one step apart.
 pub struct Scenario {
     pub name: &'static str,
-    pub numbers: [u32; 6],
     pub to_refine: Tables,
     pub to_coarsen: Tables,
 }
 
 impl Scenario {
+    pub fn plan(&self) -> Plan {
+        self.to_refine.plan
+    }
+
     /// The mesh that a call of this kind is to change.
     pub fn before(&self, kind: Kind) -> &Tables {
         if kind.refines() {
@@ -23,70 +27,99 @@ impl Scenario {
 
 impl std::fmt::Display for Scenario {
     fn fmt(&self, f: &mut std::fmt::Formatter<'_>) -> std::fmt::Result {
-        let [columns, rows, levels, p, q, class] = self.numbers;
-        write!(f, "{}, {columns} {rows} {levels}, degrees {p} {q}, class {class}", self.name)
+        let Plan { columns, rows, levels, degree_across, degree_up, class, .. } = self.plan();
+        let name = self.name;
+        write!(f, "{name}, {columns} {rows} {levels}, degrees {degree_across} {degree_up}")?;
+        write!(f, ", class {class}")?;
+        let corners = [self.plan().corners_across, self.plan().corners_up].map(u32::count_ones);
+        match corners {
+            [0, 0] => Ok(()),
+            [across, up] => write!(f, ", {across} and {up} corners"),
+        }
     }
 }
 
 /// Square and long plans of as many cells as there may be, with wide rows and with narrow ones.
 pub fn all() -> Vec<Scenario> {
     vec![
-        wholly([1, 1, 8, 3, 3, 0]),
-        wholly([16, 16, 4, 3, 3, 0]),
-        wholly([16, 1, 6, 3, 3, 0]),
-        wholly([1, 16, 6, 3, 3, 0]),
-        wholly([1, 1, 8, 4, 4, 2]),
-        wholly([16, 1, 6, 4, 4, 2]),
-        wholly([1, 16, 6, 4, 4, 2]),
-        cornered([1, 1, 8, 4, 4, 2]),
-        cornered([16, 16, 4, 4, 4, 2]),
-        cornered([16, 1, 6, 4, 4, 2]),
-        cornered([1, 16, 6, 4, 4, 2]),
-        nearly_empty([16, 16, 4, 4, 4, 2]),
-        nearly_empty([1, 1, 8, 3, 3, 0]),
+        wholly(plan([1, 1, 8, 3, 3, 0])),
+        wholly(plan([16, 16, 4, 3, 3, 0])),
+        wholly(plan([16, 1, 6, 3, 3, 0])),
+        wholly(plan([1, 16, 6, 3, 3, 0])),
+        wholly(plan([1, 1, 8, 4, 4, 2])),
+        wholly(plan([16, 1, 6, 4, 4, 2])),
+        wholly(plan([1, 16, 6, 4, 4, 2])),
+        towards_the_first_cell(plan([1, 1, 8, 4, 4, 2])),
+        towards_the_first_cell(plan([16, 16, 4, 4, 4, 2])),
+        towards_the_first_cell(plan([16, 1, 6, 4, 4, 2])),
+        towards_the_first_cell(plan([1, 16, 6, 4, 4, 2])),
+        nearly_empty(plan([16, 16, 4, 4, 4, 2])),
+        nearly_empty(plan([1, 1, 8, 3, 3, 0])),
+    ]
+}
+
+/// The same with every line of level 0 a corner, the most functions that there may be among them.
+pub fn with_corners() -> Vec<Scenario> {
+    vec![
+        wholly(cornered([16, 16, 4, 4, 4, 2])),
+        wholly(cornered([16, 16, 4, 2, 2, 2])),
+        wholly(cornered([16, 1, 6, 4, 4, 2])),
+        wholly(cornered([16, 1, 6, 2, 2, 0])),
+        towards_the_first_cell(cornered([16, 16, 4, 4, 4, 2])),
+        towards_the_first_cell(cornered([16, 1, 6, 4, 4, 2])),
+        nearly_empty(cornered([16, 16, 4, 4, 4, 2])),
     ]
 }
 
 /// The same for plans whose surface has heights: degrees 1 and 2, and at most four levels.
 pub fn with_heights() -> Vec<Scenario> {
     vec![
-        wholly([16, 16, 4, 2, 2, 0]),
-        wholly([16, 16, 4, 1, 1, 2]),
-        wholly([16, 1, 4, 2, 1, 0]),
-        cornered([16, 16, 4, 2, 2, 2]),
-        nearly_empty([16, 16, 4, 2, 2, 2]),
+        wholly(plan([16, 16, 4, 2, 2, 0])),
+        wholly(plan([16, 16, 4, 1, 1, 2])),
+        wholly(plan([16, 1, 4, 2, 1, 0])),
+        towards_the_first_cell(plan([16, 16, 4, 2, 2, 2])),
+        nearly_empty(plan([16, 16, 4, 2, 2, 2])),
+        wholly(cornered([16, 16, 4, 2, 2, 2])),
+        towards_the_first_cell(cornered([16, 16, 4, 2, 2, 2])),
     ]
 }
 
-/// All cells refined, and the mesh before its last level was.
-fn wholly(numbers: [u32; 6]) -> Scenario {
-    steps("wholly refined", numbers, numbers[2] - 1, |tables, _| tables.markable(Kind::RefineCells))
+/// The plan with every line of level 0 a corner.
+fn cornered(numbers: [u32; 6]) -> Plan {
+    let plan = plan(numbers);
+    let (corners_across, corners_up) = (all_corners(plan.columns), all_corners(plan.rows));
+    Plan { corners_across, corners_up, ..plan }
 }
 
-/// The cell at one corner refined down to the last level, and the mesh before the last step.
-pub fn cornered(numbers: [u32; 6]) -> Scenario {
-    steps("refined towards a corner", numbers, numbers[2] - 1, |tables, level| {
+/// All cells refined, and the mesh before its last level was.
+fn wholly(plan: Plan) -> Scenario {
+    steps("wholly refined", plan, plan.levels - 1, |tables, _| tables.markable(Kind::RefineCells))
+}
+
+/// The first cell of each level refined down to the last, and the mesh before the last step.
+pub fn towards_the_first_cell(plan: Plan) -> Scenario {
+    steps("refined towards the first cell", plan, plan.levels - 1, |tables, level| {
         vec![tables.plan.cell_number(model::Cell { level, row: 0, column: 0 }) as u32]
     })
 }
 
 /// The open mesh, and the same with one cell refined.
-fn nearly_empty(numbers: [u32; 6]) -> Scenario {
-    steps("nearly empty", numbers, 1, |_, _| vec![0])
+fn nearly_empty(plan: Plan) -> Scenario {
+    steps("nearly empty", plan, 1, |_, _| vec![0])
 }
 
 /// Refines so many times the cells that are to be marked then.
 fn steps(
     name: &'static str,
-    numbers: [u32; 6],
+    plan: Plan,
     steps: u32,
     marks: impl Fn(&Tables, u32) -> Vec<u32>,
 ) -> Scenario {
-    let mut to_coarsen = Tables::opened(plan(numbers));
+    let mut to_coarsen = Tables::opened(plan);
     let mut to_refine = to_coarsen.clone();
     for step in 0..steps {
         to_refine = to_coarsen.clone();
         to_coarsen.call_with_room(Kind::RefineCells, &marks(&to_refine, step));
     }
-    Scenario { name, numbers, to_refine, to_coarsen }
+    Scenario { name, to_refine, to_coarsen }
 }

@@ -2,7 +2,7 @@
 //! over nested subdomains: H(0) is all functions of level 0, and H(k+1) has the functions of H(k)
 //! whose support is not inside subdomain k+1, and those of level k+1 whose support is.
 
-use differential::{random_plan, random_refined, Kind, Random, Tables};
+use differential::{has_corners, random_plan, random_refined, Kind, Random, Tables};
 use model::{Cell, Function, Plan};
 use std::collections::{BTreeMap, BTreeSet};
 
@@ -40,11 +40,12 @@ fn published_labels(tables: &Tables) -> Vec<u8> {
 #[test]
 fn labels_are_those_of_the_published_basis() {
     let mut random = Random::new(500);
-    let mut seen = [0; 3];
+    let (mut seen, mut cornered) = ([0; 3], 0);
     for class in [0, 2, 3] {
         for (degree_across, degree_up) in [(1, 1), (2, 1), (3, 2), (1, 4), (4, 4)] {
             for most in [60, 200, 350, 350, 1000, 1400] {
                 let plan = random_plan(&mut random, (degree_across, degree_up), class, most);
+                cornered += u32::from(has_corners(plan));
                 let refined = random_refined(&mut random, plan);
                 let mut tables = Tables::with_refined(plan, &refined);
                 for kind in Kind::ALL {
@@ -58,4 +59,5 @@ fn labels_are_those_of_the_published_basis() {
         }
     }
     assert!(seen.iter().all(|&often| often > 1000), "{seen:?}");
+    assert!(cornered > 20, "{cornered}");
 }

@@ -1,7 +1,7 @@
 //! Small plans, tried systematically: all cell tables of a few byte values, all admissible meshes with
 //! all single marks. Where a test only samples, it says so.
 
-use differential::{plan, Kind, Tables};
+use differential::{every_corners, plan, Kind, Tables};
 use model::{Cell, Plan};
 use std::collections::BTreeSet;
 use Kind::*;
@@ -40,7 +40,13 @@ fn the_number_of_meshes() {
 /// the cells fix.
 #[test]
 fn every_cell_table() {
-    for numbers in [[1, 1, 2, 1, 1, 0], [1, 1, 2, 2, 1, 2], [2, 1, 2, 1, 2, 2]] {
+    for numbers in [
+        [1, 1, 2, 1, 1, 0, 0, 0],
+        [1, 1, 2, 2, 1, 2, 0, 0],
+        [2, 1, 2, 1, 2, 2, 0, 0],
+        [2, 1, 2, 2, 1, 2, 2, 0],
+        [1, 2, 2, 1, 3, 0, 0, 2],
+    ] {
         let opened = Tables::opened(plan(numbers));
         let bytes: u32 = if opened.cells.len() <= 5 { 4 } else { 3 };
         let (mut accepted, mut refused) = (0, 0);
@@ -61,7 +67,14 @@ fn every_cell_table() {
 /// Check and count with every single byte of both tables of every admissible mesh changed.
 #[test]
 fn every_byte_changed() {
-    for numbers in [[1, 1, 3, 1, 1, 2], [2, 1, 2, 2, 1, 2], [1, 2, 2, 3, 4, 0]] {
+    for numbers in [
+        [1, 1, 3, 1, 1, 2, 0, 0],
+        [2, 1, 2, 2, 1, 2, 0, 0],
+        [1, 2, 2, 3, 4, 0, 0, 0],
+        [2, 1, 2, 2, 1, 2, 2, 0],
+        [1, 2, 2, 3, 4, 0, 0, 2],
+        [3, 1, 2, 3, 1, 0, 6, 0],
+    ] {
         for tables in all_admissible(plan(numbers)) {
             for byte in [0, 1, 2, 3, 255] {
                 for number in 0..tables.cells.len() {
@@ -84,8 +97,15 @@ fn every_byte_changed() {
 /// Every call with every single mark, in range and just out of it, on every admissible mesh.
 #[test]
 fn every_mark_on_every_mesh() {
-    for numbers in [[2, 1, 3, 1, 1, 0], [2, 1, 3, 1, 1, 2], [1, 2, 3, 2, 1, 2], [1, 1, 3, 3, 4, 3]]
-    {
+    for numbers in [
+        [2, 1, 3, 1, 1, 0, 0, 0],
+        [2, 1, 3, 1, 1, 2, 0, 0],
+        [1, 2, 3, 2, 1, 2, 0, 0],
+        [1, 1, 3, 3, 4, 3, 0, 0],
+        [2, 1, 3, 2, 1, 0, 2, 0],
+        [2, 1, 3, 3, 1, 2, 2, 0],
+        [1, 2, 3, 1, 2, 2, 0, 2],
+    ] {
         for mesh in all_admissible(plan(numbers)) {
             for kind in Kind::ALL {
                 let by_functions = kind.by_functions();
@@ -102,8 +122,15 @@ fn every_mark_on_every_mesh() {
 /// there are more.
 #[test]
 fn every_set_of_marks() {
-    for numbers in [[1, 1, 3, 1, 1, 0], [1, 1, 3, 2, 1, 2], [3, 1, 2, 1, 1, 2], [2, 2, 2, 2, 2, 0]]
-    {
+    for numbers in [
+        [1, 1, 3, 1, 1, 0, 0, 0],
+        [1, 1, 3, 2, 1, 2, 0, 0],
+        [3, 1, 2, 1, 1, 2, 0, 0],
+        [2, 2, 2, 2, 2, 0, 0, 0],
+        [3, 1, 2, 2, 1, 2, 2, 0],
+        [3, 1, 2, 3, 1, 0, 6, 0],
+        [2, 2, 2, 2, 3, 0, 2, 2],
+    ] {
         for mesh in all_admissible(plan(numbers)) {
             for kind in Kind::ALL {
                 let mut markable = mesh.markable(kind);
@@ -121,18 +148,86 @@ fn every_set_of_marks() {
     }
 }
 
+/// All corners of plans of up to three columns and two rows, with all degrees where there are few
+/// cells: every mesh of two levels, each call with each mark that it takes and with all of them.
+#[test]
+fn every_corner_of_two_levels() {
+    let mut calls = 0;
+    for (columns, rows) in [(1, 1), (2, 1), (3, 1), (1, 2), (2, 2), (3, 2)] {
+        for (p, q) in (1..=4).flat_map(|p| (1..=4).map(move |q| (p, q))) {
+            if columns * rows > 3 && (p == 1 || q == 1 || p == q && p > 2) {
+                continue;
+            }
+            for across in every_corners(columns) {
+                for up in every_corners(rows) {
+                    let plan = plan([columns, rows, 2, p, q, 0, across, up]);
+                    calls +=
+                        all_admissible(plan).map(|mesh| every_mark_taken(&mesh)).sum::<usize>();
+                }
+            }
+        }
+    }
+    assert!(calls > 20_000, "{calls}");
+}
+
+/// The same with three levels, where classes 2 and 3 differ from class 0. The meshes are a sample,
+/// each so many.
+#[test]
+fn every_corner_of_three_levels() {
+    let (mut calls, mut refused) = (0, 0);
+    for (columns, rows, every) in [(2, 1, 19), (1, 2, 19), (3, 1, 331)] {
+        for (p, q) in [(1, 1), (2, 1), (1, 2), (3, 1), (2, 3), (4, 4)] {
+            for across in every_corners(columns) {
+                for up in every_corners(rows) {
+                    for class in [0, 2, 3] {
+                        let plan = plan([columns, rows, 3, p, q, class, across, up]);
+                        for refined in all_meshes(plan).iter().step_by(every) {
+                            let mesh = Tables::with_refined(plan, refined);
+                            match mesh.check() {
+                                0 => calls += every_mark_taken(&mesh),
+                                number => {
+                                    assert_eq!(number, 5);
+                                    refused += 1;
+                                }
+                            }
+                        }
+                    }
+                }
+            }
+        }
+    }
+    assert!(calls > 50_000 && refused > 20, "{calls} {refused}");
+}
+
+/// Each call with each mark that it takes, and with all of them.
+fn every_mark_taken(mesh: &Tables) -> usize {
+    let mut calls = 0;
+    for kind in Kind::ALL {
+        let markable = mesh.markable(kind);
+        let each = markable.iter().map(|&mark| vec![mark]);
+        for marks in each.chain([markable.clone()]) {
+            assert_eq!(mesh.clone().call_with_room(kind, &marks).number, 0);
+            calls += 1;
+        }
+    }
+    calls
+}
+
 /// "Smallest" word for word, with no use of the model's way to it: of all admissible meshes that
 /// have the base refined, the result is one, and every other contains it. The meshes to start from are
 /// a sample, each so many; those to compare with are all.
 #[test]
 fn smallest_of_all_meshes() {
     for (numbers, every) in [
-        ([3, 1, 3, 1, 1, 0], 40),
-        ([3, 1, 3, 1, 1, 2], 10),
-        ([3, 1, 3, 2, 1, 2], 10),
-        ([1, 3, 3, 1, 1, 2], 10),
-        ([1, 1, 4, 1, 1, 2], 200),
-        ([1, 1, 4, 1, 1, 3], 2000),
+        ([3, 1, 3, 1, 1, 0, 0, 0], 40),
+        ([3, 1, 3, 1, 1, 2, 0, 0], 10),
+        ([3, 1, 3, 2, 1, 2, 0, 0], 10),
+        ([1, 3, 3, 1, 1, 2, 0, 0], 10),
+        ([1, 1, 4, 1, 1, 2, 0, 0], 200),
+        ([1, 1, 4, 1, 1, 3, 0, 0], 2000),
+        ([3, 1, 3, 2, 1, 2, 2, 0], 10),
+        ([3, 1, 3, 3, 1, 2, 6, 0], 10),
+        ([1, 3, 3, 1, 4, 2, 0, 4], 10),
     ] {
         let plan = plan(numbers);
         let refinable: Vec<Cell> = plan.cells().filter(|c| c.level + 1 < plan.levels).collect();

@@ -1,8 +1,12 @@
 //! Reading and writing files: files worked by hand, every short file, every file near a good one,
-//! files damaged in several ways at once, the longest, and meshes of random runs, against the model.
+//! files damaged in several ways at once, the longest, and meshes of random runs, with corners and
+//! without, against the model.
 
 use differential::scenario;
-use differential::{plan, random_plan, random_refined, Kind, Random, Tables};
+use differential::{
+    all_corners, every_corners, has_corners, of_wrapper, plan, random_corners, random_plan,
+    random_refined, Kind, Random, Tables,
+};
 use model::file::{number, NO_PLAN};
 use model::{Cell, Plan};
 use std::collections::BTreeSet;
@@ -28,9 +32,12 @@ fn written(numbers: &[u32]) -> Vec<u8> {
     numbers.iter().flat_map(|&value| number(value)).collect()
 }
 
-/// The file that begins with the plan.
-fn file_of(plan: [u32; 6], rest: &[u32]) -> Vec<u8> {
-    written(&[&plan[..], rest].concat())
+/// The file of the plan, six numbers or eight, with the count and the cells. Corners that are both
+/// 0 are left out.
+fn file_of<const N: usize>(plan: [u32; N], cells: &[u32]) -> Vec<u8> {
+    let (first, corners) = plan.split_at(6);
+    let corners = if corners == [0, 0] { &[] } else { corners };
+    written(&[first, cells, corners].concat())
 }
 
 /// Tables of the plan's lengths, with bytes in them that no mesh has.
@@ -44,8 +51,11 @@ fn empty() -> Tables {
 }
 
 /// The mesh of the plan in which these cells are refined, if there is one.
-fn mesh(numbers: [u32; 6], refined: &[u32]) -> Tables {
-    let plan = plan(numbers);
+fn mesh<const N: usize>(numbers: [u32; N], refined: &[u32]) -> Tables {
+    mesh_of(plan(numbers), refined)
+}
+
+fn mesh_of(plan: Plan, refined: &[u32]) -> Tables {
     let refined = refined.iter().map(|&cell| plan.cell_at(cell as usize)).collect();
     Tables::with_refined(plan, &refined)
 }
@@ -155,10 +165,45 @@ const FILES: [(&str, [u32; 6], &[u32]); 16] = [
     ),
 ];
 
+/// The same with corners, whose numbers stand behind the last cell.
+const WITH_CORNERS: [(&str, [u32; 8], &[u32]); 18] = [
+    // Before column 1, before column 2, before both; with degree 1 they change nothing else.
+    ("03 01 03 01 01 00 00 02 00", [3, 1, 3, 1, 1, 0, 2, 0], &[]),
+    ("03 01 03 01 01 00 00 04 00", [3, 1, 3, 1, 1, 0, 4, 0], &[]),
+    ("03 01 03 01 01 00 00 06 00", [3, 1, 3, 1, 1, 0, 6, 0], &[]),
+    ("03 01 03 01 01 00 01 00 02 00", [3, 1, 3, 1, 1, 0, 2, 0], &[0]),
+    ("03 01 03 01 01 02 03 00 01 02 06 00", [3, 1, 3, 1, 1, 2, 6, 0], &[0, 1, 3]),
+    // Up alone, and both.
+    ("01 03 03 01 01 00 00 00 02", [1, 3, 3, 1, 1, 0, 0, 2], &[]),
+    ("02 02 02 02 03 02 00 02 02", [2, 2, 2, 2, 3, 2, 2, 2], &[]),
+    ("02 02 02 02 03 02 04 00 01 01 01 02 02", [2, 2, 2, 2, 3, 2, 2, 2], &[0, 1, 2, 3]),
+    // Degree 2 and class 2, where the cells would not do without the corner.
+    ("03 01 03 02 01 02 03 00 01 02 02 00", [3, 1, 3, 2, 1, 2, 2, 0], &[0, 1, 3]),
+    ("04 01 03 02 01 02 03 00 01 03 04 00", [4, 1, 3, 2, 1, 2, 4, 0], &[0, 1, 4]),
+    // Corners of one group, of two and of three.
+    ("07 01 02 02 01 00 00 40 00", [7, 1, 2, 2, 1, 0, 64, 0], &[]),
+    ("08 01 02 02 01 00 00 80 01 00", [8, 1, 2, 2, 1, 0, 128, 0], &[]),
+    ("0e 01 02 02 01 00 01 0d fe 7f 00", [14, 1, 2, 2, 1, 0, 16_382, 0], &[13]),
+    ("0f 01 02 02 01 00 00 80 80 01 00", [15, 1, 2, 2, 1, 0, 16_384, 0], &[]),
+    ("01 10 02 02 01 00 00 00 80 80 02", [1, 16, 2, 2, 1, 0, 0, 32_768], &[]),
+    ("10 10 01 04 04 08 00 fe ff 03 fe ff 03", [16, 16, 1, 4, 4, 8, 65_534, 65_534], &[]),
+    // A cell and a corner of the same number.
+    ("03 01 02 03 01 00 01 02 02 00", [3, 1, 2, 3, 1, 0, 2, 0], &[2]),
+    ("03 03 02 03 01 00 02 02 02 02 02", [3, 3, 2, 3, 1, 0, 2, 2], &[2, 4]),
+];
+
+/// All files worked by hand, with their plans and refined cells.
+fn files() -> impl Iterator<Item = (&'static str, Plan, &'static [u32])> {
+    let without = FILES.into_iter().map(|(digits, numbers, cells)| (digits, plan(numbers), cells));
+    let with =
+        WITH_CORNERS.into_iter().map(|(digits, numbers, cells)| (digits, plan(numbers), cells));
+    without.chain(with)
+}
+
 #[test]
 fn files_by_hand() {
-    for (digits, numbers, refined) in FILES {
-        let tables = mesh(numbers, refined);
+    for (digits, plan, refined) in files() {
+        let tables = mesh_of(plan, refined);
         assert_eq!(tables.check(), 0, "{digits}");
         assert_eq!(round_trip(&tables), bytes(digits));
         assert_eq!(tables.cells.iter().filter(|&&byte| byte == 2).count(), refined.len());
@@ -189,7 +234,7 @@ fn files_after_calls() {
 }
 
 /// Files and their refusals.
-const REFUSED: [(&str, u32); 72] = [
+const REFUSED: [(&str, u32); 107] = [
     // 12: nothing there, or cut off before a number of the plan, before the count, before the first
     // cell, before a difference.
     ("", 12),
@@ -250,6 +295,33 @@ const REFUSED: [(&str, u32); 72] = [
     ("10 10 05 01 01 00 02 00 81 00", 12),
     ("03 01 03 01 01 00 02 3f 00", 12),
     ("03 01 03 01 01 00 ff ff 7f 00 01 02", 12),
+    // 12: a number alone behind the last cell, of whatever form, or two that are both 0.
+    ("03 01 03 01 01 00 00 00", 12),
+    ("03 01 03 01 01 00 00 02", 12),
+    ("03 01 03 01 01 00 00 ff", 12),
+    ("03 01 03 01 01 00 02 00 01 80", 12),
+    ("03 01 03 01 01 00 00 80 01", 12),
+    ("03 01 03 01 01 02 02 00 03 00", 12),
+    ("03 01 03 01 01 00 00 00 00", 12),
+    ("03 01 03 01 01 00 02 00 01 00 00", 12),
+    ("03 01 03 01 01 00 00 00 00 02 00", 12),
+    // 12: either of the two cut off, not shortest, or of more than three groups.
+    ("03 01 03 01 01 00 00 02 80", 12),
+    ("03 01 03 01 01 00 00 02 80 80", 12),
+    ("03 01 03 01 01 00 00 82 00 00", 12),
+    ("03 01 03 01 01 00 00 82 80 00 00", 12),
+    ("03 01 03 01 01 00 00 02 80 00", 12),
+    ("03 01 03 01 01 00 00 00 82 00", 12),
+    ("03 01 03 01 01 00 00 80 80 80 01 00", 12),
+    ("03 01 03 01 01 00 00 02 80 80 80 00", 12),
+    ("03 01 03 01 01 00 01 00 02 ff ff ff 7f", 12),
+    // 12 also where 1, 2, 4 or 5 would follow.
+    ("00 01 03 01 01 00 00 02", 12),
+    ("10 10 05 01 01 00 00 00 00", 12),
+    ("03 01 03 01 01 00 01 03 00", 12),
+    ("03 01 03 01 01 02 02 00 3f 00 00", 12),
+    ("03 01 03 01 01 80 80 01 01 ff ff 7f 00 00", 12),
+    ("01 02 08 01 01 00 01 ff ff 7f 00", 12),
     // 1: a number of the plan out of range, however large it is, and whatever else.
     ("00 01 03 01 01 00 00", 1),
     ("11 01 03 01 01 00 00", 1),
@@ -257,47 +329,87 @@ const REFUSED: [(&str, u32); 72] = [
     ("03 01 03 01 01 09 00", 1),
     ("ff ff 7f 01 03 01 01 00 00", 1),
     ("03 01 83 01 01 01 00 00", 1),
-    ("03 01 03 01 01 80 80 01 01 ff ff 7f 00 00", 1),
+    ("03 01 03 01 01 80 80 01 01 ff ff 7f 02 00", 1),
     ("00 00 00 00 00 00 00", 1),
+    // 1: a bit outside 1 to A-1 or 1 to B-1, whatever cells are listed and whatever follows.
+    ("03 01 03 01 01 00 00 01 00", 1),
+    ("03 01 03 01 01 00 00 08 00", 1),
+    ("03 01 03 01 01 00 00 03 00", 1),
+    ("03 01 03 01 01 00 00 02 01", 1),
+    ("03 01 03 01 01 00 00 00 02", 1),
+    ("01 01 03 01 01 00 00 02 00", 1),
+    ("10 01 02 01 01 00 00 80 80 04 00", 1),
+    ("03 01 03 01 01 02 02 00 03 08 00", 1),
+    ("03 01 03 01 01 00 01 3f 01 00 07 80", 1),
+    ("10 10 05 01 01 00 00 01 00", 1),
+    ("03 01 03 01 01 00 00 ff ff 7f ff ff 7f", 1),
     // 2: too many cells.
     ("10 10 05 01 01 00 00", 2),
-    ("01 02 08 01 01 00 01 ff ff 7f 00", 2),
+    ("10 10 05 01 01 00 00 02 04", 2),
+    ("01 02 08 01 01 00 01 ff ff 7f", 2),
+    ("01 02 08 01 01 00 01 ff ff 7f 00 02 00", 2),
     // 4: a listed cell of T or more, of the last level, or without its parent; a later cell too.
     ("03 01 03 01 01 00 01 3f", 4),
     ("03 01 03 01 01 00 01 ff ff 7f", 4),
     ("03 01 03 01 01 00 01 0f", 4),
     ("03 01 03 01 01 00 02 00 0f", 4),
-    ("03 01 03 01 01 00 01 03 00", 4),
-    ("03 01 03 01 01 02 02 00 3f 00 00", 4),
-    // 5: the scope document's example, with bytes behind it too.
+    ("03 01 03 01 01 00 01 03", 4),
+    ("03 01 03 01 01 02 02 00 3f", 4),
+    // 5: the scope document's example.
     ("03 01 03 01 01 02 02 00 03", 5),
-    ("03 01 03 01 01 02 02 00 03 00", 5),
-    // 13: bytes behind the last number, of whatever form.
-    ("03 01 03 01 01 00 00 00", 13),
-    ("03 01 03 01 01 00 02 00 01 80", 13),
+    // The same with degree 2, where cell 2 is missing without the corner.
+    ("03 01 03 02 01 02 03 00 01 02", 5),
 ];
+
+/// The same where the plan is answered with its corners.
+const REFUSED_WITH_CORNERS: [(&str, u32, [u32; 8]); 11] = [
+    // 4, with bytes behind the corners too.
+    ("03 01 03 01 01 00 01 3f 02 00", 4, [3, 1, 3, 1, 1, 0, 2, 0]),
+    ("03 01 03 02 01 00 01 03 04 00", 4, [3, 1, 3, 2, 1, 0, 4, 0]),
+    ("03 01 03 02 01 00 02 00 0f 06 00 00", 4, [3, 1, 3, 2, 1, 0, 6, 0]),
+    // 5: cell 1 is missing; and cell 2 is where the corner stands one line further on.
+    ("03 01 03 02 01 02 02 00 03 02 00", 5, [3, 1, 3, 2, 1, 2, 2, 0]),
+    ("04 01 03 02 01 02 03 00 01 03 08 00", 5, [4, 1, 3, 2, 1, 2, 8, 0]),
+    ("01 03 03 01 02 02 02 00 03 00 02 ff", 5, [1, 3, 3, 1, 2, 2, 0, 2]),
+    // 13: bytes behind both corner numbers, of whatever form.
+    ("03 01 03 01 01 00 00 02 00 00", 13, [3, 1, 3, 1, 1, 0, 2, 0]),
+    ("03 01 03 01 01 00 00 02 00 80", 13, [3, 1, 3, 1, 1, 0, 2, 0]),
+    ("03 01 03 02 01 02 03 00 01 02 02 00 ff ff ff ff", 13, [3, 1, 3, 2, 1, 2, 2, 0]),
+    ("02 02 02 02 03 02 00 02 02 02", 13, [2, 2, 2, 2, 3, 2, 2, 2]),
+    ("02 02 02 02 03 02 00 02 02 02 02", 13, [2, 2, 2, 2, 3, 2, 2, 2]),
+];
+
+/// All files that are refused, with their plans: `None` where there is none.
+fn refused_files() -> impl Iterator<Item = (&'static str, u32, Option<Plan>)> {
+    let plan_of = |digits: &str, number: u32| {
+        let first: Vec<u32> = bytes(digits).iter().take(6).map(|&byte| byte.into()).collect();
+        (![12, 1, 2].contains(&number)).then(|| plan::<6>(first.try_into().expect("six numbers")))
+    };
+    let without =
+        REFUSED.into_iter().map(move |(digits, number)| (digits, number, plan_of(digits, number)));
+    let with = REFUSED_WITH_CORNERS.into_iter();
+    without.chain(with.map(|(digits, number, numbers)| (digits, number, Some(plan(numbers)))))
+}
 
 #[test]
 fn refusals_by_hand() {
-    for (digits, number) in REFUSED {
+    for (digits, number, plan) in refused_files() {
         let file = bytes(digits);
         let (answered, tables) = read(&file);
         assert_eq!(answered, number, "{digits}");
-        if [12, 1, 2].contains(&number) {
+        assert_eq!(tables.plan, plan.unwrap_or(NO_PLAN), "{digits}");
+        if plan.is_none() {
             assert_eq!(tables, empty());
             // Also where there is room for every mesh.
             let (cells, functions) = (vec![7; MAX_CELLS], vec![7; MAX_FUNCTIONS]);
             let mut tables = Tables { plan: NO_PLAN, cells, functions };
             assert_eq!(tables.read(&file), number);
             assert_eq!(tables.plan, NO_PLAN);
-        } else {
-            let first: Vec<u32> = file[..6].iter().map(|&byte| byte.into()).collect();
-            assert_eq!(tables.plan, plan(first.try_into().expect("six numbers")), "{digits}");
         }
     }
     for number in OF_READING {
         // 3 is what lent tables get, below.
-        let there = REFUSED.iter().any(|&(_, refusal)| refusal as usize == number);
+        let there = refused_files().any(|(_, refusal, _)| refusal as usize == number);
         assert_eq!(there, number != 0 && number != 3);
     }
 }
@@ -310,7 +422,12 @@ fn refusals_of_writing_by_hand() {
         assert_eq!(tables.write(&[]), Err(number));
         assert_eq!(tables.write(&[5; 7]), Err(number));
     };
-    for numbers in [[0, 1, 3, 1, 1, 0], [3, 1, 3, 1, 1, 1]] {
+    for numbers in [
+        [0, 1, 3, 1, 1, 0, 0, 0],
+        [3, 1, 3, 1, 1, 1, 0, 0],
+        [3, 1, 3, 1, 1, 0, 1, 0],
+        [3, 1, 3, 1, 1, 0, 0, 2],
+    ] {
         refused(Tables { plan: plan(numbers), ..mesh(W0, &[]) }, 1);
     }
     refused(Tables { plan: plan([16, 16, 5, 1, 1, 0]), ..mesh(W0, &[]) }, 2);
@@ -324,6 +441,15 @@ fn refusals_of_writing_by_hand() {
     refused(tables, 6);
     refused(mesh(W0, &[0]), 10);
     assert_eq!(mesh(W0, &[0]).write(&[5; 8]), Ok(bytes("03 01 03 01 01 00 01 00")));
+    // The corners are behind the last cell and count.
+    let cornered = [3, 1, 3, 1, 1, 0, 2, 0];
+    refused(mesh(cornered, &[0]), 10);
+    assert_eq!(mesh(cornered, &[0]).write(&[5; 9]), Err(10));
+    let file = bytes("03 01 03 01 01 00 01 00 02 00");
+    assert_eq!(mesh(cornered, &[0]).write(&[5; 10]), Ok(file));
+    let mut tables = mesh([3, 1, 3, 2, 1, 0, 2, 0], &[0]);
+    tables.plan.corners_across = 4;
+    refused(tables, 6);
 }
 
 // ---- Everything short, and everything near ----
@@ -366,18 +492,26 @@ fn every_short_file() {
     for length in 0..=8 {
         each_string(&[0x00, 0x01, 0x02, 0x80], length, &mut |file| seen.read(file));
     }
+    seen.expect(&[0, 1, 4, 12]);
+    // As long as corners and a byte behind them make it.
+    let mut seen = Seen::default();
+    for length in 9..=10 {
+        each_string(&[0x00, 0x01, 0x02], length, &mut |file| seen.read(file));
+    }
     seen.expect(&[0, 1, 4, 12, 13]);
 }
 
-/// Behind a good plan, everything that a few bytes make: counts, cells, and what follows.
+/// Behind a good plan, everything that a few bytes make: counts, cells, corners, and what follows.
+/// Of one cell there are no corners, and so no bytes behind them.
 #[test]
 fn every_ending() {
     let letters = [0x00, 0x01, 0x02, 0x03, 0x04, 0x05, 0x14, 0x7f, 0x80, 0x81, 0x84, 0xff];
     for (numbers, most, refusals) in [
-        ([1, 1, 2, 1, 1, 0], 5, &[0, 4, 12, 13][..]),
-        ([1, 1, 3, 1, 1, 0], 5, &[0, 4, 12, 13][..]),
-        ([2, 1, 3, 1, 1, 2], 5, &[0, 4, 5, 12, 13][..]),
-        ([1, 1, 1, 4, 3, 8], 4, &[0, 4, 12, 13][..]),
+        ([1, 1, 2, 1, 1, 0], 5, &[0, 1, 4, 12][..]),
+        ([1, 1, 3, 1, 1, 0], 5, &[0, 1, 4, 12][..]),
+        ([2, 1, 3, 1, 1, 2], 5, &[0, 1, 4, 5, 12, 13][..]),
+        ([2, 3, 2, 2, 2, 2], 5, &[0, 1, 4, 12, 13][..]),
+        ([1, 1, 1, 4, 3, 8], 4, &[0, 1, 4, 12][..]),
     ] {
         let mut seen = Seen::default();
         let head = file_of(numbers, &[]);
@@ -391,7 +525,13 @@ fn every_ending() {
 /// All lists of cells of a small plan, in rising order, whether they make a mesh or not.
 #[test]
 fn every_set_of_cells() {
-    for numbers in [[1, 1, 2, 1, 1, 0], [2, 1, 2, 2, 1, 2], [3, 1, 2, 1, 1, 2]] {
+    for numbers in [
+        [1, 1, 2, 1, 1, 0, 0, 0],
+        [2, 1, 2, 2, 1, 2, 0, 0],
+        [3, 1, 2, 1, 1, 2, 0, 0],
+        [2, 1, 2, 2, 1, 2, 2, 0],
+        [1, 2, 2, 3, 4, 0, 0, 2],
+    ] {
         let total = plan(numbers).cell_total() as u32;
         let mut accepted = 0;
         // One more than there are.
@@ -413,17 +553,41 @@ fn every_set_of_cells() {
 /// Each number of a good file in turn is every number of one and two groups, and many of three.
 #[test]
 fn every_number_changed() {
-    let good = [2, 1, 2, 1, 2, 2, 1, 1];
-    let mut seen = Seen::default();
-    for place in 0..good.len() {
-        for value in (0..1 << 14).chain((1 << 14..=MOST).step_by(1013)).chain([MOST]) {
-            let mut numbers = good;
-            numbers[place] = value;
-            seen.read(&written(&numbers));
+    // The second with corners 4 and 2. A mesh of class 2 and two levels is always admissible.
+    for (good, answered) in [
+        (&[2, 1, 2, 1, 2, 2, 1, 1][..], &[0, 1, 2, 4, 12][..]),
+        // A count that is less leaves bytes behind what is then taken for the corners.
+        (&[3, 3, 2, 2, 2, 2, 2, 2, 2, 4, 2][..], &[0, 1, 2, 4, 12, 13][..]),
+    ] {
+        let mut seen = Seen::default();
+        for place in 0..good.len() {
+            for value in (0..1 << 14).chain((1 << 14..=MOST).step_by(1013)).chain([MOST]) {
+                let mut numbers = good.to_vec();
+                numbers[place] = value;
+                seen.read(&written(&numbers));
+            }
+        }
+        seen.expect(answered);
+    }
+}
+
+/// Every bit that a number on file can have, alone and beside good ones, for plans of every width,
+/// across and up: 0 for those of lines between cells, 1 for others.
+#[test]
+fn every_bit_of_the_corners() {
+    for n in 1..=16u32 {
+        for good in [0, all_corners(n), all_corners(n) & 0x5555] {
+            for bit in 0..21u32 {
+                let corners = good | 1 << bit;
+                let expected = u32::from(!(1..n).contains(&bit));
+                let across = [n, 1, 1, 3, 2, 0, corners, 0];
+                assert_eq!(read(&file_of(across, &[0])).0, expected, "{n} {corners:b}");
+                let up = [1, n, 2, 2, 3, 2, 0, corners];
+                assert_eq!(read(&file_of(up, &[0])).0, expected, "{n} {corners:b}");
+                assert_eq!(read(&file_of(up, &[1, 0])).0, expected, "{n} {corners:b}");
+            }
         }
     }
-    // A count that is less leaves bytes; a mesh of class 2 and two levels is always admissible.
-    seen.expect(&[0, 1, 2, 4, 12, 13]);
 }
 
 /// Plans in range and just out of it, all of them of few cells and some of too many.
@@ -456,8 +620,15 @@ fn every_plan() {
 fn some_meshes() -> Vec<Tables> {
     let mut meshes: Vec<Tables> =
         [1, 3, 4, 6, 9, 12, 14].map(|i| mesh(FILES[i].1, FILES[i].2)).to_vec();
+    meshes.extend([4, 8, 9, 12].map(|i| mesh(WITH_CORNERS[i].1, WITH_CORNERS[i].2)));
     let mut random = Random::new(700);
-    for numbers in [[3, 2, 3, 2, 1, 2], [1, 1, 4, 1, 3, 3], [16, 10, 2, 1, 1, 0]] {
+    for numbers in [
+        [3, 2, 3, 2, 1, 2, 0, 0],
+        [1, 1, 4, 1, 3, 3, 0, 0],
+        [16, 10, 2, 1, 1, 0, 0, 0],
+        [3, 2, 3, 2, 3, 2, 4, 2],
+        [16, 3, 2, 2, 2, 0, 0x8102, 6],
+    ] {
         let plan = plan(numbers);
         let seeds = (0..6).map(|_| plan.cell_at(random.below(plan.cell_total() / 5))).collect();
         meshes.push(Tables::with_refined(plan, &model::smallest(plan, seeds)));
@@ -471,13 +642,20 @@ fn every_damage_to_a_byte() {
     let mut seen = Seen::default();
     for mesh in some_meshes() {
         let file = round_trip(&mesh);
+        let corners = written(&[mesh.plan.corners_across, mesh.plan.corners_up]);
+        let smooth = corners == [0, 0];
         for place in 0..file.len() {
             for byte in (0..=255).filter(|&byte| byte != file[place]) {
                 let mut damaged = file.clone();
                 damaged[place] = byte;
                 seen.read(&damaged);
             }
-            assert_eq!(read(&file[..place]).0, 12);
+            // Cut just before the corners it is the file of another plan.
+            if !smooth && place == file.len() - corners.len() {
+                seen.read(&file[..place]);
+            } else {
+                assert_eq!(read(&file[..place]).0, 12);
+            }
             let mut damaged = file.clone();
             damaged.remove(place);
             seen.read(&damaged);
@@ -487,11 +665,15 @@ fn every_damage_to_a_byte() {
                 seen.read(&damaged);
             }
         }
+        // One number behind the last cell stands alone; behind the corners there may be none.
+        let number = if smooth { 12 } else { 13 };
         for byte in 0..=255 {
-            assert_eq!(read(&[&file[..], &[byte]].concat()).0, 13);
-            assert_eq!(read(&[&file[..], &[0x80, byte]].concat()).0, 13);
+            assert_eq!(read(&[&file[..], &[byte]].concat()).0, number);
+            assert_eq!(read(&[&file[..], &[0x80, byte]].concat()).0, number);
         }
-        assert_eq!(read(&[&file[..], &file[..]].concat()).0, 13);
+        let twice = [&file[..], &file[..]].concat();
+        assert!(smooth || read(&twice).0 == 13);
+        seen.read(&twice);
     }
     seen.expect(&[0, 1, 2, 4, 5, 12, 13]);
 }
@@ -502,22 +684,31 @@ fn every_damage_to_a_byte() {
 /// every kind.
 #[test]
 fn every_length_of_tables() {
-    for (digits, expected) in [
-        ("03 01 03 01 01 02 03 00 01 02", 0),
-        ("03 01 03 01 01 02 02 00 3f", 4),
-        ("03 01 03 01 01 02 02 00 03", 5),
-        ("03 01 03 01 01 02 00 00", 13),
-        ("03 01 03 01 01 02 03 00 01", 12),
-        ("03 01 03 01 01 01 00", 1),
-        ("10 10 05 01 01 00 00", 2),
+    // With degree 2 across and a corner there are 114 functions, without the corner 104.
+    for (digits, expected, total) in [
+        ("03 01 03 01 01 02 03 00 01 02", 0, 94),
+        ("03 01 03 01 01 02 03 00 01 02 02 00", 0, 94),
+        ("03 01 03 02 01 02 00", 0, 104),
+        ("03 01 03 02 01 02 03 00 01 02 02 00", 0, 114),
+        ("03 01 03 01 01 02 02 00 3f", 4, 94),
+        ("03 01 03 01 01 02 02 00 03", 5, 94),
+        ("03 01 03 02 01 02 02 00 03 02 00", 5, 114),
+        ("03 01 03 01 01 02 00 04 00 00", 13, 94),
+        ("03 01 03 02 01 02 00 04 00 00", 13, 114),
+        ("03 01 03 01 01 02 03 00 01", 12, 94),
+        ("03 01 03 01 01 02 00 00", 12, 94),
+        ("03 01 03 02 01 02 00 00 00", 12, 104),
+        ("03 01 03 01 01 01 00", 1, 94),
+        ("03 01 03 01 01 00 00 01 00", 1, 94),
+        ("10 10 05 01 01 00 00", 2, 94),
     ] {
-        for t in [0, 1, 62, 63, 64, 94, 21_845] {
-            for f in [0, 1, 63, 93, 94, 95, 26_220] {
-                let poison: Vec<u8> = (0..=255).cycle().take(26_220).collect();
+        for t in [0, 1, 62, 63, 64, 94, MAX_CELLS] {
+            for f in [0, 1, 63, 93, 94, 95, 103, 104, 113, 114, 115, MAX_FUNCTIONS] {
+                let poison: Vec<u8> = (0..=255).cycle().take(MAX_FUNCTIONS).collect();
                 let (cells, functions) = (poison[..t].to_vec(), poison[..f].to_vec());
                 let mut tables = Tables { plan: NO_PLAN, cells, functions };
                 let number = tables.read(&bytes(digits));
-                let of_tables = [0, 4, 5, 13].contains(&expected) && (t, f) != (63, 94);
+                let of_tables = [0, 4, 5, 13].contains(&expected) && (t, f) != (63, total);
                 assert_eq!(number, if of_tables { 3 } else { expected }, "{digits} {t} {f}");
             }
         }
@@ -564,11 +755,16 @@ fn null_pointers_of_length_0() {
 // ---- Large ones ----
 
 /// The longest file is reached, and no plan passes it: with all cells refined that can be, each
-/// costs one byte, and a difference of two groups leaves out more cells than it costs.
+/// costs one byte, and a difference of two groups leaves out more cells than it costs. Corners cost
+/// a byte each at least, which a plan of one cell on level 0 cannot have.
 #[test]
 fn the_longest_file() {
     let refinable = |plan: Plan| {
         plan.cell_total() - plan.columns as usize * plan.rows as usize * 4usize.pow(plan.levels - 1)
+    };
+    let corners = |plan: Plan| match (all_corners(plan.columns), all_corners(plan.rows)) {
+        (0, 0) => 0,
+        (across, up) => number(across).len() + number(up).len(),
     };
     let mut longest = 0;
     for columns in 1..=16 {
@@ -577,31 +773,40 @@ fn the_longest_file() {
                 let plan = plan([columns, rows, levels, 1, 1, 0]);
                 if plan.cell_total() <= MAX_CELLS {
                     let count = refinable(plan);
-                    longest = longest.max(6 + number(count as u32).len() + count);
+                    longest = longest.max(6 + number(count as u32).len() + count + corners(plan));
                 }
             }
         }
     }
     assert_eq!(longest, MAX_FILE_BYTES);
 
-    for numbers in [[1, 1, 8, 1, 1, 0], [1, 1, 8, 4, 4, 2]] {
+    for (numbers, count) in [
+        ([1, 1, 8, 1, 1, 0, 0, 0], 5461),
+        ([1, 1, 8, 4, 4, 2, 0, 0], 5461),
+        ([4, 1, 7, 4, 3, 2, 10, 0], 5460),
+        ([1, 4, 7, 1, 2, 0, 0, 14], 5460),
+        ([2, 2, 7, 2, 2, 2, 2, 2], 5460),
+    ] {
         let plan = plan(numbers);
         let refined = plan.cells().filter(|cell| cell.level + 1 < plan.levels).collect();
         let tables = Tables::with_refined(plan, &refined);
         let file = round_trip(&tables);
-        assert_eq!(file.len(), MAX_FILE_BYTES);
-        assert_eq!(file[..9], [&file_of(numbers, &[5461])[..], &[0]].concat());
-        assert!(file[9..].iter().all(|&byte| byte == 1));
+        let smooth = plan.corners_across | plan.corners_up == 0;
+        assert_eq!(file.len(), if smooth { MAX_FILE_BYTES - 1 } else { MAX_FILE_BYTES });
+        let (head, rest) = file.split_at(9);
+        assert_eq!(head, written(&[&numbers[..6], &[count, 0]].concat()));
+        let (cells, corners) = rest.split_at(count as usize - 1);
+        assert!(cells.iter().all(|&byte| byte == 1));
+        assert_eq!(corners, if smooth { vec![] } else { written(&numbers[6..]) });
         assert_eq!(tables.write(&file[1..]), Err(10));
 
-        assert_eq!(read(&file[..MAX_FILE_BYTES - 1]).0, 12);
-        assert_eq!(read(&[&file[..], &[0]].concat()).0, 13);
+        assert_eq!(read(&file[..file.len() - 1]).0, 12);
+        assert_eq!(read(&[&file[..], &[0]].concat()).0, if smooth { 12 } else { 13 });
         // One cell more, of the last level.
-        let mut more = [&file_of(numbers, &[5462])[..], &file[8..]].concat();
-        assert_eq!(read(&more).0, 12);
-        more.push(1);
-        assert_eq!(read(&more).0, 4);
-        for place in [9, 10, 100, 5000, MAX_FILE_BYTES - 1] {
+        let more = written(&[&numbers[..6], &[count + 1, 0]].concat());
+        assert_eq!(read(&[&more, cells].concat()).0, 12);
+        assert_eq!(read(&[&more, cells, &[1], corners].concat()).0, 4);
+        for place in [9, 10, 100, 5000, 8 + cells.len()] {
             for (byte, number) in [(0, 12), (0x81, 12), (2, 4), (0x7f, 4)] {
                 let mut damaged = file.clone();
                 damaged[place] = byte;
@@ -613,7 +818,7 @@ fn the_longest_file() {
 
 #[test]
 fn the_largest_meshes() {
-    for scenario in scenario::all() {
+    for scenario in scenario::all().into_iter().chain(scenario::with_corners()) {
         for tables in [&scenario.to_refine, &scenario.to_coarsen] {
             let file = round_trip(tables);
             assert_eq!(read(&file[..file.len() - 1]).0, 12);
@@ -628,10 +833,12 @@ fn sums_of_differences() {
     for many in [1, 2, 100, 2047, 2048, 2049, 5000, 10_000] {
         assert_eq!(w0(many as u32, &vec![MOST; many]), 4, "{many}");
         assert_eq!(w0(many as u32, &vec![1 << 20; many]), 4, "{many}");
-        // One that is missing, one that is 0, one too many.
+        // One that is missing, one that is 0, one too many, and two, which are then the corners.
         assert_eq!(w0(many as u32 + 1, &vec![MOST; many]), 12);
         assert_eq!(w0(many as u32 + 1, &[vec![MOST; many], vec![0]].concat()), 12);
-        assert_eq!(w0(many as u32, &vec![MOST; many + 1]), 4);
+        assert_eq!(w0(many as u32, &vec![MOST; many + 1]), 12);
+        assert_eq!(w0(many as u32, &vec![MOST; many + 2]), 1);
+        assert_eq!(w0(many as u32, &[vec![MOST; many], vec![2, 0]].concat()), 4);
     }
     // 2048 times 2^21 - 1 are 2048 less than 2^32.
     for beyond in [0, 1, 2, 3, 62] {
@@ -655,20 +862,29 @@ fn the_largest_counts() {
     let file = |count: u32, cells: usize| {
         [file_of(W0, &[count, 0]), vec![1; cells.saturating_sub(1)]].concat()
     };
+    // One number too many stands alone; two are corners, and 1 is none of this plan.
     for (count, cells, number) in [
         (MOST, 1, 12),
         (MOST, MOST as usize - 1, 12),
         (MOST, MOST as usize, 4),
-        (MOST - 1, MOST as usize, 4),
+        (MOST - 1, MOST as usize, 12),
+        (MOST - 2, MOST as usize, 1),
         (16_384, 16_383, 12),
         (16_384, 16_384, 4),
         (64, 64, 4),
         (63, 63, 4),
         (16, 16, 4),
         (15, 15, 0),
-        (15, 1 << 20, 13),
+        (15, 16, 12),
+        (15, 1 << 20, 1),
     ] {
         assert_eq!(read(&file(count, cells)).0, number, "{count} {cells}");
+    }
+    for (count, number) in [(15, 0), (MOST, 4), (16, 4)] {
+        let cornered = [file(count, count as usize), vec![2, 0]].concat();
+        assert_eq!(read(&cornered).0, number);
+        let longer = [cornered, vec![0xff; 1 << 20]].concat();
+        assert_eq!(read(&longer).0, if number == 0 { 13 } else { number });
     }
 }
 
@@ -703,18 +919,19 @@ fn random_bytes() {
 #[test]
 fn damaged_in_several_ways() {
     let mut random = Random::new(702);
-    let mut seen = Seen::default();
+    let (mut seen, mut cornered) = (Seen::default(), 0);
     for _ in 0..12_000 {
         let degrees = (random.below(4) as u32 + 1, random.below(4) as u32 + 1);
         let class = random.pick(&[0, 2, 2, 3]);
         let plan = random_plan(&mut random, degrees, class, 110);
+        cornered += u32::from(has_corners(plan));
         let refined = random_refined(&mut random, plan);
         let mut numbers = numbers_of(&Tables::with_refined(plan, &refined));
         let (mut t, mut f) = (plan.cell_total(), plan.function_total());
         let damages = random.below(4);
         for _ in 0..damages {
             let place = random.below(numbers.len());
-            match random.below(10) {
+            match random.below(12) {
                 0 => numbers[random.below(6)] = random.pick(&[0, 1, 2, 5, 9, 17, 128, MOST]),
                 1 => numbers[2] = random.pick(&[6, 7, 8]),
                 2 => numbers[5] = random.pick(&[0, 2, 3]),
@@ -729,8 +946,17 @@ fn damaged_in_several_ways() {
                     numbers[6] = numbers[6].saturating_sub(1);
                 }
                 6 => numbers.push(random.pick(&[0, 1, 7])),
-                7 => t = random.pick(&[0, t.saturating_sub(1), t + 1, f]),
-                8 => f = random.pick(&[0, f.saturating_sub(1), f + 1, t]),
+                7 => {
+                    // Corners, perhaps behind others, and good ones more often than not.
+                    let corners = [plan.columns, plan.rows].map(|n| random_corners(&mut random, n));
+                    numbers.extend(corners);
+                    if random.once_in(6) {
+                        *numbers.last_mut().expect("a number") |= random.pick(&[1, 1 << 16]);
+                    }
+                }
+                8 if place > 6 => drop(numbers.pop()),
+                9 => t = random.pick(&[0, t.saturating_sub(1), t + 1, f]),
+                10 => f = random.pick(&[0, f.saturating_sub(1), f + 1, t]),
                 _ => {}
             }
         }
@@ -753,6 +979,7 @@ fn damaged_in_several_ways() {
         seen.read(&file);
     }
     seen.expect(&OF_READING);
+    assert!(cornered > 2000, "{cornered}");
 }
 
 /// The numbers of the mesh's file.
@@ -818,11 +1045,6 @@ fn owned(tables: &Tables) -> Mesh {
     Mesh { plan: of_wrapper(plan), cells, functions }
 }
 
-fn of_wrapper(plan: Plan) -> wallmirror::Plan {
-    let Plan { columns, rows, levels, degree_across, degree_up, class } = plan;
-    wallmirror::Plan { columns, rows, levels, degree_across, degree_up, class }
-}
-
 fn owned_round_trip(tables: &Tables) {
     let mesh = owned(tables);
     let file = mesh.to_file().expect("a mesh");
@@ -833,12 +1055,12 @@ fn owned_round_trip(tables: &Tables) {
 /// The wrapper says what the calls say.
 #[test]
 fn forms_of_the_wrapper() {
-    for (digits, numbers, refined) in FILES {
-        let tables = mesh(numbers, refined);
+    for (digits, plan, refined) in files() {
+        let tables = mesh_of(plan, refined);
         assert_eq!(Mesh::from_file(&bytes(digits)), Ok(owned(&tables)));
         owned_round_trip(&tables);
     }
-    for (digits, number) in REFUSED {
+    for (digits, number, _) in refused_files() {
         let file = bytes(digits);
         let refusal = Refusal::from_number(number).expect("a refusal");
         assert_eq!(Mesh::from_file(&file), Err(refusal), "{digits}");
@@ -863,11 +1085,15 @@ fn forms_of_the_wrapper() {
     assert_eq!(tables.to_file(), Err(Refusal::TableLength));
 }
 
-/// One mesh has one file, and another mesh another: all meshes of a small plan.
+/// One mesh has one file, and another mesh another: all meshes of a small plan, and some of its
+/// other corners.
 #[test]
 fn every_mesh_has_its_file() {
     for numbers in [[2, 1, 3, 1, 1, 0], [1, 3, 3, 1, 2, 2], [4, 2, 2, 4, 3, 2]] {
         let plan = plan(numbers);
+        let corners: Vec<(u32, u32)> = every_corners(plan.rows)
+            .flat_map(|up| every_corners(plan.columns).map(move |across| (across, up)))
+            .collect();
         let mut all: Vec<BTreeSet<Cell>> = vec![BTreeSet::new()];
         for cell in plan.cells().filter(|cell| cell.level + 1 < plan.levels) {
             let present = |mesh: &&BTreeSet<Cell>| {
@@ -881,12 +1107,16 @@ fn every_mesh_has_its_file() {
             all.extend(refined);
         }
         let mut files = BTreeSet::new();
-        for refined in all {
-            let tables = Tables::with_refined(plan, &refined);
-            if model::is_admissible(plan, &tables.cells) {
-                assert!(files.insert(round_trip(&tables)));
-            } else {
-                assert_eq!(tables.write(&[5; 99]), Err(5));
+        for (i, refined) in all.into_iter().enumerate() {
+            let others = if i % 7 == 0 { &corners[..] } else { &corners[..1] };
+            for &(corners_across, corners_up) in others {
+                let plan = Plan { corners_across, corners_up, ..plan };
+                let tables = Tables::with_refined(plan, &refined);
+                if model::is_admissible(plan, &tables.cells) {
+                    assert!(files.insert(round_trip(&tables)));
+                } else {
+                    assert_eq!(tables.write(&[5; 99]), Err(5));
+                }
             }
         }
         assert!(files.len() > 200, "{}", files.len());
@@ -906,14 +1136,17 @@ fn writing_refused() {
         let length = tables.file().len();
         for _ in 0..random.below(3) {
             let cell = random.below(tables.cells.len().max(1));
-            match random.below(8) {
+            match random.below(11) {
                 0 => tables.plan.columns = random.pick(&[0, 17, u32::MAX]),
                 1 => tables.plan.levels = random.pick(&[0, 8, 9, 1 << 31]),
                 2 => tables.plan.class = random.pick(&[0, 1, 2, 3]),
-                3 => drop(tables.cells.pop()),
-                4 => tables.functions.push(0),
-                5 if cell < tables.cells.len() => tables.cells[cell] = random.pick(&[0, 1, 2, 3]),
-                6 if tables.cells.len() == plan.cell_total() => {
+                3 => tables.plan.corners_across = random_corners(&mut random, plan.columns),
+                4 => tables.plan.corners_up = random_corners(&mut random, plan.rows),
+                5 => tables.plan.corners_up |= random.pick(&[1, 1 << 16, 1 << 31]),
+                6 => drop(tables.cells.pop()),
+                7 => tables.functions.push(0),
+                8 if cell < tables.cells.len() => tables.cells[cell] = random.pick(&[0, 1, 2, 3]),
+                9 if tables.cells.len() == plan.cell_total() => {
                     tables.functions = model::labels(plan, &tables.cells);
                 }
                 _ => tables.functions[0] = random.pick(&[0, 1, 2, 255]),

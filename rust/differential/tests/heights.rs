@@ -1,10 +1,14 @@
-//! The height of the surface at a point: rows worked by hand, flat surfaces, every point of small
-//! meshes, every refusal and their order, the limits of heights and points, and random meshes with
-//! heights of many kinds, against the model and in every bit.
+//! The height of the surface at a point: rows worked by hand, flat surfaces, kinks at corners,
+//! every point of small meshes, every refusal and their order, the limits of heights and points,
+//! and random meshes with heights of many kinds, against the model and in every bit.
 
 use differential::scenario;
-use differential::{plan, random_plan, random_refined, Kind, Random, Tables};
-use model::height::{b_spline, far_edges, knots, value, Fraction};
+use differential::{
+    all_corners, every_corners, has_corners, of_wrapper, plan, random_corners, random_plan,
+    random_refined, Kind, Random, Tables,
+};
+use model::height::{b_spline, far_edges, places, value, Fraction};
+use model::knots::{Direction, Knots};
 use model::{Cell, Plan, ACTIVE, DEACTIVATED, PASSIVE};
 use std::collections::{BTreeMap, BTreeSet};
 use std::fmt::Debug;
@@ -21,16 +25,19 @@ const OF_HEIGHT: [usize; 9] = [0, 1, 2, 3, 4, 5, 6, 14, 15];
 const DEGREES: [(u32, u32); 4] = [(1, 1), (2, 1), (1, 2), (2, 2)];
 
 /// The mesh of the plan in which these cells are refined.
-fn mesh(numbers: [u32; 6], refined: &[u32]) -> Tables {
-    let plan = plan(numbers);
+fn mesh<const N: usize>(numbers: [u32; N], refined: &[u32]) -> Tables {
+    mesh_of(plan(numbers), refined)
+}
+
+fn mesh_of(plan: Plan, refined: &[u32]) -> Tables {
     let refined = refined.iter().map(|&cell| plan.cell_at(cell as usize)).collect();
     let tables = Tables::with_refined(plan, &refined);
-    assert_eq!(tables.check(), 0, "{numbers:?}");
+    assert_eq!(tables.check(), 0, "{plan:?}");
     tables
 }
 
 /// A mesh with active functions of all levels: the first cell of each but the last is refined.
-fn towards_the_first_cell(numbers: [u32; 6]) -> Tables {
+fn towards_the_first_cell<const N: usize>(numbers: [u32; N]) -> Tables {
     let first = |level| plan(numbers).cell_number(Cell { level, row: 0, column: 0 }) as u32;
     mesh(numbers, &(0..numbers[2] - 1).map(first).collect::<Vec<_>>())
 }
@@ -79,8 +86,8 @@ impl Seen {
 
 /// A plan, its refined cells, functions and their heights where these are not 0, and points, across
 /// and up, with the height there.
-const WORKED: [[&str; 4]; 15] = [
-    // One cell, a function at each corner: a mean of the four heights.
+const WORKED: [[&str; 4]; 24] = [
+    // One cell, a function at each end of both directions: a mean of the four heights.
     [
         "1 1 1 1 1 0",
         "",
@@ -142,6 +149,46 @@ const WORKED: [[&str; 4]; 15] = [
         "1 1 0.00000001490116119384765625, 23 1 0.00000001490116119384765625, \
          12 12 0.0001373291015625, 24 12 0, 0 12 0, 64 64 -65536, 63 64 -50176",
     ],
+    // Three cells of degree 2 with a corner before column 1: knots 0 0 0 1 1 2 3 3 3. Function 2
+    // has 0 1 1 2, so it is x^2 before the corner and (2-x)^2 behind it.
+    [
+        "3 1 1 2 1 0 2 0",
+        "",
+        "2 128",
+        "0 0 0, 1 0 2, 4 0 32, 7 0 98, 8 0 128, 9 0 98, 12 0 32, 15 0 2, 16 0 0, 8 4 64, 8 8 0",
+    ],
+    // Function 1 has 0 0 1 1: 2x(1-x) over cell 0 alone. Function 0 is (1-x)^2 there.
+    ["3 1 1 2 1 0 2 0", "", "1 128", "0 0 0, 1 0 28, 4 0 64, 7 0 28, 8 0 0, 9 0 0, 16 0 0"],
+    ["3 1 1 2 1 0 2 0", "", "0 128", "0 0 128, 1 0 98, 4 0 32, 7 0 2, 8 0 0, 9 0 0"],
+    // Function 3 has 1 1 2 3, as function 1 without the corner has 0 0 1 2, one cell before it.
+    ["3 1 1 2 1 0 2 0", "", "3 128", "7 0 0, 8 0 0, 12 0 80, 16 0 64, 20 0 16, 24 0 0"],
+    // Corners before columns 1 and 2: between them the functions are those of a single cell.
+    [
+        "3 1 1 2 1 0 6 0",
+        "",
+        "2 64, 3 128, 4 -64",
+        "0 0 0, 4 0 16, 8 0 64, 12 0 64, 9 0 76, 16 0 -64, 15 0 -20, 20 0 -16, 24 0 0",
+    ],
+    // Up: a corner before row 2, over which the function of row 3 stands, number 6 of two to a row.
+    ["1 3 1 1 2 0 0 4", "", "6 64", "0 16 64, 0 12 16, 0 20 16, 0 15 49, 0 17 49, 4 16 32, 8 16 0"],
+    // With degree 1 a corner is nothing: function 1 has 0 1 2.
+    ["3 1 1 1 1 0 2 0", "", "1 64", "0 0 0, 4 0 32, 8 0 64, 12 0 32, 16 0 0"],
+    // Two levels, all refined, and the line is the same on level 1: knots 0 0 0 1 2 2 3 4 4 4, with
+    // function 13 over the corner. Those of level 0 are 0 to 9.
+    [
+        "2 1 2 2 1 0 2 0",
+        "0 1",
+        "2 1000, 13 64",
+        "8 0 0, 12 0 1, 14 0 2.25, 16 0 4, 18 0 2.25, 20 0 1, 24 0 0, 16 4 2, 16 8 0",
+    ],
+    // Cell 0 refined: the two functions of level 0 over it alone are deactivated. Function 2 of
+    // level 0 stands over the corner and is active, function 12 of level 1 before it.
+    [
+        "2 1 2 2 1 0 2 0",
+        "0",
+        "0 9, 1 9, 2 64, 12 64",
+        "0 0 0, 4 0 4.5, 8 0 18, 12 0 38.5, 16 0 64, 20 0 36, 24 0 16, 32 0 0",
+    ],
     // The greatest heights, of two levels: more than either alone.
     ["3 1 3 1 1 0", "0", "1 65536, 9 1048576", "16 0 98304, 32 0 65536, 31 0 67584"],
     [
@@ -161,7 +208,11 @@ fn groups<T: FromStr<Err: Debug>>(text: &str) -> Vec<Vec<T>> {
 /// The mesh and the heights of a worked row, and its points.
 fn worked([numbers, refined, some, points]: [&str; 4]) -> (Tables, Vec<i32>, Vec<(u32, u32, f64)>) {
     let numbers: Vec<u32> = groups(numbers).concat();
-    let tables = mesh(numbers.try_into().expect("six numbers"), &groups(refined).concat());
+    let plan = match numbers.first_chunk::<8>() {
+        Some(&eight) => plan(eight),
+        None => plan(*numbers.first_chunk::<6>().expect("six numbers")),
+    };
+    let tables = mesh_of(plan, &groups(refined).concat());
     let some: Vec<(usize, i32)> =
         groups::<i32>(some).iter().map(|pair| (pair[0] as usize, pair[1])).collect();
     let point = |group: &Vec<f64>| (group[0] as u32, group[1] as u32, group[2]);
@@ -196,6 +247,8 @@ fn the_labels_of_the_worked_meshes() {
 #[test]
 fn b_splines_of_the_model() {
     let over = |numerator, denominator| Fraction::new(numerator, denominator);
+    let knots =
+        |columns, degree| places(&Knots::of(Direction { columns, level: 0, degree, corners: 0 }));
     // Far from the ends, degree 2: 1/2 on a line, 3/4 in the middle; degree 3: 1/6 and 2/3.
     let far = knots(9, 2);
     assert_eq!([6, 7, 8, 9].map(|x| b_spline(&far, 5, 2, over(x, 2))), {
@@ -259,10 +312,12 @@ fn exact_doubles() {
 #[test]
 fn an_opened_mesh_is_flat() {
     let mut random = Random::new(800);
-    for (columns, rows) in [(1, 1), (2, 1), (1, 3), (3, 2)] {
+    for (columns, rows, across, up) in
+        [(1, 1, 0, 0), (2, 1, 0, 0), (1, 3, 0, 0), (3, 2, 0, 0), (2, 1, 2, 0), (3, 2, 4, 2)]
+    {
         for levels in 1..=4 {
             for (p, q) in DEGREES {
-                let tables = Tables::opened(plan([columns, rows, levels, p, q, 2]));
+                let tables = Tables::opened(plan([columns, rows, levels, p, q, 2, across, up]));
                 let step = if tables.cells.len() <= 30 { 1 } else { 5 };
                 for height in [0, 1, -7, 65_536, -65_536] {
                     let mut heights = random.numbers(tables.functions.len());
@@ -284,8 +339,8 @@ fn an_opened_mesh_is_flat() {
 #[test]
 fn a_wholly_refined_mesh_is_flat() {
     for levels in 2..=4 {
-        for (p, q) in DEGREES {
-            let plan = plan([2, 1, levels, p, q, 0]);
+        for ((p, q), corners) in DEGREES.into_iter().flat_map(|d| [(d, 0), (d, 2)]) {
+            let plan = plan([2, 1, levels, p, q, 0, corners, 0]);
             let refined = plan.cells().filter(|cell| cell.level + 1 < levels).collect();
             let tables = Tables::with_refined(plan, &refined);
             for height in [3, -most(levels - 1)] {
@@ -298,6 +353,32 @@ fn a_wholly_refined_mesh_is_flat() {
                 for (across, up) in points_in_steps(plan, 3) {
                     assert_eq!(tables.height(&heights, across, up), Ok(expected));
                 }
+            }
+        }
+    }
+}
+
+// ---- Kinks ----
+
+/// With degree 2 the surface is smooth across every line but those of corners, and has a kink there
+/// where the heights are any; it has no jump anywhere. Four columns, all corners, on a level of
+/// their own and beside other levels.
+#[test]
+fn kinks_at_corners_alone() {
+    let mut random = Random::new(808);
+    for corners in every_corners(4) {
+        for (levels, refined) in [(1, &[][..]), (2, &[1, 2]), (3, &[0, 1, 2, 3, 5, 6])] {
+            let tables = mesh([4, 1, levels, 2, 1, 0, corners, 0], refined);
+            let heights = random_heights(&mut random, &tables, Fill::Any);
+            let at = |across| tables.height(&heights, across, 3).expect("a height");
+            // Slopes of a parabola at both ends of a cell, from its values there and in the middle.
+            let before = |line: u32| at(line - 8) - 4.0 * at(line - 4) + 3.0 * at(line);
+            let behind = |line: u32| -3.0 * at(line) + 4.0 * at(line + 4) - at(line + 8);
+            let (far, apart) = (far_edges(tables.plan).0, 8 << (levels - 1));
+            for line in (8..far).step_by(8) {
+                let corner = line % apart == 0 && corners >> (line / apart) & 1 == 1;
+                let said = || format!("{corners:b} {levels} {line}");
+                assert_eq!(before(line) != behind(line), corner, "{}", said());
             }
         }
     }
@@ -357,7 +438,8 @@ fn points_in_steps(plan: Plan, step: u32) -> Vec<(u32, u32)> {
     places(far_up).flat_map(|up| places(far_across).map(move |across| (across, up))).collect()
 }
 
-/// The four corners, then points of edges, of grid lines, of the finest active cell, and others.
+/// The ends of both directions, then points of edges, of grid lines, of the finest active cell, on
+/// corners and next to them, and others.
 fn random_points(random: &mut Random, tables: &Tables, many: usize) -> Vec<(u32, u32)> {
     let plan = tables.plan;
     let (far_across, far_up) = far_edges(plan);
@@ -365,19 +447,25 @@ fn random_points(random: &mut Random, tables: &Tables, many: usize) -> Vec<(u32,
     let finest = plan.cell_at(finest);
     let mut points = vec![(0, 0), (far_across, 0), (0, far_up), (far_across, far_up)];
     while points.len() < many {
-        let kind = random.below(4);
-        let mut place = |far: u32, of_finest: u32| {
+        let kind = random.below(5);
+        let mut place = |far: u32, of_finest: u32, corners: u32| {
             // A cell of the finest level that has an active one, and one of any level.
             let (cell, line) = (8 << (plan.levels - 1 - finest.level), 8 << random.below(4));
             let place = match kind {
                 0 => random.pick(&[0, far, far - 1, far]),
                 1 => (random.below(far as usize + 1) as u32 + line / 2) / line * line,
                 2 => of_finest * cell + random.below(cell as usize + 1) as u32,
+                3 if corners != 0 => {
+                    let bits: Vec<u32> = (1..16).filter(|bit| corners >> bit & 1 == 1).collect();
+                    let corner = (8 << (plan.levels - 1)) * random.pick(&bits);
+                    random.pick(&[corner - 1, corner, corner, corner + 1])
+                }
                 _ => random.below(far as usize + 1) as u32,
             };
             place.min(far)
         };
-        points.push((place(far_across, finest.column), place(far_up, finest.row)));
+        let across = place(far_across, finest.column, plan.corners_across);
+        points.push((across, place(far_up, finest.row, plan.corners_up)));
     }
     points
 }
@@ -405,6 +493,18 @@ impl Kinds {
         let (far_across, far_up) = far_edges(plan);
         let (edge_across, edge_up) = (across == far_across, up == far_up);
         let (line_across, line_up) = (across % 8 == 0, up % 8 == 0);
+        // How far behind the point before a corner of degree 2, across and up.
+        let at_corner = |place: u32, degree: u32, corners: u32| {
+            let apart = 8 << (plan.levels - 1);
+            (0..3).find(|after| {
+                let line = (place + 1).saturating_sub(*after);
+                degree == 2 && line % apart == 0 && corners >> (line / apart) & 1 == 1
+            })
+        };
+        let corner = [
+            at_corner(across, plan.degree_across, plan.corners_across),
+            at_corner(up, plan.degree_up, plan.corners_up),
+        ];
         let (mut ignored, mut minus_zero, mut levels) = (false, false, BTreeSet::new());
         for ((function, &label), &height) in plan.functions().zip(&tables.functions).zip(heights) {
             if label != ACTIVE {
@@ -420,10 +520,14 @@ impl Kinds {
             ("below zero", height < 0.0),
             ("above zero", height > 0.0),
             ("beyond the limit of one function", height.abs() > 65_536.0),
-            ("at the far corner", edge_across && edge_up),
+            ("at both far edges", edge_across && edge_up),
             ("at one far edge", edge_across != edge_up),
             ("where lines cross", line_across && line_up && !edge_across && !edge_up),
             ("on no line", !line_across && !line_up),
+            ("just before a corner", corner.contains(&Some(0))),
+            ("on a corner", corner.contains(&Some(1))),
+            ("just behind a corner", corner.contains(&Some(2))),
+            ("where corners cross", corner == [Some(1), Some(1)]),
             ("with a height that is beyond its limit and ignored", ignored),
             ("with a function below zero whose value is zero", minus_zero),
             ("of no level", levels.is_empty()),
@@ -456,8 +560,9 @@ fn every_point_of_small_meshes() {
         for (columns, rows, levels) in
             [(1, 1, 1), (2, 1, 1), (3, 2, 1), (1, 1, 2), (2, 1, 2), (1, 3, 2), (1, 2, 3), (1, 1, 4)]
         {
-            for class in [0, 2] {
-                let plan = plan([columns, rows, levels, p, q, class]);
+            let (all_across, all_up) = (all_corners(columns), all_corners(rows));
+            for (class, across, up) in [(0, 0, 0), (2, 0, 0), (0, all_across, all_up)] {
+                let plan = plan([columns, rows, levels, p, q, class, across, up]);
                 let tables = Tables::with_refined(plan, &random_refined(&mut random, plan));
                 let fill = fills.next().expect("one after the other");
                 let heights = random_heights(&mut random, &tables, fill);
@@ -483,10 +588,13 @@ fn every_point_of_small_meshes() {
 fn every_function_alone() {
     for (p, q) in DEGREES {
         for (numbers, refined) in [
-            ([2, 1, 1, p, q, 0], vec![]),
-            ([2, 1, 2, p, q, 0], vec![0]),
-            ([2, 1, 2, p, q, 0], vec![1]),
-            ([2, 1, 2, p, q, 0], vec![0, 1]),
+            ([2, 1, 1, p, q, 0, 0, 0], vec![]),
+            ([2, 1, 2, p, q, 0, 0, 0], vec![0]),
+            ([2, 1, 2, p, q, 0, 0, 0], vec![1]),
+            ([2, 1, 2, p, q, 0, 0, 0], vec![0, 1]),
+            ([3, 2, 1, p, q, 0, 2, 2], vec![]),
+            ([2, 1, 2, p, q, 0, 2, 0], vec![0]),
+            ([1, 2, 2, p, q, 0, 0, 2], vec![0, 1]),
         ] {
             let tables = mesh(numbers, &refined);
             for (number, function) in tables.plan.functions().enumerate() {
@@ -524,6 +632,8 @@ fn refusals_in_order() {
         refused(&Tables { plan: Plan { columns: 0, ..fresh.plan }, ..fresh.clone() }, 1);
         refused(&Tables { plan: Plan { class: 1, ..fresh.plan }, ..fresh.clone() }, 1);
         refused(&Tables { plan: Plan { levels: 0, ..fresh.plan }, ..fresh.clone() }, 1);
+        refused(&Tables { plan: Plan { corners_across: 1, ..fresh.plan }, ..fresh.clone() }, 1);
+        refused(&Tables { plan: Plan { corners_up: 2, ..fresh.plan }, ..fresh.clone() }, 1);
         let larger = Plan { columns: 16, rows: 16, levels: 5, ..fresh.plan };
         refused(&Tables { plan: larger, ..fresh.clone() }, 2);
         refused(&Tables { cells: fresh.cells[1..].to_vec(), ..fresh.clone() }, 3);
@@ -576,7 +686,12 @@ fn refusals_by_hand() {
     let refused = |tables: Tables, number: u32| {
         assert_eq!(tables.height(&[0; 94], 1, 1), Err(number));
     };
-    for numbers in [[0, 1, 3, 1, 1, 0], [3, 1, 3, 1, 1, 1]] {
+    for numbers in [
+        [0, 1, 3, 1, 1, 0, 0, 0],
+        [3, 1, 3, 1, 1, 1, 0, 0],
+        [3, 1, 3, 1, 1, 0, 8, 0],
+        [3, 1, 3, 1, 1, 0, 0, 1],
+    ] {
         refused(Tables { plan: plan(numbers), ..mesh(W0, &[]) }, 1);
     }
     refused(Tables { plan: plan([16, 16, 5, 1, 1, 0]), ..mesh(W0, &[]) }, 2);
@@ -619,7 +734,8 @@ fn every_plan_with_heights() {
 fn points_beyond() {
     for (columns, rows) in [(1, 1), (3, 1), (1, 16), (16, 2)] {
         for levels in 1..=4 {
-            let tables = Tables::opened(plan([columns, rows, levels, 2, 1, 0]));
+            let (across, up) = (all_corners(columns), all_corners(rows) & 6);
+            let tables = Tables::opened(plan([columns, rows, levels, 2, 1, 0, across, up]));
             let heights = vec![-9; tables.functions.len()];
             let [far_across, far_up] = [columns, rows].map(|cells| 8 * (cells << (levels - 1)));
             assert_eq!((far_across, far_up), far_edges(tables.plan));
@@ -639,8 +755,8 @@ fn points_beyond() {
 /// from it. Of functions that are not active anything is taken.
 #[test]
 fn limits_of_heights() {
-    for (p, q) in DEGREES {
-        let tables = towards_the_first_cell([3, 3, 4, p, q, 0]);
+    for ((p, q), across, up) in DEGREES.into_iter().flat_map(|d| [(d, 0, 0), (d, 2, 4)]) {
+        let tables = towards_the_first_cell([3, 3, 4, p, q, 0, across, up]);
         let far = far_edges(tables.plan);
         let base = random_heights(&mut Random::new(802), &tables, Fill::Small);
         let with = |function: usize, height: i32| {
@@ -746,12 +862,13 @@ fn random_step(random: &mut Random, tables: &mut Tables) {
 #[test]
 fn meshes_of_random_runs() {
     let mut random = Random::new(804);
-    let (mut seen, mut kinds) = (Seen::default(), Kinds::default());
+    let (mut seen, mut kinds, mut cornered) = (Seen::default(), Kinds::default(), 0);
     let mut fills = [0; Fill::ALL.len()];
-    for turn in 0..240 {
+    for turn in 0..900 {
         let class = random.pick(&[0, 0, 2, 3, 4]);
         let most = random.pick(&[20, 90, 350, 350]);
         let plan = with_heights(&mut random, DEGREES[turn % 4], class, most);
+        cornered += u32::from(has_corners(plan));
         let mut tables = Tables::opened(plan);
         for _ in 0..random.below(5) + 1 {
             random_step(&mut random, &mut tables);
@@ -772,6 +889,7 @@ fn meshes_of_random_runs() {
     seen.expect(&[0, 15]);
     kinds.expect_all();
     assert!(fills.iter().all(|&often| often > 10), "{fills:?}");
+    assert!(cornered > 20, "{cornered}");
 }
 
 /// What is lent to a call.
@@ -785,7 +903,7 @@ struct Lent {
 fn damage(random: &mut Random, mesh: &Tables, lent: &mut Lent) {
     let Lent { tables, heights, point } = lent;
     let cell = random.below(mesh.cells.len());
-    match random.below(14) {
+    match random.below(17) {
         0 => tables.plan.columns = random.pick(&[0, 17, u32::MAX]),
         1 => tables.plan.levels = random.pick(&[0, 8, 9, 1 << 31]),
         2 => {
@@ -801,7 +919,10 @@ fn damage(random: &mut Random, mesh: &Tables, lent: &mut Lent) {
         9 => drop(heights.pop()),
         10 => heights.push(random.pick(&[0, i32::MIN])),
         11 => heights.clear(),
-        12 if heights.len() == mesh.functions.len() => {
+        12 => tables.plan.corners_across = random_corners(random, mesh.plan.columns),
+        13 => tables.plan.corners_up = random_corners(random, mesh.plan.rows),
+        14 => tables.plan.corners_across |= random.pick(&[1, 1 << 16, 1 << 31]),
+        15 if heights.len() == mesh.functions.len() => {
             let (function, level) = random.pick(&labelled(mesh, ACTIVE));
             // What the last levels may have is more than there is.
             let beyond = most(level.min(3)) + 1;
@@ -859,7 +980,10 @@ fn no_bit_is_rounded_away() {
         for levels in 1..=4 {
             let mut odd = 0;
             for turn in 0..12 {
-                let plan = plan([turn % 3 + 1, 2, levels, p, q, random.pick(&[0, 0, 2])]);
+                let class = random.pick(&[0, 0, 2]);
+                let across = random_corners(&mut random, turn % 3 + 1);
+                let up = random_corners(&mut random, 2);
+                let plan = plan([turn % 3 + 1, 2, levels, p, q, class, across, up]);
                 let wholly = plan.cells().filter(|cell| cell.level + 1 < levels).collect();
                 let refined = if turn < 6 { wholly } else { random_refined(&mut random, plan) };
                 let tables = Tables::with_refined(plan, &refined);
@@ -903,10 +1027,15 @@ fn the_largest_meshes() {
             assert_eq!(tables.height(&heights[1..], 0, 0), Err(3));
         }
     }
-    for scenario in scenario::all() {
+    let mut scenarios = scenario::all();
+    scenarios.extend(scenario::with_corners());
+    for scenario in scenarios {
+        let Plan { levels, degree_across, degree_up, .. } = scenario.plan();
+        let has_heights = levels <= 4 && degree_across <= 2 && degree_up <= 2;
         let tables = &scenario.to_coarsen;
         let heights = vec![0; tables.functions.len()];
-        assert_eq!(tables.height(&heights, 0, 0), Err(14), "{scenario}");
+        let expected = if has_heights { Ok(0.0) } else { Err(14) };
+        assert_eq!(tables.height(&heights, 0, 0), expected, "{scenario}");
         assert_eq!(tables.height(&heights[1..], 0, 0), Err(3), "{scenario}");
     }
 }
@@ -916,9 +1045,7 @@ fn the_largest_meshes() {
 fn forms_of_the_wrapper() {
     let owned = |tables: &Tables| {
         let Tables { plan, cells, functions } = tables.clone();
-        let Plan { columns, rows, levels, degree_across, degree_up, class } = plan;
-        let plan = wallmirror::Plan { columns, rows, levels, degree_across, degree_up, class };
-        Mesh { plan, cells, functions }
+        Mesh { plan: of_wrapper(plan), cells, functions }
     };
     let both = |tables: &Tables, heights: &[i32], across, up| {
         let mesh = owned(tables);

@@ -1,7 +1,10 @@
 //! The largest plans: refined level by level to the end and back, refined towards points, and runs
 //! in the classes that only many levels make different from class 0.
 
-use differential::{plan, undo_by_cells, undo_by_functions, Kind, Log, Random, Tables};
+use differential::{
+    all_corners, plan, random_corners, undo_by_cells, undo_by_functions, Kind, Log, Random, Tables,
+};
+use model::Plan;
 use Kind::*;
 
 /// Each shape of T near its limit.
@@ -9,8 +12,7 @@ const SHAPES: [(u32, u32, u32); 7] =
     [(1, 1, 8), (2, 2, 7), (4, 1, 7), (4, 4, 6), (16, 1, 6), (8, 8, 5), (16, 16, 4)];
 
 /// Refines everything, level by level, and takes it back.
-fn wholly_refined(numbers: [u32; 6], kind: Kind, random: &mut Random) {
-    let plan = plan(numbers);
+fn wholly_refined(plan: Plan, kind: Kind, random: &mut Random) {
     let first = Tables::opened(plan);
     let mut tables = first.clone();
     let mut log = Log::new();
@@ -25,9 +27,13 @@ fn wholly_refined(numbers: [u32; 6], kind: Kind, random: &mut Random) {
     assert_eq!(count.active_cells, count.area);
     let last = plan.levels - 1;
     assert_eq!(count.active_cells, (plan.columns << last) * (plan.rows << last));
+    let functions = |cells: u32, degree: u32, corners: u32| {
+        cells + degree + (degree - 1) * corners.count_ones()
+    };
     assert_eq!(
         count.active_functions,
-        ((plan.columns << last) + plan.degree_across) * ((plan.rows << last) + plan.degree_up)
+        functions(plan.columns << last, plan.degree_across, plan.corners_across)
+            * functions(plan.rows << last, plan.degree_up, plan.corners_up)
     );
     let end = tables.clone();
     undo_by_cells(&mut tables, &log, 0, random);
@@ -44,8 +50,8 @@ fn wholly_refined_by_cells() {
     let mut random = Random::new(400);
     for (i, (columns, rows, levels)) in SHAPES.into_iter().enumerate() {
         let class = [2, 0, 6, 3, 2, 4, 2][i];
-        wholly_refined([columns, rows, levels, 4, 4, class], RefineCells, &mut random);
-        wholly_refined([rows, columns, levels, 1, 3, 8], RefineCells, &mut random);
+        wholly_refined(plan([columns, rows, levels, 4, 4, class]), RefineCells, &mut random);
+        wholly_refined(plan([rows, columns, levels, 1, 3, 8]), RefineCells, &mut random);
     }
 }
 
@@ -53,13 +59,31 @@ fn wholly_refined_by_cells() {
 fn wholly_refined_by_functions() {
     let mut random = Random::new(401);
     for (columns, rows, levels) in SHAPES {
-        wholly_refined([columns, rows, levels, 3, 3, 0], RefineFunctions, &mut random);
+        wholly_refined(plan([columns, rows, levels, 3, 3, 0]), RefineFunctions, &mut random);
+    }
+}
+
+/// The same with corners: on every line, so that there are the most functions, and on some.
+#[test]
+fn wholly_refined_with_corners() {
+    let mut random = Random::new(404);
+    let most = plan([16, 16, 4, 4, 4, 2, all_corners(16), all_corners(16)]);
+    assert_eq!((most.cell_total(), most.function_total()), (21_760, 54_884));
+    wholly_refined(most, RefineCells, &mut random);
+    wholly_refined(Plan { class: 0, ..most }, RefineFunctions, &mut random);
+    for (columns, rows, levels) in SHAPES {
+        let (across, up) = (all_corners(columns), random_corners(&mut random, rows));
+        let class = random.pick(&[0, 2, 3]);
+        let by_cells = plan([columns, rows, levels, 4, 3, class, across, up]);
+        wholly_refined(by_cells, RefineCells, &mut random);
+        // The other way round.
+        let by_functions = plan([rows, columns, levels, 2, 4, 0, up, across]);
+        wholly_refined(by_functions, RefineFunctions, &mut random);
     }
 }
 
 /// Refines towards a point until the last level, so that the class refines ever more around it.
-fn towards(numbers: [u32; 6], point: (f64, f64), random: &mut Random) -> usize {
-    let plan = plan(numbers);
+fn towards(plan: Plan, point: (f64, f64), random: &mut Random) -> usize {
     let first = Tables::opened(plan);
     let mut tables = first.clone();
     let mut log = Log::new();
@@ -81,11 +105,30 @@ fn refined_towards_points() {
     for (columns, rows, levels) in SHAPES {
         for (class, degree) in [(0, 1), (2, 4), (3, 4), (4, 2)] {
             for point in [(0.0, 0.0), (0.4, 0.6)] {
-                let numbers = [columns, rows, levels, degree, degree, class];
-                let refined = towards(numbers, point, &mut random);
+                let plan = plan([columns, rows, levels, degree, degree, class]);
+                let refined = towards(plan, point, &mut random);
                 assert!(class != 0 || refined == levels as usize - 1);
                 assert!((class, degree) != (2, 4) || refined > levels as usize - 1);
             }
+        }
+    }
+}
+
+/// The same with corners: a point just behind one, where the class asks for less beyond it.
+#[test]
+fn refined_towards_corners() {
+    let mut random = Random::new(405);
+    for (columns, rows, levels) in SHAPES {
+        for (class, degree) in [(0, 2), (2, 4), (3, 3)] {
+            let smooth = plan([columns, rows, levels, degree, degree, class]);
+            let (corners_across, corners_up) = (all_corners(columns), all_corners(rows));
+            let cornered = Plan { corners_across, corners_up, ..smooth };
+            // On the line of level 0 before the second half.
+            let refined = [smooth, cornered].map(|plan| towards(plan, (0.5, 0.5), &mut random));
+            assert!(refined[1] <= refined[0], "{cornered:?}: {refined:?}");
+            assert!(class != 0 || refined[1] == levels as usize - 1);
+            let fewer = columns.max(rows) > 4 && class != 0;
+            assert!(!fewer || refined[1] < refined[0], "{cornered:?}: {refined:?}");
         }
     }
 }
@@ -111,7 +154,9 @@ fn runs_of_high_classes() {
     ] {
         let [columns, rows, levels] = numbers;
         let (p, q) = (random.below(4) as u32 + 1, random.below(4) as u32 + 1);
-        let first = Tables::opened(plan([columns, rows, levels, p, q, class]));
+        let (across, up) =
+            (random_corners(&mut random, columns), random_corners(&mut random, rows));
+        let first = Tables::opened(plan([columns, rows, levels, p, q, class, across, up]));
         let mut tables = first.clone();
         let mut log = Log::new();
         for turn in 0..24 {

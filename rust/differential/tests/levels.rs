@@ -2,7 +2,7 @@
 //! k. That it holds of every mesh which a call leaves is seen in every test (`expect_few_levels`); here
 //! are meshes in which all of these levels occur, and some of class 0 with more.
 
-use differential::{plan, Kind::RefineCells, Tables};
+use differential::{all_corners, plan, Kind::RefineCells, Tables};
 use model::Cell;
 
 /// The levels of the active functions over the cell with that number.
@@ -15,7 +15,7 @@ fn levels_over(tables: &Tables, number: usize) -> Vec<u32> {
 }
 
 /// The mesh with the first cell of each level but the last refined, and the first cell of the last.
-fn towards_the_first_cell(numbers: [u32; 6]) -> (Tables, usize) {
+fn towards_the_first_cell<const N: usize>(numbers: [u32; N]) -> (Tables, usize) {
     let mut tables = Tables::opened(plan(numbers));
     let first = |level| plan(numbers).cell_number(Cell { level, row: 0, column: 0 });
     for level in 0..numbers[2] - 1 {
@@ -24,7 +24,7 @@ fn towards_the_first_cell(numbers: [u32; 6]) -> (Tables, usize) {
     (tables, first(numbers[2] - 1))
 }
 
-fn refined(numbers: [u32; 6], cells: &[usize]) -> Tables {
+fn refined<const N: usize>(numbers: [u32; N], cells: &[usize]) -> Tables {
     let plan = plan(numbers);
     Tables::with_refined(plan, &cells.iter().map(|&cell| plan.cell_at(cell)).collect())
 }
@@ -46,6 +46,23 @@ fn worked() {
     assert_eq!(class_0.check(), 5);
 }
 
+/// The first of these with degree 2 across and a corner before column 1: cell 3 needs cell 1, and
+/// not cell 2.
+#[test]
+fn worked_with_a_corner() {
+    let cornered = refined([3, 1, 3, 2, 1, 2, 2, 0], &[0, 1, 3]);
+    assert_eq!(cornered.check(), 0);
+    assert_eq!(levels_over(&cornered, 15), [1, 2]);
+    assert_eq!(levels_over(&cornered, 5), [0, 1]);
+    assert_eq!(levels_over(&cornered, 2), [0]);
+    // Without the corner it needs cell 2 too; as it is, functions of all levels meet.
+    let mut smooth = refined([3, 1, 3, 2, 1, 0], &[0, 1, 3]);
+    assert_eq!(smooth.check(), 0);
+    assert_eq!(levels_over(&smooth, 15), [0, 1, 2]);
+    smooth.plan.class = 2;
+    assert_eq!(smooth.check(), 5);
+}
+
 /// Class by class, all m levels from k-m+1 to k occur, and the first of them is not 0. In class 8 there
 /// are seven at most: eight levels leave one cell on level 0, whose functions are all deactivated once
 /// it is refined.
@@ -61,6 +78,15 @@ fn the_bound_is_reached() {
         let (tables, cell) = towards_the_first_cell([16, 16, 4, degree, degree, 2]);
         assert_eq!(levels_over(&tables, cell), [2, 3]);
     }
+    // With corners everywhere.
+    for class in 2..=3 {
+        for degree in 1..=4 {
+            let (across, up) = (all_corners(5), all_corners(4));
+            let numbers = [5, 4, class + 2, degree, degree, class, across, up];
+            let (tables, cell) = towards_the_first_cell(numbers);
+            assert_eq!(levels_over(&tables, cell), (2..class + 2).collect::<Vec<_>>());
+        }
+    }
 }
 
 /// In class 0 there may be as many levels over a cell as the plan has.
@@ -68,6 +94,8 @@ fn the_bound_is_reached() {
 fn class_0_has_no_bound() {
     for levels in 1..=7 {
         let (tables, cell) = towards_the_first_cell([2, 2, levels, 1, 1, 0]);
+        assert_eq!(levels_over(&tables, cell), (0..levels).collect::<Vec<_>>());
+        let (tables, cell) = towards_the_first_cell([2, 2, levels, 3, 2, 0, 2, 2]);
         assert_eq!(levels_over(&tables, cell), (0..levels).collect::<Vec<_>>());
     }
 }

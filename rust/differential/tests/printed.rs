@@ -4,7 +4,7 @@
 //! The paper's refinement knows no class. In another class than 0 the cells that the library says it
 //! refined, the marked ones and what the class adds, are marked for it.
 
-use differential::{random_plan, random_refined, Kind, Random, Tables};
+use differential::{has_corners, plan, random_plan, random_refined, Kind, Random, Tables};
 use model::{Cell, Function, Plan};
 use std::collections::BTreeSet;
 
@@ -244,11 +244,12 @@ fn deep_plan(random: &mut Random, degrees: (u32, u32), class: u32, most: usize) 
 /// Random refinements of one kind, four in a row on each mesh.
 fn compare_randomly(kind: Kind, classes: &[u32], seed: u64) {
     let mut random = Random::new(seed);
-    let (mut cells, mut functions) = (0, 0);
+    let (mut cells, mut functions, mut cornered) = (0, 0, 0);
     for &class in classes {
         for degrees in [(1, 1), (2, 1), (1, 3), (2, 2), (4, 3)] {
             for most in [40, 120, 250, 500, 1000, 1000].repeat(4) {
                 let plan = deep_plan(&mut random, degrees, class, most);
+                cornered += u32::from(has_corners(plan));
                 let refined = if random.once_in(2) {
                     random_refined(&mut random, plan)
                 } else {
@@ -266,6 +267,7 @@ fn compare_randomly(kind: Kind, classes: &[u32], seed: u64) {
         }
     }
     assert!(cells > 500 && functions > 100, "{cells} cells and {functions} functions");
+    assert!(cornered > 10, "{cornered}");
 }
 
 #[test]
@@ -287,13 +289,23 @@ fn in_another_class_it_is_with_the_cells_that_the_class_adds() {
 #[test]
 fn worked_walls() {
     // P1 to P3 of document 01: the functions that algorithm 4 or 5 finds.
-    let plan = Plan { columns: 3, rows: 1, levels: 3, degree_across: 1, degree_up: 1, class: 0 };
     for (kind, mark, counts) in [
         (Kind::RefineCells, 0, (1, 2)),
         (Kind::RefineCells, 1, (1, 0)),
         (Kind::RefineFunctions, 1, (2, 4)),
     ] {
-        let mut tables = Tables::with_refined(plan, &BTreeSet::new());
+        let mut tables = Tables::with_refined(plan([3, 1, 3, 1, 1, 0]), &BTreeSet::new());
+        assert_eq!(compare(&mut tables, kind, &[mark]), counts);
+    }
+    // The same with degree 2 across and a corner before column 1, where functions 0 and 1 of a row
+    // cover cell 0 alone, function 2 cells 0 and 1.
+    for (kind, mark, counts) in [
+        (Kind::RefineCells, 0, (1, 4)),
+        (Kind::RefineCells, 1, (1, 0)),
+        (Kind::RefineFunctions, 1, (1, 4)),
+        (Kind::RefineFunctions, 2, (2, 6)),
+    ] {
+        let mut tables = Tables::with_refined(plan([3, 1, 3, 2, 1, 0, 2, 0]), &BTreeSet::new());
         assert_eq!(compare(&mut tables, kind, &[mark]), counts);
     }
 }

@@ -1,7 +1,9 @@
 //! Inputs damaged in every way, singly and together, against the model; every refusal must occur for
 //! every call that can give it.
 
-use differential::{plan, random_plan, random_refined, Kind, Random, Tables};
+use differential::{
+    has_corners, plan, random_corners, random_plan, random_refined, Kind, Random, Tables,
+};
 use model::Plan;
 
 /// How often each call (the four kinds, then open, check, count) answered each number.
@@ -34,13 +36,25 @@ impl Seen {
 
 fn damage_plan(random: &mut Random, plan: &mut Plan) {
     let huge = random.bits() as u32 | 1 << 31;
-    let (number, values) = match random.below(7) {
+    let beyond = |corners: u32, n: u32| {
+        // The line before the first cell, the one behind the last, and what is none at all.
+        vec![1, 1 << n, corners | 1, corners | 1 << n, corners | huge, u32::MAX]
+    };
+    let (number, values) = match random.below(9) {
         0 => (&mut plan.columns, vec![0, 17, huge]),
         1 => (&mut plan.rows, vec![0, 17, huge]),
         2 => (&mut plan.levels, vec![0, 9, 32, huge]),
         3 => (&mut plan.degree_across, vec![0, 5, huge]),
         4 => (&mut plan.degree_up, vec![0, 5, huge]),
         5 => (&mut plan.class, vec![1, 9, huge]),
+        6 => {
+            let values = beyond(plan.corners_across, plan.columns.min(31));
+            (&mut plan.corners_across, values)
+        }
+        7 => {
+            let values = beyond(plan.corners_up, plan.rows.min(31));
+            (&mut plan.corners_up, values)
+        }
         _ => {
             // In range, but with too many cells.
             (plan.columns, plan.rows, plan.levels) =
@@ -136,7 +150,7 @@ fn round(random: &mut Random, plan: Plan, seen: &mut Seen) {
         let mut tables = mesh.clone();
         let damages = if random.once_in(2) { 0 } else { random.below(3) + 1 };
         for _ in 0..damages {
-            match random.below(8) {
+            match random.below(10) {
                 0 => damage_plan(random, &mut tables.plan),
                 1 => damage_length(random, &mut tables.cells),
                 2 => damage_length(random, &mut tables.functions),
@@ -151,6 +165,10 @@ fn round(random: &mut Random, plan: Plan, seen: &mut Seen) {
                     // A class that the mesh was not made for.
                     tables.plan.class = random.pick(&[0, 2, 3, 4]);
                 }
+                // Corners that the tables were not made for. Where they are as many, the lengths
+                // are still those of the plan.
+                6 => tables.plan.corners_across = random_corners(random, plan.columns),
+                7 => tables.plan.corners_up = random_corners(random, plan.rows),
                 _ if !tables.functions.is_empty() => {
                     let number = random.below(tables.functions.len());
                     tables.functions[number] = random.pick(&[0, 1, 2, 3, 255]);
@@ -173,11 +191,13 @@ fn round(random: &mut Random, plan: Plan, seen: &mut Seen) {
 fn every_refusal_of_every_call() {
     let mut seen = Seen([[0; 12]; 7]);
     let mut random = Random::new(1);
+    let mut cornered = 0;
     for class in [0, 2, 3, 4, 5, 6, 7, 8] {
         for degree_across in 1..=4 {
             for degree_up in 1..=4 {
                 for most in [30, 100, 100, 400, 1500] {
                     let plan = random_plan(&mut random, (degree_across, degree_up), class, most);
+                    cornered += u32::from(has_corners(plan));
                     for _ in 0..6 {
                         round(&mut random, plan, &mut seen);
                     }
@@ -186,6 +206,7 @@ fn every_refusal_of_every_call() {
         }
     }
     seen.expect_all();
+    assert!(cornered > 100, "{cornered}");
 }
 
 /// Every number of the plan just outside its range and far outside, everything else being in order.
@@ -204,14 +225,99 @@ fn every_number_of_the_plan() {
             let mut tables = Tables::opened(plan(numbers));
             numbers[position] = value;
             tables.plan = plan(numbers);
-            assert_eq!(tables.clone().open(), 1);
-            assert_eq!(tables.check(), 1);
-            assert_eq!(tables.count().number, 1);
-            for kind in Kind::ALL {
-                assert_eq!(tables.call(kind, &[99], &[], &[]).number, 1);
+            all_refuse(tables, 1);
+        }
+    }
+}
+
+/// What every call answers where the plan is at fault.
+fn all_refuse(tables: Tables, number: u32) {
+    assert_eq!(tables.clone().open(), number);
+    assert_eq!(tables.check(), number);
+    assert_eq!(tables.count().number, number);
+    for kind in Kind::ALL {
+        assert_eq!(tables.clone().call(kind, &[99], &[], &[]).number, number);
+    }
+}
+
+/// Every bit of both corner numbers, alone and beside good ones, on plans of every width: 1 for
+/// those outside 1 to A-1 (or B-1). Of the others the tables of the plan are taken, and where the
+/// degree is 1 they are those without corners.
+#[test]
+fn every_bit_of_the_corners() {
+    for n in 1..=16u32 {
+        for degree in [1, 2, 4] {
+            let good =
+                (2..n).fold(0, |good, bit| if bit % 3 == 0 { good | 1 << bit } else { good });
+            for across in [true, false] {
+                let with = |corners: u32| match across {
+                    true => plan([n, 1, 2, degree, 1, 0, corners, 0]),
+                    false => plan([1, n, 2, 1, degree, 2, 0, corners]),
+                };
+                let smooth = Tables::opened(with(0));
+                let tables = Tables::opened(with(good));
+                assert!(degree != 1 || tables.functions == smooth.functions);
+                for bit in 0..32u32 {
+                    let inside = (1..n).contains(&bit);
+                    for plan in [with(1 << bit), with(good | 1 << bit)] {
+                        for tables in [&smooth, &tables] {
+                            let changed = Tables { plan, ..tables.clone() };
+                            if inside {
+                                let fits = changed.functions.len() == plan.function_total();
+                                assert_eq!(changed.check(), if fits { 0 } else { 3 });
+                            } else {
+                                all_refuse(changed, 1);
+                            }
+                        }
+                    }
+                }
             }
         }
     }
+}
+
+/// A bit that is out of range is refused before too many cells are, and after nothing.
+#[test]
+fn corners_come_before_too_many_cells() {
+    let tables = Tables::opened(plan([3, 1, 3, 2, 1, 2, 2, 0]));
+    for (numbers, number) in [
+        ([16, 16, 5, 1, 1, 0, 0, 0], 2),
+        ([16, 16, 5, 1, 1, 0, 0xfffe, 0xfffe], 2),
+        ([16, 16, 5, 1, 1, 0, 1 << 16, 0], 1),
+        ([16, 16, 5, 1, 1, 0, 0, 1], 1),
+        ([1, 2, 8, 4, 4, 2, 2, 0], 1),
+        ([1, 2, 8, 4, 4, 2, 0, 2], 2),
+        ([0, 0, 0, 0, 0, 0, 0, 0], 1),
+        ([17, 1, 1, 1, 1, 0, 2, 0], 1),
+        ([u32::MAX, 1, 1, 1, 1, 0, u32::MAX, 0], 1),
+    ] {
+        all_refuse(Tables { plan: plan(numbers), ..tables.clone() }, number);
+    }
+}
+
+/// A corner moved to another line leaves the lengths and not what the functions are. Four columns
+/// of degree 2; functions cover the columns 0, 0-1, 0-1, 1-2, 2-3, 2-3, 3 with the corner before
+/// column 2, and 0, 0, 0-1, 1-2, 1-3, 2-3, 3 with one before column 1.
+#[test]
+fn a_corner_moved() {
+    let opened = Tables::opened(plan([4, 1, 3, 2, 1, 2, 4, 0]));
+    let moved = |tables: &Tables, corners_across: u32| {
+        let plan = Plan { corners_across, ..tables.plan };
+        Tables { plan, ..tables.clone() }.check()
+    };
+    let mut tables = opened.clone();
+    // Cell 0 refined: function 0 of each row is deactivated, and not function 1.
+    assert_eq!(tables.call_with_room(Kind::RefineCells, &[0]).functions, [0, 7]);
+    for (corners, number) in [(4, 0), (2, 6), (8, 0), (0, 3), (6, 3), (1, 1), (16, 1)] {
+        assert_eq!(moved(&tables, corners), number, "{corners}");
+        assert!(number == 1 || number == 3 || moved(&opened, corners) == 0);
+    }
+    // A child of cell 1 needs cells 0 to 2, and cell 3 too where the corner is before column 1.
+    let child = plan([4, 1, 3, 2, 1, 2]).cell_number(model::Cell { level: 1, row: 0, column: 2 });
+    tables.call_with_room(Kind::RefineCells, &[1]);
+    let outcome = tables.call_with_room(Kind::RefineCells, &[child as u32]);
+    assert_eq!(outcome.cells, [2, child as u32]);
+    assert_eq!(moved(&tables, 2), 5);
 }
 
 /// Marks as many as one likes, in an order of their own, mean the same as each once.

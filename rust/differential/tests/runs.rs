@@ -1,8 +1,8 @@
 //! Runs of dozens of calls, refused ones among them, and each run undone as a whole.
 
 use differential::{
-    random_covered, random_plan, random_refined, undo_by_cells, undo_by_functions, Kind, Log,
-    Random, Tables,
+    has_corners, random_covered, random_plan, random_refined, undo_by_cells, undo_by_functions,
+    Kind, Log, Random, Tables,
 };
 use Kind::*;
 
@@ -47,11 +47,12 @@ fn start(random: &mut Random, plan: model::Plan) -> Tables {
 /// exactly the needed length and once with longer ones.
 fn runs_undone_by_cells(class: u32, seed: u64) {
     let mut random = Random::new(seed);
-    let (mut accepted, mut refused, mut changed) = (0, 0, 0);
+    let (mut accepted, mut refused, mut changed, mut cornered) = (0, 0, 0, 0);
     for degree_across in 1..=4 {
         for degree_up in 1..=4 {
             for most in [100, 400, 1500] {
                 let plan = random_plan(&mut random, (degree_across, degree_up), class, most);
+                cornered += u32::from(has_corners(plan));
                 let first =
                     if random.once_in(2) { Tables::opened(plan) } else { start(&mut random, plan) };
                 let mut tables = first.clone();
@@ -87,6 +88,7 @@ fn runs_undone_by_cells(class: u32, seed: u64) {
     }
     // Runs that change nothing would show nothing.
     assert!(accepted > 500 && refused > 100 && changed > 1000, "{accepted} {refused} {changed}");
+    assert!(cornered > 5, "{cornered}");
 }
 
 macro_rules! by_cells {
@@ -115,10 +117,12 @@ by_cells! {
 fn class_0_undone_by_functions() {
     let mut random = Random::new(200);
     let (mut accepted, mut refused, mut changed, mut started) = (0, 0, 0, 0);
+    let mut cornered = 0;
     for degree_across in 1..=4 {
         for degree_up in 1..=4 {
             for most in [100, 400, 1500, 100, 400, 1500] {
                 let plan = random_plan(&mut random, (degree_across, degree_up), 0, most);
+                cornered += u32::from(has_corners(plan));
                 let refined = random_covered(&mut random, plan);
                 started += refined.len();
                 let first = Tables::with_refined(plan, &refined);
@@ -144,15 +148,21 @@ fn class_0_undone_by_functions() {
         }
     }
     assert!(accepted > 500 && refused > 100 && changed > 1000, "{accepted} {refused} {changed}");
-    assert!(started > 1000, "{started}");
+    assert!(started > 1000 && cornered > 10, "{started} {cornered}");
 }
 
 /// A long run on one mesh: hundreds of calls, many of them taking back what others did.
 #[test]
 fn a_long_run_undone() {
-    for (class, seed) in [(0, 300), (2, 301), (3, 302)] {
+    for (seed, numbers) in [
+        (300, [4, 3, 4, 2, 1, 0, 0, 0]),
+        (301, [4, 3, 4, 2, 1, 2, 0, 0]),
+        (302, [4, 3, 4, 2, 1, 3, 0, 0]),
+        (303, [4, 3, 4, 2, 1, 0, 4, 0]),
+        (304, [4, 3, 4, 3, 2, 2, 10, 6]),
+    ] {
         let mut random = Random::new(seed);
-        let plan = differential::plan([4, 3, 4, 2, 1, class]);
+        let plan = differential::plan(numbers);
         let first = Tables::opened(plan);
         let mut tables = first.clone();
         let mut log = Log::new();

@@ -5,7 +5,9 @@
 
 use differential::{plan, Kind, Random, Tables};
 use model::session::{answer, session, Wall, INPUT_BYTES, LINE_MARKS, WALL_CELLS};
+use model::{Cell, Function, Plan};
 use std::io::{ErrorKind, Read, Write};
+use std::ops::Range;
 use std::path::{Path, PathBuf};
 use std::process::{Command, Stdio};
 use std::time::Duration;
@@ -143,6 +145,9 @@ fn lines_that_cannot_be_read() {
         "wall",
         "wall 3 1 3 1 1",
         "wall 3 1 3 1 1 0 0",
+        "wall 3 1 3 1 1 0 2",
+        "wall 3 1 3 1 1 0 2 0 0",
+        "wall 3 1 3 1 1 0 2 4294967296",
         "wall 3 1 3 1 1 4294967296",
         "wall  3 1 3 1 1 0",
         "split;0",
@@ -173,8 +178,15 @@ fn walls_refused_or_large() {
         ("wall 3 1 3 1 1 1", "1;;"),
         ("wall 17 1 3 1 1 0", "1;;"),
         ("wall 4294967295 1 3 1 1 0", "1;;"),
+        // The line before the first column, that behind the last, and one of the only row.
+        ("wall 3 1 3 1 1 0 1 0", "1;;"),
+        ("wall 3 1 3 1 1 0 8 0", "1;;"),
+        ("wall 3 1 3 1 1 0 2 2", "1;;"),
+        ("wall 3 1 3 1 1 0 4294967295 0", "1;;"),
         ("wall 16 16 5 1 1 0", "2;;"),
+        ("wall 16 16 5 4 4 0 65534 65534", "2;;"),
         ("wall 1 1 8 1 1 0", "large"),
+        ("wall 16 16 4 4 4 0 65534 65534", "large"),
         // The fewest cells above the limit; no plan has 4,096.
         ("wall 14 14 3 1 1 0", "large"),
     ] {
@@ -188,6 +200,20 @@ fn walls_refused_or_large() {
     // The most cells below it.
     expect("wall 13 15 3 1 1 0\nsplit 0\n", "0;;\n0;0;0\n");
     expect("split\njoin 0\nfsplit 1\nfjoin\n", "?\n?\n?\n?\n");
+}
+
+/// A corner before column 1: over column 0 alone lie two functions across, and not one.
+#[test]
+fn walls_with_corners() {
+    expect("wall 3 1 3 2 2 0\nsplit 0\n", "0;;\n0;0;0 5 10\n");
+    expect("wall 3 1 3 2 2 0 0 0\nsplit 0\n", "0;;\n0;0;0 5 10\n");
+    expect("wall 3 1 3 2 2 0 2 0\nsplit 0\n", "0;;\n0;0;0 1 6 7 12 13\n");
+    // Of degree 1 a corner is a line like others.
+    expect("wall 3 1 3 1 1 2 6 0\nsplit 0\nsplit 3\n", "0;;\n0;0;0 4\n0;1 3;1 5 8\n");
+    // The most functions that a session's wall has, with all of level 0 split.
+    let marks: Vec<u32> = (0..15 * 13).collect();
+    let lines: String = marks.chunks(LINE_MARKS).map(|marks| line("split", marks)).collect();
+    run(format!("wall 15 13 3 4 4 0 32766 8190\n{lines}").as_bytes());
 }
 
 /// An input of `before`, then as many empty lines as make it `INPUT_BYTES - left` long, then
@@ -242,21 +268,42 @@ fn input_in_pieces() {
     assert_eq!(printed(&pieces), session(&long));
 }
 
-/// The functions of a level that lie a support apart, so that all its cells are under one of them.
-fn tiling(numbers: [u32; 6], level: u32) -> Vec<u32> {
-    let plan = plan(numbers);
-    let places = |cells: u32, degree: u32| -> Vec<u32> {
-        (0..cells.div_ceil(degree + 1)).map(|i| i * (degree + 1) + degree).collect()
-    };
-    let columns = places(plan.columns << level, plan.degree_across);
-    places(plan.rows << level, plan.degree_up)
-        .into_iter()
-        .flat_map(|row| {
-            columns.iter().map(move |&column| {
-                plan.function_number(model::Function { level, row, column }) as u32
-            })
-        })
-        .collect()
+/// In one direction, of functions by what they cover: always the one over the next place that reaches
+/// farthest, until every place is under one of them.
+fn in_a_row(covered: &[Range<u32>]) -> Vec<u32> {
+    let mut row = vec![];
+    let mut next = 0;
+    let over = |next| (0..covered.len()).filter(move |&i| covered[i].contains(&next));
+    while let Some(i) = over(next).max_by_key(|&i| covered[i].end) {
+        row.push(i as u32);
+        next = covered[i].end;
+    }
+    row
+}
+
+/// Few functions of a level, such that all its cells are under one of them.
+fn tiling(plan: Plan, level: u32) -> Vec<u32> {
+    let function = |row, column| Function { level, row, column };
+    let of_level = plan.functions().filter(|function| function.level == level);
+    let last = of_level.last().expect("a function");
+    let rows = |row| plan.support(function(row, 0)).map(|cell| cell.row);
+    let columns = |column| plan.support(function(0, column)).map(|cell| cell.column);
+    let rows: Vec<_> = (0..=last.row).map(|row| from_to(rows(row))).collect();
+    let columns: Vec<_> = (0..=last.column).map(|column| from_to(columns(column))).collect();
+    let columns = in_a_row(&columns);
+    let places = in_a_row(&rows).into_iter().flat_map(|row| columns.iter().map(move |&c| (row, c)));
+    places.map(|(row, column)| plan.function_number(function(row, column)) as u32).collect()
+}
+
+/// From the least of some numbers to the greatest.
+fn from_to(numbers: impl Iterator<Item = u32>) -> Range<u32> {
+    let numbers: Vec<u32> = numbers.collect();
+    *numbers.iter().min().expect("a number")..*numbers.iter().max().expect("a number") + 1
+}
+
+/// A corner on every line between n columns or rows.
+fn all_corners(n: u32) -> u32 {
+    (1 << n) - 2
 }
 
 fn line(word: &str, numbers: &[u32]) -> String {
@@ -266,13 +313,20 @@ fn line(word: &str, numbers: &[u32]) -> String {
 
 /// Refines the levels one by one, each by one line of functions. The last line names every cell and
 /// every function of the second last level, the most that a line can change.
-fn level_by_level(numbers: [u32; 6]) -> String {
-    let lines = (0..numbers[2] - 1).map(|level| {
-        let marks = tiling(numbers, level);
-        assert!(marks.len() <= LINE_MARKS);
-        line("fsplit", &marks)
-    });
-    line("wall", &numbers) + &lines.collect::<String>()
+fn level_by_level(plan: Plan) -> String {
+    let lines = (0..plan.levels - 1).map(|level| line("fsplit", &tiling(plan, level)));
+    line("wall", &numbers(plan)) + &lines.collect::<String>()
+}
+
+/// Whether a line is enough to split a level.
+fn by_lines(plan: Plan) -> bool {
+    (0..plan.levels - 1).all(|level| tiling(plan, level).len() <= LINE_MARKS)
+}
+
+fn numbers(plan: Plan) -> [u32; 8] {
+    let Plan { columns, rows, levels, degree_across, degree_up, class, corners_across, corners_up } =
+        plan;
+    [columns, rows, levels, degree_across, degree_up, class, corners_across, corners_up]
 }
 
 /// The length of a list of consecutive numbers.
@@ -281,29 +335,40 @@ fn list_length(first: usize, count: usize) -> usize {
 }
 
 /// The length of the answer that names the whole second last level.
-fn second_last_length(numbers: [u32; 6]) -> usize {
-    let plan = plan(numbers);
+fn second_last_length(plan: Plan) -> usize {
     let level = plan.levels - 2;
-    let first_cell = plan.cell_number(model::Cell { level, row: 0, column: 0 });
-    let first_function = plan.function_number(model::Function { level, row: 0, column: 0 });
+    let first_cell = plan.cell_number(Cell { level, row: 0, column: 0 });
+    let first_function = plan.function_number(Function { level, row: 0, column: 0 });
     let cells = plan.cells().filter(|cell| cell.level == level).count();
     let functions = plan.functions().filter(|function| function.level == level).count();
     "0;;".len() + list_length(first_cell, cells) + list_length(first_function, functions)
 }
 
-/// Of all walls of a session, the one whose second last level has most to print.
+/// Of all walls of a session without corners, and of those with every line a corner, the one whose
+/// second last level has most to print, where a line is enough to split a level.
 #[test]
 fn the_longest_answer() {
     let shapes = (1..=16).flat_map(|columns| (1..=16).map(move |rows| (columns, rows)));
-    let longest = shapes
+    let plans: Vec<Plan> = shapes
         .flat_map(|(columns, rows)| (2..=8).map(move |levels| [columns, rows, levels, 4, 4, 2]))
-        .filter(|&numbers| plan(numbers).cell_total() <= WALL_CELLS)
-        .max_by_key(|&numbers| second_last_length(numbers))
-        .expect("a wall");
-    let output = run(level_by_level(longest).as_bytes());
-    let length = output.split(|&byte| byte == b'\n').map(<[u8]>::len).max();
-    assert_eq!(length, Some(second_last_length(longest)));
-    println!("the longest answer: {longest:?}, {} bytes", length.unwrap());
+        .map(plan)
+        .filter(|plan| plan.cell_total() <= WALL_CELLS)
+        .collect();
+    let cornered = |plan: &Plan| {
+        let (corners_across, corners_up) = (all_corners(plan.columns), all_corners(plan.rows));
+        Plan { corners_across, corners_up, ..*plan }
+    };
+    for plans in [plans.iter().map(cornered).collect(), plans] {
+        let longest = plans
+            .into_iter()
+            .filter(|&plan| by_lines(plan))
+            .max_by_key(|&plan| second_last_length(plan))
+            .expect("a wall");
+        let output = run(level_by_level(longest).as_bytes());
+        let length = output.split(|&byte| byte == b'\n').map(<[u8]>::len).max();
+        assert_eq!(length, Some(second_last_length(longest)));
+        println!("the longest answer: {:?}, {} bytes", numbers(longest), length.unwrap());
+    }
 }
 
 /// A line that the session can read, more often than not one that it accepts.
@@ -311,7 +376,7 @@ fn good_line(random: &mut Random, wall: &Option<Wall>) -> String {
     let word = random.pick(&["wall", "split", "join", "fsplit", "fjoin"]);
     let word = if word == "wall" && wall.is_some() { "split" } else { word };
     let mut numbers = match (word, wall) {
-        ("wall", _) => random_plan(random).to_vec(),
+        ("wall", _) => random_wall(random),
         (_, None) => (0..random.below(4)).map(|_| random.below(40) as u32).collect(),
         (word, Some(wall)) => random_marks(random, word, wall),
     };
@@ -329,11 +394,18 @@ fn padded(random: &mut Random, number: u32) -> String {
     format!("{}{number}", "0".repeat(zeros))
 }
 
-fn random_plan(random: &mut Random) -> [u32; 6] {
+/// The numbers of a `wall` line: six, or eight, or seven, which cannot be read.
+fn random_wall(random: &mut Random) -> Vec<u32> {
     let (columns, rows) = (random.below(3) as u32 + 1, random.below(3) as u32 + 1);
     let (p, q) = (random.below(4) as u32 + 1, random.below(4) as u32 + 1);
     let levels = random.below(4) as u32 + 1;
-    [columns, rows, levels, p, q, random.pick(&[0, 0, 2, 3, 4, 8])]
+    let class = random.pick(&[0, 0, 2, 3, 4, 8]);
+    let corners = [columns, rows].map(|n| match random.once_in(16) {
+        false => random.bits() as u32 & all_corners(n),
+        true => 1 << random.below(32),
+    });
+    let count = random.pick(&[0, 0, 0, 1, 2, 2, 2, 2]);
+    [&[columns, rows, levels, p, q, class], &corners[..count]].concat()
 }
 
 fn random_marks(random: &mut Random, word: &str, wall: &Wall) -> Vec<u32> {
@@ -381,7 +453,7 @@ fn random_session(random: &mut Random, length: usize) -> Vec<u8> {
     let mut wall = None;
     while input.len() < length {
         let whole = good_line(random, &wall);
-        let whole = if random.once_in(40) { line("wall", &random_plan(random)) } else { whole };
+        let whole = if random.once_in(40) { line("wall", &random_wall(random)) } else { whole };
         let line = whole.trim_end().to_string();
         let line = if random.once_in(6) { damaged(random, line) } else { line.into_bytes() };
         for part in line.split(|&byte| byte == b'\n') {

@@ -187,6 +187,7 @@ extern "C" fn start(work: &mut Work) {
 #[test]
 fn every_call_within_its_stack() {
     let mut scenarios = scenario::all();
+    scenarios.extend(scenario::with_corners());
     scenarios.extend(scenario::with_heights());
     measure(&scenarios);
     run_on_exactly_as_much(&scenarios);

@@ -2,6 +2,7 @@
 //! that library and model are both held to them.
 
 use differential::{plan, Kind::*, Outcome, Tables};
+use model::Plan;
 
 const W0: [u32; 6] = [3, 1, 3, 1, 1, 0];
 const W2: [u32; 6] = [3, 1, 3, 1, 1, 2];
@@ -15,7 +16,7 @@ fn refused(number: u32) -> Outcome {
 }
 
 /// Tables with these cells refined one after the other.
-fn refined(numbers: [u32; 6], marks: &[u32]) -> Tables {
+fn refined<const N: usize>(numbers: [u32; N], marks: &[u32]) -> Tables {
     let mut tables = Tables::opened(plan(numbers));
     for &mark in marks {
         assert_eq!(tables.call_with_room(RefineCells, &[mark]).number, 0);
@@ -144,6 +145,11 @@ fn the_largest_plans_open() {
         assert_eq!(tables.check(), 0);
         assert_eq!(tables.count().area, area);
     }
+    // The most functions that there may be.
+    let tables = Tables::opened(plan([16, 16, 4, 4, 4, 2, 0xfffe, 0xfffe]));
+    assert_eq!((tables.cells.len(), tables.functions.len()), (21_760, 54_884));
+    assert_eq!(tables.check(), 0);
+    assert_eq!(tables.count().active_functions, 65 * 65);
 }
 
 #[test]
@@ -166,6 +172,163 @@ fn the_sample_session() {
     assert_eq!(tables.call_with_room(RefineCells, &[0]), accepted(&[0], &[0, 4]));
     assert_eq!(tables.call_with_room(RefineCells, &[3]), accepted(&[1, 3], &[1, 5, 8]));
     assert_eq!(tables.call_with_room(CoarsenCells, &[1]), accepted(&[], &[]));
+}
+
+// ---- A corner ----
+
+/// Degree 1: with a corner before column 1 or 2, or both, everything is as without.
+#[test]
+fn a_corner_of_degree_1() {
+    for corners in [2, 4, 6] {
+        for class in [0, 2] {
+            let [a, b, l, p, q, _] = W0;
+            let with = Tables::opened(plan([a, b, l, p, q, class, corners, 0]));
+            let without = Tables::opened(plan([a, b, l, p, q, class]));
+            assert_eq!((with.cells.len(), with.functions.len()), (63, 94));
+            let run = |mut tables: Tables| {
+                let mut seen = vec![];
+                for (kind, marks) in [
+                    (RefineCells, &[0][..]),
+                    (RefineCells, &[3]),
+                    (RefineFunctions, &[2, 6]),
+                    (CoarsenCells, &[1]),
+                    (CoarsenFunctions, &[0, 1, 4, 5]),
+                    (CoarsenCells, &[3]),
+                    (RefineCells, &[2]),
+                ] {
+                    let outcome = tables.call_with_room(kind, marks);
+                    seen.push((outcome, tables.cells.clone(), tables.functions.clone()));
+                }
+                seen
+            };
+            assert_eq!(run(with), run(without));
+        }
+    }
+}
+
+/// Degree 2 across and a corner before column 1. On level 0 the knots are 0 0 0 1 1 2 3 3 3, and
+/// six functions cover the columns 0, 0, 0-1, 1-2, 1-2, 2, in two rows: 0 to 5 and 6 to 11. On
+/// level 1 the knots are 0 0 0 1 2 2 3 4 5 6 6 6, and nine functions cover 0, 0-1, 0-1, 1-2, 2-3,
+/// 2-4, 3-5, 4-5, 5, in three rows from 12 on. On level 2 there are 12 columns and 15 functions, in
+/// five rows from 39 on.
+const C0: [u32; 8] = [3, 1, 3, 2, 1, 0, 2, 0];
+const C2: [u32; 8] = [3, 1, 3, 2, 1, 2, 2, 0];
+
+#[test]
+fn sizes_with_a_corner() {
+    for numbers in [C0, C2] {
+        let tables = Tables::opened(plan(numbers));
+        assert_eq!((tables.cells.len(), tables.functions.len()), (63, 12 + 27 + 75));
+        assert_eq!(tables.count().active_functions, 12);
+    }
+    assert_eq!(Tables::opened(plan([3, 1, 3, 2, 1, 0])).functions.len(), 10 + 24 + 70);
+}
+
+/// Two functions of each row lie over cell 0 alone. On level 1 the first three of each row cover
+/// columns 0 and 1 and no others; without the corner it is two.
+#[test]
+fn with_a_corner_refine_0() {
+    let fresh = Tables::opened(plan(C0));
+    let mut tables = fresh.clone();
+    assert_eq!(tables.call_with_room(RefineCells, &[0]), accepted(&[0], &[0, 1, 6, 7]));
+    assert_eq!(newly_active(&fresh, &tables), [12, 13, 14, 21, 22, 23, 30, 31, 32]);
+    let fresh = Tables::opened(plan([3, 1, 3, 2, 1, 0]));
+    let mut tables = fresh.clone();
+    assert_eq!(tables.call_with_room(RefineCells, &[0]), accepted(&[0], &[0, 5]));
+    assert_eq!(newly_active(&fresh, &tables), [10, 11, 18, 19, 26, 27]);
+}
+
+/// No function lies over cell 1 alone. On level 1 function 4 covers columns 2 and 3 and no others.
+#[test]
+fn with_a_corner_refine_1() {
+    let fresh = Tables::opened(plan(C0));
+    let mut tables = fresh.clone();
+    assert_eq!(tables.call_with_room(RefineCells, &[1]), accepted(&[1], &[]));
+    assert_eq!(newly_active(&fresh, &tables), [16, 25, 34]);
+}
+
+/// Function 2 covers both sides of the corner, functions 3 and 4 what lies behind it.
+#[test]
+fn with_a_corner_by_functions() {
+    let fresh = Tables::opened(plan(C0));
+    for (mark, cells, functions) in [
+        (0, &[0][..], &[0, 1, 6, 7][..]),
+        (1, &[0], &[0, 1, 6, 7]),
+        (2, &[0, 1], &[0, 1, 2, 6, 7, 8]),
+        (3, &[1, 2], &[3, 4, 5, 9, 10, 11]),
+        (4, &[1, 2], &[3, 4, 5, 9, 10, 11]),
+        (5, &[2], &[5, 11]),
+    ] {
+        // The same function of the other row has the same support.
+        for mark in [mark, mark + 6] {
+            let mut tables = fresh.clone();
+            assert_eq!(tables.call_with_room(RefineFunctions, &[mark]), accepted(cells, functions));
+            let outcome = tables.call_with_room(CoarsenFunctions, functions);
+            assert_eq!(outcome, accepted(cells, functions));
+            assert_eq!(tables, fresh);
+        }
+    }
+    // As P4 and P5: function 2 alone means nothing, since 0 and 1 keep cell 0, and 8 keeps both.
+    let mut tables = fresh.clone();
+    tables.call_with_room(RefineFunctions, &[2]);
+    assert_eq!(tables.clone().call_with_room(CoarsenFunctions, &[2]), accepted(&[], &[]));
+    assert_eq!(tables.clone().call_with_room(CoarsenFunctions, &[0, 1]), accepted(&[], &[]));
+    assert_eq!(tables.call_with_room(CoarsenFunctions, &[2, 8]), accepted(&[1], &[2, 8]));
+}
+
+/// Class 2. Cell 3 is a child of cell 0, which has a common function with cell 1 and not with cell
+/// 2: cell 1 is refined and cell 2 is not. Function 2 lies over cells 0 and 1, function 12 of level
+/// 1 over cell 3 alone. Without the corner cell 2 is refined too.
+#[test]
+fn with_a_corner_refine_0_then_3() {
+    let mut tables = refined(C2, &[0]);
+    let outcome = accepted(&[1, 3], &[2, 8, 12]);
+    assert_eq!(tables.call_with_room(RefineCells, &[3]), outcome);
+    assert_eq!(tables.clone().call_with_room(CoarsenCells, &[1]), accepted(&[], &[]));
+    assert_eq!(tables.call_with_room(CoarsenCells, &[1, 3]), outcome);
+    assert_eq!(tables, refined(C2, &[0]));
+
+    let mut tables = refined([3, 1, 3, 2, 1, 2], &[0]);
+    let outcome = accepted(&[1, 2, 3], &[1, 2, 3, 4, 6, 7, 8, 9, 10]);
+    assert_eq!(tables.call_with_room(RefineCells, &[3]), outcome);
+}
+
+/// Class 2, the child of cell 1 next to the corner: cell 1 has common functions with all cells.
+#[test]
+fn with_a_corner_refine_1_then_5() {
+    let mut tables = refined(C2, &[1]);
+    let outcome = tables.call_with_room(RefineCells, &[5]);
+    assert_eq!(outcome, accepted(&[0, 2, 5], &[0, 1, 2, 3, 4, 5, 6, 7, 8, 9, 10, 11]));
+    assert_eq!(tables.call_with_room(CoarsenCells, &outcome.cells), outcome);
+    assert_eq!(tables, refined(C2, &[1]));
+}
+
+/// Refusal 5: cells 0 and 3 refined and 1 active; with cell 1 refined it is passed, and without the
+/// corner it is not.
+#[test]
+fn with_a_corner_refusal_5() {
+    let mut tables = refined(C0, &[0, 3]);
+    tables.plan.class = 2;
+    all_refuse(&mut tables, 5);
+    let mut tables = refined(C0, &[0, 1, 3]);
+    tables.plan.class = 2;
+    assert_eq!(tables.check(), 0);
+    let mut tables = refined([3, 1, 3, 2, 1, 0], &[0, 1, 3]);
+    tables.plan.class = 2;
+    all_refuse(&mut tables, 5);
+}
+
+/// Refusals 1 and 3 of corners.
+#[test]
+fn corners_that_do_not_fit() {
+    for (across, up, number) in [(2, 0, 0), (4, 0, 0), (6, 0, 3), (0, 0, 3), (1, 0, 1), (8, 0, 1)]
+        .into_iter()
+        .chain([(2, 1, 1), (2, 2, 1), (2, 1 << 31, 1), (u32::MAX, 0, 1), (3, 0, 1)])
+    {
+        let tables = Tables::opened(plan(C0));
+        let plan = Plan { corners_across: across, corners_up: up, ..tables.plan };
+        assert_eq!(Tables { plan, ..tables }.open(), number, "{across} {up}");
+    }
 }
 
 // ---- The examples of the refusal table ----

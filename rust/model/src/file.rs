@@ -1,5 +1,6 @@
-//! A mesh as a file: the six numbers of the plan, the count of refined cells, the first of them if
-//! there is one, then each difference from the one before, in rising order.
+//! A mesh as a file: the first six numbers of the plan, the count of refined cells, the first of
+//! them if there is one, then each difference from the one before, in rising order; then both
+//! corner numbers, unless both are 0.
 //!
 //! Each number is written in groups of seven bits, lowest group first, the high bit set on all but
 //! the last, in the shortest form and at most three groups.
@@ -9,8 +10,16 @@ use crate::{
 };
 
 /// The plan that reading answers with refusals 12, 1 and 2.
-pub const NO_PLAN: Plan =
-    Plan { columns: 0, rows: 0, levels: 0, degree_across: 0, degree_up: 0, class: 0 };
+pub const NO_PLAN: Plan = Plan {
+    columns: 0,
+    rows: 0,
+    levels: 0,
+    degree_across: 0,
+    degree_up: 0,
+    class: 0,
+    corners_across: 0,
+    corners_up: 0,
+};
 
 /// Cell table and function table.
 pub type Tables = (Vec<u8>, Vec<u8>);
@@ -33,8 +42,8 @@ pub fn number(value: u32) -> Vec<u8> {
     }
 }
 
-/// The number that the bytes begin with, and the bytes behind it.
-fn first_number(bytes: &[u8]) -> Result<(u32, &[u8]), u32> {
+/// Takes the number that the bytes begin with from them.
+fn next(bytes: &mut &[u8]) -> Result<u32, u32> {
     let Some(last) = bytes.iter().position(|&byte| byte < 128) else {
         return Err(12); // cut off, or nothing there at all
     };
@@ -46,7 +55,8 @@ fn first_number(bytes: &[u8]) -> Result<(u32, &[u8]), u32> {
     if number(value) != groups {
         return Err(12); // not in the shortest form
     }
-    Ok((value, rest))
+    *bytes = rest;
+    Ok(value)
 }
 
 /// The numbers of a file, with the bytes behind the last. Listed cells may be far too large.
@@ -59,27 +69,29 @@ struct Listing<'a> {
 /// Refusal 12 is all that is judged here.
 fn listing(file: &[u8]) -> Result<Listing<'_>, u32> {
     let mut rest = file;
-    let mut next = || -> Result<u32, u32> {
-        let (value, behind) = first_number(rest)?;
-        rest = behind;
-        Ok(value)
+    let mut plan = Plan {
+        columns: next(&mut rest)?,
+        rows: next(&mut rest)?,
+        levels: next(&mut rest)?,
+        degree_across: next(&mut rest)?,
+        degree_up: next(&mut rest)?,
+        class: next(&mut rest)?,
+        ..NO_PLAN
     };
-    let plan = Plan {
-        columns: next()?,
-        rows: next()?,
-        levels: next()?,
-        degree_across: next()?,
-        degree_up: next()?,
-        class: next()?,
-    };
-    let count = next()?;
+    let count = next(&mut rest)?;
     let mut cells: Vec<u64> = vec![];
     for _ in 0..count {
-        let value = u64::from(next()?);
+        let value = u64::from(next(&mut rest)?);
         match cells.last() {
             None => cells.push(value),
             Some(_) if value == 0 => return Err(12),
             Some(before) => cells.push(before + value),
+        }
+    }
+    if !rest.is_empty() {
+        (plan.corners_across, plan.corners_up) = (next(&mut rest)?, next(&mut rest)?);
+        if (plan.corners_across, plan.corners_up) == (0, 0) {
+            return Err(12); // to be left out
         }
     }
     Ok(Listing { plan, cells, rest })
@@ -135,9 +147,75 @@ pub fn write(plan: Plan, cells: &[u8], functions: &[u8], room: usize) -> Result<
     ];
     numbers.extend(refined.first());
     numbers.extend(refined.windows(2).map(|pair| pair[1] - pair[0]));
+    if (plan.corners_across, plan.corners_up) != (0, 0) {
+        numbers.extend([plan.corners_across, plan.corners_up]);
+    }
     let file = numbers.into_iter().flat_map(number).collect::<Vec<u8>>();
     if room < file.len() {
         return Err(10);
     }
     Ok(file)
+}
+
+#[cfg(test)]
+mod tests {
+    use super::*;
+
+    fn number_of(file: &[u8]) -> u32 {
+        let (plan, refused) = read(file, 0, 0);
+        let number = refused.expect_err("no tables");
+        assert_eq!(plan == NO_PLAN, [12, 1, 2].contains(&number), "{file:?}");
+        number
+    }
+
+    /// 3 is what a good file gets where there are no tables.
+    #[test]
+    fn corners_behind_the_last_cell() {
+        for (rest, number) in [
+            (&[][..], 3),
+            (&[2, 0], 3),
+            (&[0, 2], 3),
+            (&[6, 2], 3),
+            // Alone, cut off, too long, not shortest, or both 0.
+            (&[2], 12),
+            (&[0], 12),
+            (&[0x80], 12),
+            (&[2, 0x80], 12),
+            (&[2, 0x82, 0x00], 12),
+            (&[0x82, 0x00, 2], 12),
+            (&[2, 0x80, 0x80, 0x80, 0x01], 12),
+            (&[0, 0], 12),
+            (&[0, 0, 2], 12),
+            // Bits outside 1 to A-1 or B-1.
+            (&[1, 0], 1),
+            (&[8, 0], 1),
+            (&[0, 1], 1),
+            (&[0, 4], 1),
+            (&[2, 0x80, 0x80, 0x01], 1),
+            // What follows both is not looked at before the tables.
+            (&[2, 0, 0x80], 3),
+        ] {
+            for cells in [&[0][..], &[1, 5], &[2, 0, 1]] {
+                let file = [&[3, 2, 2, 2, 2, 2], cells, rest].concat();
+                assert_eq!(number_of(&file), number, "{file:?}");
+            }
+        }
+    }
+
+    #[test]
+    fn both_corner_numbers_or_none() {
+        for (corners, rest) in
+            [((0, 0), &[][..]), ((2, 0), &[2, 0]), ((0, 2), &[0, 2]), ((6, 2), &[6, 2])]
+        {
+            let file = [&[3, 2, 2, 2, 2, 2, 1, 4], rest].concat();
+            let (plan, _) = read(&file, 0, 0);
+            assert_eq!((plan.corners_across, plan.corners_up), corners);
+            let (t, f) = (plan.cell_total(), plan.function_total());
+            let (cells, functions) = read(&file, t, f).1.expect("a mesh");
+            assert_eq!(write(plan, &cells, &functions, file.len()), Ok(file.clone()));
+            assert_eq!(write(plan, &cells, &functions, file.len() - 1), Err(10));
+            let longer = [&file[..], if rest.is_empty() { &[2, 0, 5] } else { &[5] }].concat();
+            assert_eq!(read(&longer, t, f).1, Err(if rest.is_empty() { 3 } else { 13 }));
+        }
+    }
 }

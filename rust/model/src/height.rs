@@ -1,10 +1,11 @@
 //! The height of the surface at a point: the sum over the active functions of height times B-spline
-//! value, over open uniform knots.
+//! value, over the knots of the function's level.
 //!
 //! All numbers are exact fractions. The B-splines are the textbook's: the recursion of Cox and de
 //! Boor over the knots as a list, where 0/0 is 0. Every active function is in the sum, near the point
 //! or not.
 
+use crate::knots::Knots;
 use crate::{check, Function, Plan, ACTIVE};
 use std::ops::{Add, Div, Mul, Sub};
 
@@ -95,13 +96,9 @@ impl PartialOrd for Fraction {
     }
 }
 
-/// The open uniform knots over n cells: each inner line once, each end degree + 1 times.
-pub fn knots(n: u32, degree: u32) -> Vec<Fraction> {
-    let ends = degree as usize + 1;
-    let mut knots = vec![Fraction::ZERO; ends];
-    knots.extend((1..n).map(|line| Fraction::whole(line.into())));
-    knots.extend(vec![Fraction::whole(n.into()); ends]);
-    knots
+/// The knots as numbers, of which a cell is one long.
+pub fn places(knots: &Knots) -> Vec<Fraction> {
+    knots.list().iter().map(|&line| Fraction::whole(line.into())).collect()
 }
 
 /// The value at x of B-spline i of this degree. The last interval that is not empty has its far end
@@ -131,12 +128,12 @@ pub fn far_edges(plan: Plan) -> (u32, u32) {
 pub fn value(plan: Plan, function: Function, across: u32, up: u32) -> Fraction {
     let Function { level, row, column } = function;
     let eighths = 8 * 2i128.pow(plan.levels - 1 - level);
-    let in_one_direction = |n, degree, i, place: u32| {
+    let in_one_direction = |knots: &Knots, degree: u32, i: u32, place: u32| {
         let x = Fraction::new(place.into(), eighths);
-        b_spline(&knots(n, degree), i as usize, degree as usize, x)
+        b_spline(&places(knots), i as usize, degree as usize, x)
     };
-    in_one_direction(plan.width(level), plan.degree_across, column, across)
-        * in_one_direction(plan.height(level), plan.degree_up, row, up)
+    in_one_direction(&plan.across(level), plan.degree_across, column, across)
+        * in_one_direction(&plan.up(level), plan.degree_up, row, up)
 }
 
 /// A function's height in millimetres: on level k the unit is 16^-k of them.
@@ -177,4 +174,115 @@ pub fn height(
         sum + height * value(plan, function, across, up)
     };
     Ok(active.iter().fold(Fraction::ZERO, sum))
+}
+
+#[cfg(test)]
+mod tests {
+    use super::*;
+    use crate::knots::Direction;
+    use std::rc::Rc;
+
+    fn over(numerator: i128, denominator: i128) -> Fraction {
+        Fraction::new(numerator, denominator)
+    }
+
+    /// Directions of a few columns, with all corners that they can have.
+    fn each_direction(mut visit: impl FnMut(Direction, Rc<Knots>)) {
+        for degree in 1..=4 {
+            for (columns, level) in [(1, 0), (2, 0), (3, 0), (4, 0), (2, 1), (3, 1), (2, 2)] {
+                for corners in (0..1 << (columns - 1)).map(|set| set << 1) {
+                    let direction = Direction { columns, level, degree, corners };
+                    visit(direction, Knots::of(direction));
+                }
+            }
+        }
+    }
+
+    /// B-splines with the intervals closed at their far ends instead, so that on a line the cell
+    /// before it counts: the limit from the left.
+    fn from_left(knots: &[Fraction], i: usize, degree: usize, x: Fraction) -> Fraction {
+        if degree == 0 {
+            let inside = knots[i] < x && x <= knots[i + 1];
+            return if inside { Fraction::ONE } else { Fraction::ZERO };
+        }
+        let ratio = |part: Fraction, of: Fraction| match of {
+            Fraction::ZERO => Fraction::ZERO,
+            _ => part / of,
+        };
+        let rising = ratio(x - knots[i], knots[i + degree] - knots[i]);
+        let falling = ratio(knots[i + degree + 1] - x, knots[i + degree + 1] - knots[i + 1]);
+        rising * from_left(knots, i, degree - 1, x)
+            + falling * from_left(knots, i + 1, degree - 1, x)
+    }
+
+    /// Six columns of degree 2 with a corner before column 3: the function over the corner has the
+    /// knots 2 3 3 4, the one before it 1 2 3 3.
+    #[test]
+    fn at_a_corner_by_hand() {
+        let direction = Direction { columns: 6, level: 0, degree: 2, corners: 1 << 3 };
+        let knots = places(&Knots::of(direction));
+        let eighths =
+            |i: usize, places: [i128; 7]| places.map(|x| b_spline(&knots, i, 2, over(x, 8)));
+        let of_eight = |numerators: [i128; 7]| numerators.map(|numerator| over(numerator, 8));
+        assert_eq!(eighths(4, [16, 20, 22, 24, 26, 28, 32]), {
+            [over(0, 1), over(1, 4), over(9, 16), over(1, 1), over(9, 16), over(1, 4), over(0, 1)]
+        });
+        assert_eq!(eighths(3, [8, 12, 16, 20, 24, 25, 32]), of_eight([0, 1, 4, 5, 0, 0, 0]));
+        assert_eq!(eighths(5, [16, 23, 24, 28, 32, 36, 40]), of_eight([0, 0, 0, 5, 4, 1, 0]));
+    }
+
+    #[test]
+    fn values_make_1() {
+        each_direction(|direction, knots| {
+            let (places, degree) = (places(&knots), direction.degree as usize);
+            for place in 0..=8 * direction.cells() {
+                let x = over(place.into(), 8);
+                let mut sum = Fraction::ZERO;
+                for i in 0..knots.functions() {
+                    let value = b_spline(&places, i as usize, degree, x);
+                    assert!(value >= Fraction::ZERO && value <= Fraction::ONE);
+                    // 0 outside the support, and not 0 inside.
+                    let covered = knots.covered(i);
+                    let (from, to) = (8 * covered.start, 8 * covered.end);
+                    assert!((from..=to).contains(&place) || value == Fraction::ZERO);
+                    assert!(!(from + 1..to).contains(&place) || value > Fraction::ZERO);
+                    sum = sum + value;
+                }
+                assert_eq!(sum, Fraction::ONE, "{direction:?} {place}");
+            }
+        });
+    }
+
+    /// On lines, those of corners among them, the limit from the left is the value.
+    #[test]
+    fn functions_are_continuous() {
+        each_direction(|direction, knots| {
+            let (places, degree) = (places(&knots), direction.degree as usize);
+            for place in 1..=8 * direction.cells() {
+                let x = over(place.into(), 8);
+                for i in 0..knots.functions() as usize {
+                    let value = b_spline(&places, i, degree, x);
+                    assert_eq!(
+                        from_left(&places, i, degree, x),
+                        value,
+                        "{direction:?} {place} {i}"
+                    );
+                }
+            }
+        });
+    }
+
+    /// On the line of a corner one function alone has a value, and it is 1.
+    #[test]
+    fn one_function_on_a_corner() {
+        each_direction(|direction, knots| {
+            for bit in (1..direction.columns).filter(|bit| direction.corners >> bit & 1 == 1) {
+                let x = Fraction::whole((bit << direction.level).into());
+                let value = |i| b_spline(&places(&knots), i as usize, direction.degree as usize, x);
+                let there: Vec<Fraction> =
+                    (0..knots.functions()).map(value).filter(|&v| v != Fraction::ZERO).collect();
+                assert_eq!(there, [Fraction::ONE], "{direction:?}");
+            }
+        });
+    }
 }

@@ -1,18 +1,21 @@
 //! A model of the library, written from the definitions alone and sharing nothing with it.
 //!
 //! It restates the words: meshes are sets of refined cells, "smallest" is adding what is missing
-//! until nothing is, and every label is read off the cells of the support. Nothing is tuned beyond
-//! walking a rectangle instead of searching all cells for it.
+//! until nothing is, every label is read off the cells of the support, and every support off the
+//! knots. Nothing is tuned beyond walking a rectangle instead of searching all cells for it, and
+//! keeping the knots of a level.
 //!
 //! The calls are pure: a refusal is `Err` with its number, and an accepted call answers the new
 //! tables and the two lists. The terms are those of the literature; the scope document calls a mesh
 //! a wall, refining and coarsening splitting and joining, admissible graded, reactivable joinable.
 
+use knots::{Direction, Knots};
 use std::collections::BTreeSet;
-use std::ops::RangeInclusive;
+use std::rc::Rc;
 
 pub mod file;
 pub mod height;
+pub mod knots;
 pub mod session;
 
 #[derive(Clone, Copy, Debug, PartialEq, Eq)]
@@ -23,6 +26,10 @@ pub struct Plan {
     pub degree_across: u32,
     pub degree_up: u32,
     pub class: u32,
+    /// Bit k marks the line of level 0 before column k as a corner.
+    pub corners_across: u32,
+    /// The same with rows.
+    pub corners_up: u32,
 }
 
 /// A cell by its place. The order of the fields makes the order of places that of the numbers.
@@ -77,6 +84,18 @@ impl Plan {
         self.rows * 2u32.pow(level)
     }
 
+    /// The knots across on a level, and with them its functions across.
+    pub fn across(self, level: u32) -> Rc<Knots> {
+        let (columns, degree, corners) = (self.columns, self.degree_across, self.corners_across);
+        Knots::of(Direction { columns, level, degree, corners })
+    }
+
+    /// The knots up on a level, and with them its functions up.
+    pub fn up(self, level: u32) -> Rc<Knots> {
+        let (columns, degree, corners) = (self.rows, self.degree_up, self.corners_up);
+        Knots::of(Direction { columns, level, degree, corners })
+    }
+
     /// All cells of all levels in the order of their numbers.
     pub fn cells(self) -> impl Iterator<Item = Cell> {
         (0..self.levels).flat_map(move |level| {
@@ -89,13 +108,9 @@ impl Plan {
     /// All functions of all levels in the order of their numbers.
     pub fn functions(self) -> impl Iterator<Item = Function> {
         (0..self.levels).flat_map(move |level| {
-            (0..self.height(level) + self.degree_up).flat_map(move |row| {
-                (0..self.width(level) + self.degree_across).map(move |column| Function {
-                    level,
-                    row,
-                    column,
-                })
-            })
+            let (across, up) = (self.across(level).functions(), self.up(level).functions());
+            (0..up)
+                .flat_map(move |row| (0..across).map(move |column| Function { level, row, column }))
         })
     }
 
@@ -115,9 +130,7 @@ impl Plan {
     }
 
     fn functions_of_level(self, level: u32) -> usize {
-        let across = self.width(level) + self.degree_across;
-        let up = self.height(level) + self.degree_up;
-        across as usize * up as usize
+        self.across(level).functions() as usize * self.up(level).functions() as usize
     }
 
     pub fn cell_number(self, cell: Cell) -> usize {
@@ -128,7 +141,7 @@ impl Plan {
 
     pub fn function_number(self, function: Function) -> usize {
         let before: usize = (0..function.level).map(|level| self.functions_of_level(level)).sum();
-        let across = (self.width(function.level) + self.degree_across) as usize;
+        let across = self.across(function.level).functions() as usize;
         before + function.row as usize * across + function.column as usize
     }
 
@@ -151,7 +164,7 @@ impl Plan {
             rest -= self.functions_of_level(level);
             level += 1;
         }
-        let across = (self.width(level) + self.degree_across) as usize;
+        let across = self.across(level).functions() as usize;
         Function { level, row: (rest / across) as u32, column: (rest % across) as u32 }
     }
 
@@ -172,21 +185,21 @@ impl Plan {
     /// The cells of the function's own level that it covers.
     pub fn support(self, function: Function) -> impl Iterator<Item = Cell> {
         let level = function.level;
-        let rows = covered(function.row, self.degree_up, self.height(level));
-        let columns = covered(function.column, self.degree_across, self.width(level));
+        let rows = self.up(level).covered(function.row);
+        let columns = self.across(level).covered(function.column);
         rows.flat_map(move |row| columns.clone().map(move |column| Cell { level, row, column }))
     }
 
-    /// The cells that must be refined where this one, of level j, is: those of level j-m+1 whose
-    /// column differs by at most p, and row by at most q, from those of its ancestor there.
+    /// The cells that must be refined where this one, of level j, is: those of level j-m+1 that
+    /// are, in both directions, covered by a common function of that level with its ancestor there.
     pub fn neighbourhood(self, cell: Cell) -> Vec<Cell> {
         if self.class == 0 || cell.level + 1 < self.class {
             return Vec::new();
         }
         let ancestor = self.ancestor(cell, self.class - 1);
         let level = ancestor.level;
-        let rows = at_most_apart(ancestor.row, self.degree_up, self.height(level));
-        let columns = at_most_apart(ancestor.column, self.degree_across, self.width(level));
+        let (rows, columns) =
+            (self.up(level).near(ancestor.row), self.across(level).near(ancestor.column));
         rows.flat_map(|row| columns.clone().map(move |column| Cell { level, row, column }))
             .collect()
     }
@@ -204,14 +217,9 @@ impl Plan {
     }
 }
 
-/// In one direction: function i of the given degree covers max(0, i-degree) to min(n-1, i).
-fn covered(i: u32, degree: u32, n: u32) -> RangeInclusive<u32> {
-    i.saturating_sub(degree)..=i.min(n - 1)
-}
-
-/// In one direction: the places of 0 to n-1 that differ from x by at most d.
-fn at_most_apart(x: u32, d: u32, n: u32) -> RangeInclusive<u32> {
-    x.saturating_sub(d)..=(x + d).min(n - 1)
+/// Whether corners are marked on lines between cells alone: bits 1 to n-1.
+fn are_between(corners: u32, n: u32) -> bool {
+    (0..32).filter(|bit| corners >> bit & 1 == 1).all(|bit| (1..n).contains(&bit))
 }
 
 // ---- The two tables ----
@@ -223,7 +231,9 @@ fn refuse_plan(plan: Plan) -> Result<(), u32> {
         && (1..=8).contains(&plan.levels)
         && (1..=4).contains(&plan.degree_across)
         && (1..=4).contains(&plan.degree_up)
-        && (plan.class == 0 || (2..=8).contains(&plan.class));
+        && (plan.class == 0 || (2..=8).contains(&plan.class))
+        && are_between(plan.corners_across, plan.columns)
+        && are_between(plan.corners_up, plan.rows);
     if !in_range {
         return Err(1);
     }
@@ -590,4 +600,161 @@ pub fn coarsen_functions(
         .filter(|&cell| mesh.is_reactivable(cell) && !under_unmarked.contains(&cell))
         .collect();
     mesh.coarsen(meant, cell_room, function_room)
+}
+
+#[cfg(test)]
+mod tests {
+    use super::*;
+
+    fn plan(numbers: [u32; 8]) -> Plan {
+        let [columns, rows, levels, degree_across, degree_up, class, corners_across, corners_up] =
+            numbers;
+        Plan { columns, rows, levels, degree_across, degree_up, class, corners_across, corners_up }
+    }
+
+    /// Plans of few cells and all degrees, with all corners that they can have.
+    fn plans() -> Vec<Plan> {
+        let mut plans = vec![];
+        for (columns, rows, levels) in [(1, 1, 3), (2, 1, 2), (3, 1, 3), (3, 2, 2), (4, 3, 2)] {
+            for (p, q) in (1..=4).flat_map(|p| (1..=4).map(move |q| (p, q))) {
+                for across in (0..1 << (columns - 1)).map(|set| set << 1) {
+                    for up in (0..1 << (rows - 1)).map(|set| set << 1) {
+                        plans.push(plan([columns, rows, levels, p, q, 2, across, up]));
+                    }
+                }
+            }
+        }
+        plans
+    }
+
+    /// Without corners every plan is as the scope document has it.
+    #[test]
+    fn without_corners_as_the_scope_document_has_it() {
+        for plan in plans().into_iter().filter(|plan| plan.corners_across | plan.corners_up == 0) {
+            let (p, q) = (plan.degree_across, plan.degree_up);
+            let of_level = |k: u32| ((plan.columns << k) + p) * ((plan.rows << k) + q);
+            let total: u32 = (0..plan.levels).map(of_level).sum();
+            assert_eq!(plan.function_total(), total as usize);
+            for function in plan.functions() {
+                let Function { level, row, column } = function;
+                let (n, m) = (plan.width(level), plan.height(level));
+                let rows = row.saturating_sub(q)..=row.min(m - 1);
+                let columns = column.saturating_sub(p)..=column.min(n - 1);
+                let covered = |cell: &Cell| {
+                    cell.level == level
+                        && rows.contains(&cell.row)
+                        && columns.contains(&cell.column)
+                };
+                assert!(plan.support(function).eq(plan.cells().filter(covered)), "{function:?}");
+            }
+            for cell in plan.cells().filter(|cell| cell.level > 0) {
+                // Class 2, so that the neighbourhood is one of the parent.
+                let parent = plan.parent(cell).expect("a level above");
+                let near = |other: &Cell| {
+                    other.level == parent.level
+                        && other.row.abs_diff(parent.row) <= q
+                        && other.column.abs_diff(parent.column) <= p
+                };
+                assert!(plan.neighbourhood(cell).into_iter().eq(plan.cells().filter(near)));
+            }
+        }
+    }
+
+    /// In words: a cell is near where some function of its level has both cells in its support.
+    #[test]
+    fn neighbourhoods_are_those_of_common_functions() {
+        for plan in plans().into_iter().filter(|plan| plan.cell_total() <= 63) {
+            for cell in plan.cells().filter(|cell| cell.level > 0) {
+                let parent = plan.parent(cell).expect("a level above");
+                let near: BTreeSet<Cell> = plan
+                    .functions()
+                    .filter(|function| function.level == parent.level)
+                    .filter(|&function| plan.support(function).any(|cell| cell == parent))
+                    .flat_map(|function| plan.support(function))
+                    .collect();
+                assert!(plan.neighbourhood(cell).into_iter().eq(near), "{plan:?} {cell:?}");
+            }
+        }
+    }
+
+    #[test]
+    fn numbers_of_functions() {
+        for plan in plans() {
+            assert_eq!(plan.functions().count(), plan.function_total());
+            for (number, function) in plan.functions().enumerate() {
+                assert_eq!(plan.function_number(function), number);
+                assert_eq!(plan.function_at(number), function);
+            }
+        }
+    }
+
+    /// Every cell has as many functions over it as without corners.
+    #[test]
+    fn functions_over_a_cell() {
+        for plan in plans() {
+            let mut over = vec![0; plan.cell_total()];
+            for cell in plan.functions().flat_map(|function| plan.support(function)) {
+                over[plan.cell_number(cell)] += 1;
+            }
+            let each = (plan.degree_across + 1) * (plan.degree_up + 1);
+            assert!(over.iter().all(|&many| many == each), "{plan:?}");
+        }
+    }
+
+    /// Where the degree is 1 a corner is a line like others.
+    #[test]
+    fn corners_of_degree_1() {
+        for plan in plans() {
+            let across = if plan.degree_across == 1 { 0 } else { plan.corners_across };
+            let up = if plan.degree_up == 1 { 0 } else { plan.corners_up };
+            let plain = Plan { corners_across: across, corners_up: up, ..plan };
+            assert_eq!(plan.function_total(), plain.function_total());
+            for function in plan.functions() {
+                assert!(plan.support(function).eq(plain.support(function)));
+            }
+            for cell in plan.cells() {
+                assert_eq!(plan.neighbourhood(cell), plain.neighbourhood(cell));
+            }
+        }
+    }
+
+    /// Of all plans of so many cells, with every line a corner and without any.
+    fn most_functions(cells: usize, all: bool) -> usize {
+        let sizes = (1..=16).flat_map(|columns| (1..=16).map(move |rows| (columns, rows)));
+        sizes
+            .flat_map(|(columns, rows)| (1..=8).map(move |levels| (columns, rows, levels)))
+            .map(|(columns, rows, levels)| {
+                let corners = |n: u32| if all { (1 << n) - 2 } else { 0 };
+                plan([columns, rows, levels, 4, 4, 0, corners(columns), corners(rows)])
+            })
+            .filter(|plan| plan.cell_total() <= cells)
+            .map(Plan::function_total)
+            .max()
+            .expect("a plan")
+    }
+
+    #[test]
+    fn the_most_functions() {
+        assert_eq!(plan([16, 16, 4, 4, 4, 0, 0xfffe, 0xfffe]).function_total(), 54_884);
+        assert_eq!(most_functions(21_845, true), 54_884);
+        assert_eq!(most_functions(21_845, false), 26_220);
+        // Those of a session.
+        assert_eq!(most_functions(session::WALL_CELLS, true), 18_001);
+        assert_eq!(most_functions(session::WALL_CELLS, false), 5_784);
+    }
+
+    /// Bits 1 to n-1, and no others.
+    #[test]
+    fn corners_out_of_range() {
+        for columns in 1..=16 {
+            for bit in 0..32 {
+                let good = bit >= 1 && bit < columns;
+                let expected = if good { Ok(()) } else { Err(1) };
+                assert_eq!(refuse_plan(plan([columns, 1, 3, 2, 2, 2, 1 << bit, 0])), expected);
+                assert_eq!(refuse_plan(plan([1, columns, 3, 2, 2, 2, 0, 1 << bit])), expected);
+                let all = (1 << columns) - 2 | 1 << bit;
+                assert_eq!(refuse_plan(plan([columns, 1, 3, 2, 2, 2, all, 0])), expected);
+            }
+        }
+    }
 }

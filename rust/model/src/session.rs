@@ -63,11 +63,19 @@ fn number(field: &str) -> Option<u32> {
     digits.then(|| field.parse().ok())?
 }
 
+/// The line may end in both corner numbers, and not in one.
 fn open(wall: &mut Option<Wall>, numbers: &[u32]) -> String {
-    let &[columns, rows, levels, degree_across, degree_up, class] = numbers else {
+    let &[columns, rows, levels, degree_across, degree_up, class, ref corners @ ..] = numbers
+    else {
         return "?".to_string();
     };
-    let plan = Plan { columns, rows, levels, degree_across, degree_up, class };
+    let (corners_across, corners_up) = match *corners {
+        [] => (0, 0),
+        [across, up] => (across, up),
+        _ => return "?".to_string(),
+    };
+    let plan =
+        Plan { columns, rows, levels, degree_across, degree_up, class, corners_across, corners_up };
     if let Err(number) = crate::refuse_plan(plan) {
         return format!("{number};;");
     }

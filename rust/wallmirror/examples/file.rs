@@ -2,7 +2,7 @@ use std::{env, error, fs, process};
 use wallmirror::{open, refine_cells, Cell, Function, Mesh, Plan};
 
 fn main() -> Result<(), Box<dyn error::Error>> {
-    let plan = Plan { columns: 3, rows: 1, levels: 3, degree_across: 1, degree_up: 1, class: 2 };
+    let plan = Plan { columns: 3, levels: 3, class: 2, ..Plan::default() };
     let (t, f) = (plan.cells().unwrap(), plan.functions().unwrap());
     let (mut cells, mut functions) = (vec![0; t], vec![0; f]);
     let (mut cell_list, mut function_list) = (vec![Cell(0); t], vec![Function(0); f]);

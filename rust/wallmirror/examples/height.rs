@@ -15,7 +15,15 @@ fn main() -> ExitCode {
 }
 
 fn print_heights() -> Result<(), Refusal> {
-    let plan = Plan { columns: 4, rows: 4, levels: 2, degree_across: 2, degree_up: 2, class: 2 };
+    let plan = Plan {
+        columns: 4,
+        rows: 4,
+        levels: 2,
+        degree_across: 2,
+        degree_up: 2,
+        class: 2,
+        ..Plan::default() // no corners
+    };
     let (t, f) = (plan.cells().unwrap(), plan.functions().unwrap());
     let (mut cells, mut functions) = (vec![0; t], vec![0; f]);
     let (mut cell_list, mut function_list) = (vec![Cell(0); t], vec![Function(0); f]);
@@ -38,11 +46,10 @@ fn print_heights() -> Result<(), Refusal> {
     Ok(())
 }
 
-/// The number of a function: those of the levels above, then row by row, with columns + degree to a
-/// row.
-fn function_at(plan: Plan, level: u32, row: u32, column: u32) -> usize {
-    let across = |level| (plan.columns << level) + plan.degree_across;
-    let up = |level| (plan.rows << level) + plan.degree_up;
-    let before: u32 = (0..level).map(|level| across(level) * up(level)).sum();
-    (before + row * across(level) + column) as usize
+/// The number of a function: those of the levels above, then row by row.
+fn function_at(plan: Plan, level: u32, row: usize, column: usize) -> usize {
+    let across = |level| plan.functions_across(level).unwrap();
+    let up = |level| plan.functions_up(level).unwrap();
+    let before: usize = (0..level).map(|level| across(level) * up(level)).sum();
+    before + row * across(level) + column
 }

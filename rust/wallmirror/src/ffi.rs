@@ -12,6 +12,8 @@ pub struct Plan {
     pub degree_across: u32,
     pub degree_up: u32,
     pub class: u32,
+    pub corners_across: u32,
+    pub corners_up: u32,
 }
 
 /// What [`wallmirror_count`] answers. After a refusal all but the number are 0.

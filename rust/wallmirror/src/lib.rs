@@ -12,7 +12,16 @@
 //! ```
 //! use wallmirror::{open, refine_cells, Cell, Function, Plan};
 //!
-//! let plan = Plan { columns: 3, rows: 1, levels: 3, degree_across: 1, degree_up: 1, class: 2 };
+//! let plan = Plan {
+//!     columns: 3,
+//!     rows: 1,
+//!     levels: 3,
+//!     degree_across: 1,
+//!     degree_up: 1,
+//!     class: 2,
+//!     corners_across: 0,
+//!     corners_up: 0,
+//! };
 //! let (t, f) = (plan.cells().unwrap(), plan.functions().unwrap());
 //! let (mut cells, mut functions) = (vec![0; t], vec![0; f]);
 //! let (mut cell_list, mut function_list) = (vec![Cell(0); t], vec![Function(0); f]);
@@ -33,14 +42,21 @@
 //! by level, row by row. The cell at column c, row r has four children one level down, at columns
 //! 2c and 2c + 1 and rows 2r and 2r + 1.
 //!
-//! On a level of n columns, with degree p across, there are n + p functions across; function i
-//! covers columns max(0, i - p) to min(n - 1, i). Up it is the same with the rows and the degree
-//! up. The support of a function is the rectangle of both, made of cells of its own level.
-//! Functions are numbered like cells, with n + p to a row.
+//! Functions follow from knots, and these stand on the grid lines. On a level of n columns line x
+//! is the one before column x, and there are lines 0 to n. With degree p across the knot on the
+//! first and on the last line is taken p + 1 times, the one on a corner p times, any other once.
+//! With all of them in rising order, from 0 on, function i across covers the columns from knot i to
+//! just before knot i + p + 1, and there is one for every p + 2 knots in a row. Up it is the same
+//! with the rows, the degree up and the corners up. The support of a function is the rectangle of
+//! both, made of cells of its own level. Functions are numbered like cells, row by row, with
+//! [`Plan::functions_across`] to a row.
+//!
+//! Without corners that is n + p functions across, of which function i covers columns max(0, i - p)
+//! to min(n - 1, i).
 //!
 //! ```
 //! # use wallmirror::{open, refine_functions, Cell, Function, Plan};
-//! let plan = Plan { columns: 3, rows: 2, levels: 3, degree_across: 2, degree_up: 1, class: 0 };
+//! let plan = Plan { columns: 3, rows: 2, levels: 3, degree_across: 2, ..Plan::default() };
 //! # let (t, f) = (plan.cells().unwrap(), plan.functions().unwrap());
 //! # let (mut cells, mut functions) = (vec![0; t], vec![0; f]);
 //! # let (mut cell_list, mut function_list) = (vec![Cell(0); t], vec![Function(0); f]);
@@ -55,9 +71,40 @@
 //! ```
 //!
 //! In class m, not 0, a refined cell of level j with j - m + 1 at least 0 has a neighbourhood: the
-//! cells of level j - m + 1 whose column differs by at most the degree across, and row by at most
-//! the degree up, from those of its ancestor there. A mesh is admissible where the neighbourhood of
-//! every refined cell is refined. In class 0 every mesh is.
+//! cells of level j - m + 1 that, across as well as up, are covered by a common function of that
+//! level with its ancestor there. Without corners these are the cells whose column differs by at
+//! most the degree across, and row by at most the degree up, from those of the ancestor; with them
+//! there may be fewer. A mesh is admissible where the neighbourhood of every refined cell is
+//! refined. In class 0 every mesh is.
+//!
+//! # Corners
+//!
+//! Bit k of `corners_across` marks the line of level 0 before column k as a corner, for k from 1 to
+//! columns - 1, and bit k of `corners_up` the line before row k, for k from 1 to rows - 1. The line
+//! is a corner on every level: on level j it is the one before column k · 2^j. The surface may have
+//! a kink there: functions are continuous across a corner, and no more. Each corner adds p - 1
+//! functions across to every level, so c corners make it n + p + (p - 1) · c, and functions beside
+//! it cover fewer columns. With degree 1 a corner changes nothing but the file, since every line
+//! may have a kink then. The cells and their numbers have nothing to do with corners.
+//!
+//! ```
+//! # use wallmirror::{open, refine_cells, Cell, Function, Plan};
+//! let smooth = Plan { columns: 3, levels: 2, degree_across: 2, ..Plan::default() };
+//! let plan = Plan { corners_across: 1 << 1, ..smooth };
+//! // The knots across on level 0 are 0 0 0 1 1 2 3 3 3: functions cover the columns 0, 0, 0 to 1,
+//! // 1 to 2, 1 to 2 and 2, and there are two rows of them.
+//! assert_eq!((smooth.functions_across(0), plan.functions_across(0)), (Some(5), Some(6)));
+//! let (t, f) = (plan.cells().unwrap(), plan.functions().unwrap());
+//! # let (mut cells, mut functions) = (vec![0; t], vec![0; f]);
+//! # let (mut cell_list, mut function_list) = (vec![Cell(0); t], vec![Function(0); f]);
+//! open(plan, &mut cells, &mut functions)?;
+//! let marks = [Cell(0)];
+//! let changed =
+//!     refine_cells(plan, &mut cells, &mut functions, &marks, &mut cell_list, &mut function_list)?;
+//! // Of each row the two functions over cell 0 alone. Without the corner it is one.
+//! assert_eq!(function_list[..changed.functions], [0, 1, 6, 7].map(Function));
+//! # Ok::<(), wallmirror::Refusal>(())
+//! ```
 //!
 //! # Levels over a cell
 //!
@@ -65,12 +112,14 @@
 //! levels. In class m, not 0, the active functions over an active cell of level k all have levels
 //! from k - m + 1 to k. Functions of finer levels are passive there, those of coarser ones
 //! deactivated. So who draws or sums the functions over a cell has at most m levels to look at, and
-//! on each the functions over the cell's ancestor there: `degree_across` + 1 of them across, from
-//! the ancestor's column on, and `degree_up` + 1 up, from its row on.
+//! on each the functions over the cell's ancestor there: `degree_across` + 1 of them in a row
+//! across and `degree_up` + 1 up. Those over column x begin with function
+//! x + (`degree_across` - 1) · c, where c corners are on lines 1 to x of that level; up it is the
+//! same.
 //!
 //! ```
 //! # use wallmirror::{open, refine_cells, Cell, Function, Plan};
-//! let plan = Plan { columns: 3, rows: 1, levels: 3, degree_across: 1, degree_up: 1, class: 2 };
+//! let plan = Plan { columns: 3, levels: 3, class: 2, ..Plan::default() };
 //! # let (mut cells, mut functions) = (vec![0; 63], vec![0; 94]);
 //! # let (mut cell_list, mut function_list) = ([Cell(0); 63], [Function(0); 94]);
 //! # open(plan, &mut cells, &mut functions)?;
@@ -80,8 +129,8 @@
 //! # }
 //! // Cells 0, 1 and 3 are refined. Cell 15 is active, the first of level 2.
 //! let (k, row, column) = (2, 0, 0);
-//! let across = |level| (plan.columns << level) + plan.degree_across;
-//! let up = |level| (plan.rows << level) + plan.degree_up;
+//! let across = |level| plan.functions_across(level).unwrap() as u32;
+//! let up = |level| plan.functions_up(level).unwrap() as u32;
 //! let mut active = vec![];
 //! for level in (k + 1u32).saturating_sub(plan.class)..=k {
 //!     let first: u32 = (0..level).map(|level| up(level) * across(level)).sum();
@@ -113,7 +162,7 @@
 //!
 //! ```
 //! # use wallmirror::{coarsen_cells, open, refine_functions, Cell, Function, Plan};
-//! # let plan = Plan { columns: 3, rows: 1, levels: 3, degree_across: 1, degree_up: 1, class: 0 };
+//! # let plan = Plan { columns: 3, levels: 3, ..Plan::default() };
 //! # let (mut cells, mut functions) = (vec![0; 63], vec![0; 94]);
 //! # let (mut cell_list, mut function_list) = ([Cell(0); 63], [Function(0); 94]);
 //! # open(plan, &mut cells, &mut functions)?;
@@ -139,15 +188,16 @@
 //!
 //! [`Mesh::to_file`] makes bytes of a mesh, to be kept where one likes, and [`Mesh::from_file`]
 //! makes the mesh of them; [`write()`] and [`read`] are the same with lent slices. A file is a list
-//! of numbers: the six of the plan, how many cells are refined, the first refined cell if there is
-//! one, then for each further one, in rising order, its difference from the one before. A number is
-//! written in groups of seven bits, one to a byte, the lowest first, with the high bit set in all
-//! but the last; in as few groups as it needs, and at most three. So one mesh has one file, the
-//! same on every machine.
+//! of numbers: the first six of the plan, how many cells are refined, the first refined cell if
+//! there is one, then for each further one, in rising order, its difference from the one before;
+//! and then the corners across and up, which are left out if both are 0. A number is written in
+//! groups of seven bits, one to a byte, the lowest first, with the high bit set in all but the
+//! last; in as few groups as it needs, and at most three. So one mesh has one file, the same on
+//! every machine.
 //!
 //! ```
 //! # use wallmirror::{open, refine_cells, Cell, Function, Mesh, Plan};
-//! # let plan = Plan { columns: 3, rows: 1, levels: 3, degree_across: 1, degree_up: 1, class: 0 };
+//! # let plan = Plan { columns: 3, levels: 3, ..Plan::default() };
 //! # let (mut cells, mut functions) = (vec![0; 63], vec![0; 94]);
 //! # let (mut cell_list, mut function_list) = ([Cell(0); 63], [Function(0); 94]);
 //! open(plan, &mut cells, &mut functions)?;
@@ -158,6 +208,9 @@
 //! // The plan, two refined cells, cell 0, and one more.
 //! assert_eq!(file, [3, 1, 3, 1, 1, 0, 2, 0, 1]);
 //! assert_eq!(Mesh::from_file(&file)?, mesh);
+//! // The same with a corner before column 2, which changes nothing else where the degree is 1.
+//! let cornered = Mesh { plan: Plan { corners_across: 1 << 2, ..plan }, ..mesh };
+//! assert_eq!(cornered.to_file()?, [3, 1, 3, 1, 1, 0, 2, 0, 1, 4, 0]);
 //! # Ok::<(), wallmirror::Refusal>(())
 //! ```
 //!
@@ -165,20 +218,19 @@
 //!
 //! The active functions carry a surface: its height at a point is the sum, over all active
 //! functions, of the function's height times its value there. The value is that of a B-spline
-//! across times that of one up. Their knots are the grid lines of the function's level, each inner
-//! one once and the two ends degree + 1 times each. The heights of the functions are whole numbers,
-//! one for each function of each level, in the order of their numbers; on level k the unit is 16^-k
-//! mm. Whatever stands there for a function that is not active is ignored. A point is two whole
-//! numbers, across and up, in eighths of a cell of the last level, from 0 to the far edge: 8 ·
-//! columns · 2^(levels - 1) across and 8 · rows · 2^(levels - 1) up. The far edges are included; the
-//! last function has the value 1 there.
+//! across times that of one up, over the knots of the function's level as above. The heights of the
+//! functions are whole numbers, one for each function of each level, in the order of their numbers;
+//! on level k the unit is 16^-k mm. Whatever stands there for a function that is not active is
+//! ignored. A point is two whole numbers, across and up, in eighths of a cell of the last level,
+//! from 0 to the far edge: 8 · columns · 2^(levels - 1) across and 8 · rows · 2^(levels - 1) up.
+//! The far edges are included; the last function has the value 1 there.
 //!
 //! With degrees 1 and 2 and at most four levels the height in mm is a multiple of
 //! 2^-(10 + 4 · levels), and what [`height`] answers is the sum itself, with no bit rounded away.
 //!
 //! ```
 //! # use wallmirror::{height, open, refine_cells, Cell, Function, Plan};
-//! let plan = Plan { columns: 3, rows: 1, levels: 3, degree_across: 1, degree_up: 1, class: 2 };
+//! let plan = Plan { columns: 3, levels: 3, class: 2, ..Plan::default() };
 //! # let (mut cells, mut functions) = (vec![0; 63], vec![0; 94]);
 //! # let (mut cell_list, mut function_list) = ([Cell(0); 63], [Function(0); 94]);
 //! # open(plan, &mut cells, &mut functions)?;
@@ -201,6 +253,7 @@
 //! | levels | 1 to 8 |
 //! | degrees across and up | 1 to 4 |
 //! | class | 0, or 2 to 8 |
+//! | corners across, corners up | bits 1 to columns - 1, bits 1 to rows - 1 |
 //! | cells on all levels together | at most [`MAX_CELLS`] |
 //! | functions of such a plan | at most [`MAX_FUNCTIONS`] |
 //! | marks of a call | any number |
@@ -233,6 +286,34 @@ pub struct Plan {
     pub degree_up: u32,
     /// Class of admissibility, 2 to 8, or 0: every mesh is admissible.
     pub class: u32,
+    /// Bit k, 1 to columns - 1: the line of level 0 before column k is a corner. 0 for none.
+    pub corners_across: u32,
+    /// Bit k, 1 to rows - 1: the line of level 0 before row k is a corner. 0 for none.
+    pub corners_up: u32,
+}
+
+impl Default for Plan {
+    /// The smallest plan, in which each number is the least that it may be: one column, row and
+    /// level, degrees 1, class 0 and no corners.
+    ///
+    /// ```
+    /// # use wallmirror::Plan;
+    /// let plan = Plan { columns: 3, levels: 3, class: 2, ..Plan::default() };
+    /// assert_eq!((plan.rows, plan.degree_across, plan.degree_up), (1, 1, 1));
+    /// assert_eq!((plan.corners_across, plan.corners_up), (0, 0));
+    /// ```
+    fn default() -> Plan {
+        Plan {
+            columns: 1,
+            rows: 1,
+            levels: 1,
+            degree_across: 1,
+            degree_up: 1,
+            class: 0,
+            corners_across: 0,
+            corners_up: 0,
+        }
+    }
 }
 
 /// The version of this crate, which is that of the C header.
@@ -242,10 +323,10 @@ pub const VERSION: &str = env!("CARGO_PKG_VERSION");
 pub const MAX_CELLS: usize = 21_845;
 
 /// The most functions that a mesh of at most [`MAX_CELLS`] cells has.
-pub const MAX_FUNCTIONS: usize = 26_220;
+pub const MAX_FUNCTIONS: usize = 54_884;
 
 /// The most bytes that the file of a mesh has.
-pub const MAX_FILE_BYTES: usize = 5_469;
+pub const MAX_FILE_BYTES: usize = 5_470;
 
 /// The greatest height of an active function in millimetres, either way. It is met exactly: on level
 /// k the heights go from -65,536 · 16^k to 65,536 · 16^k.
@@ -254,7 +335,7 @@ pub const MAX_HEIGHT_MM: u32 = 65_536;
 /// The most stack that any call takes, in bytes: what a thread must have left when it calls. The
 /// library allocates nothing, so whatever it needs beside the tables and lists is there. A thread
 /// itself needs some more: with 16 KiB added, [`std::thread::Builder::stack_size`] is large enough.
-pub const STACK_BYTES: usize = 131_072;
+pub const STACK_BYTES: usize = 262_144;
 
 impl Plan {
     /// The length of the cell table, and the most entries that a cell list needs. `None` for a plan
@@ -262,7 +343,7 @@ impl Plan {
     ///
     /// ```
     /// # use wallmirror::Plan;
-    /// let plan = Plan { columns: 3, rows: 1, levels: 3, degree_across: 1, degree_up: 1, class: 2 };
+    /// let plan = Plan { columns: 3, levels: 3, class: 2, ..Plan::default() };
     /// assert_eq!(plan.cells(), Some(63));
     /// assert_eq!(plan.functions(), Some(94));
     /// assert_eq!(Plan { columns: 17, ..plan }.cells(), None);
@@ -273,11 +354,15 @@ impl Plan {
             && (1..=8).contains(&self.levels)
             && (1..=4).contains(&self.degree_across)
             && (1..=4).contains(&self.degree_up)
-            && (self.class == 0 || (2..=8).contains(&self.class));
+            && (self.class == 0 || (2..=8).contains(&self.class))
+            // A shift by at most 16.
+            && self.corners_across & !((1 << self.columns) - 2) == 0
+            && self.corners_up & !((1 << self.rows) - 2) == 0;
         if !in_range {
             return None;
         }
-        let cells = self.sum_over_levels(0, 0);
+        let of_level = |level| (self.columns << level) as usize * (self.rows << level) as usize;
+        let cells = (0..self.levels).map(of_level).sum();
         (cells <= MAX_CELLS).then_some(cells)
     }
 
@@ -285,17 +370,37 @@ impl Plan {
     /// where [`Plan::cells`] is.
     pub fn functions(self) -> Option<usize> {
         self.cells()?;
-        Some(self.sum_over_levels(self.degree_across, self.degree_up))
+        (0..self.levels)
+            .map(|level| Some(self.functions_across(level)? * self.functions_up(level)?))
+            .sum()
     }
 
-    fn sum_over_levels(self, more_across: u32, more_up: u32) -> usize {
-        (0..self.levels)
-            .map(|level| {
-                let across = (self.columns << level) + more_across;
-                let up = (self.rows << level) + more_up;
-                across as usize * up as usize
-            })
-            .sum()
+    /// The functions across on a level, which are those in a row of the function table. The
+    /// function in row j, column i of a level comes after those of the levels before it, as number
+    /// j · `functions_across` + i among those of its own. `None` where [`Plan::cells`] is, and for
+    /// a level that the plan has not.
+    pub fn functions_across(self, level: u32) -> Option<usize> {
+        self.cells()?;
+        (level < self.levels)
+            .then(|| functions_over(self.columns << level, self.degree_across, self.corners_across))
+    }
+
+    /// The functions up on a level, which are the rows of its part of the function table. `None`
+    /// likewise.
+    ///
+    /// ```
+    /// # use wallmirror::Plan;
+    /// let plan = Plan { columns: 3, rows: 2, degree_across: 3, degree_up: 2, ..Plan::default() };
+    /// assert_eq!((plan.functions_across(0), plan.functions_up(0)), (Some(3 + 3), Some(2 + 2)));
+    /// // Two more for a corner across, one more for a corner up.
+    /// let plan = Plan { corners_across: 1 << 2, corners_up: 1 << 1, ..plan };
+    /// assert_eq!((plan.functions_across(0), plan.functions_up(0)), (Some(8), Some(5)));
+    /// assert_eq!((plan.functions(), plan.functions_up(1)), (Some(8 * 5), None));
+    /// ```
+    pub fn functions_up(self, level: u32) -> Option<usize> {
+        self.cells()?;
+        (level < self.levels)
+            .then(|| functions_over(self.rows << level, self.degree_up, self.corners_up))
     }
 
     fn raw(self) -> ffi::Plan {
@@ -306,6 +411,8 @@ impl Plan {
             degree_across: self.degree_across,
             degree_up: self.degree_up,
             class: self.class,
+            corners_across: self.corners_across,
+            corners_up: self.corners_up,
         }
     }
 
@@ -317,8 +424,15 @@ impl Plan {
             degree_across: plan.degree_across,
             degree_up: plan.degree_up,
             class: plan.class,
+            corners_across: plan.corners_across,
+            corners_up: plan.corners_up,
         }
     }
+}
+
+/// The functions over so many cells: as many more as the degree, and degree - 1 for each corner.
+fn functions_over(cells: u32, degree: u32, corners: u32) -> usize {
+    (cells + degree + (degree - 1) * corners.count_ones()) as usize
 }
 
 /// The number of a cell: from 0, level by level, row by row.
@@ -338,7 +452,7 @@ pub struct Function(pub u32);
 #[repr(u32)]
 pub enum Refusal {
     /// A number of the plan is out of range: columns and rows are 1 to 16, levels 1 to 8, degrees 1
-    /// to 4, the class is 0 or 2 to 8.
+    /// to 4, the class is 0 or 2 to 8, and corners have bits 1 to columns - 1, or to rows - 1.
     PlanOutOfRange = 1,
     /// All levels together have more than [`MAX_CELLS`] cells.
     TooManyCells = 2,
@@ -367,9 +481,9 @@ pub enum Refusal {
     /// The function list has fewer entries than functions change.
     FunctionListTooShort = 11,
     /// A number of the file is cut off, has more than three groups or more than it needs, or is a
-    /// difference of 0.
+    /// difference of 0; behind the last cell a number stands alone, or both corner numbers are 0.
     MalformedFile = 12,
-    /// Bytes follow the last number of the file.
+    /// Bytes follow the two corner numbers of the file.
     TrailingBytes = 13,
     /// The plan is none for heights: a degree is more than 2, or there are more than four levels.
     PlanWithoutHeights = 14,
@@ -423,7 +537,7 @@ impl fmt::Display for Refusal {
     fn fmt(&self, f: &mut fmt::Formatter<'_>) -> fmt::Result {
         let message = match self {
             Refusal::PlanOutOfRange => {
-                "a number of the plan is out of range (columns and rows 1 to 16, levels 1 to 8, degrees 1 to 4, class 0 or 2 to 8)"
+                "a number of the plan is out of range (columns and rows 1 to 16, levels 1 to 8, degrees 1 to 4, class 0 or 2 to 8, corners between two columns or rows)"
             }
             Refusal::TooManyCells => "all levels together have more than 21845 cells",
             Refusal::TableLength => {
@@ -444,9 +558,9 @@ impl fmt::Display for Refusal {
                 "the function list is too short for the functions that change"
             }
             Refusal::MalformedFile => {
-                "a number of the file is cut off, longer than it may be, or a difference of 0"
+                "a number of the file is cut off, longer than it may be, or a difference of 0, or its corners are a number alone or both 0"
             }
-            Refusal::TrailingBytes => "bytes follow the last number of the file",
+            Refusal::TrailingBytes => "bytes follow the two corner numbers of the file",
             Refusal::PlanWithoutHeights => {
                 "heights are for plans of degrees 1 and 2 and at most four levels"
             }
@@ -571,7 +685,7 @@ pub fn open(plan: Plan, cells: &mut [u8], functions: &mut [u8]) -> Result<(), Re
 ///
 /// ```
 /// # use wallmirror::{check, open, Plan, Refusal};
-/// # let plan = Plan { columns: 3, rows: 1, levels: 3, degree_across: 1, degree_up: 1, class: 0 };
+/// # let plan = Plan { columns: 3, levels: 3, ..Plan::default() };
 /// # let (mut cells, mut functions) = (vec![0; 63], vec![0; 94]);
 /// open(plan, &mut cells, &mut functions)?;
 /// assert_eq!(check(plan, &cells, &functions), Ok(()));
@@ -596,7 +710,7 @@ pub fn check(plan: Plan, cells: &[u8], functions: &[u8]) -> Result<(), Refusal> 
 ///
 /// ```
 /// # use wallmirror::{count, open, Plan};
-/// # let plan = Plan { columns: 3, rows: 1, levels: 3, degree_across: 1, degree_up: 1, class: 0 };
+/// # let plan = Plan { columns: 3, levels: 3, ..Plan::default() };
 /// # let (mut cells, mut functions) = (vec![0; 63], vec![0; 94]);
 /// # open(plan, &mut cells, &mut functions)?;
 /// let count = count(plan, &cells, &functions)?;
@@ -774,7 +888,7 @@ pub fn read(file: &[u8], cells: &mut [u8], functions: &mut [u8]) -> Result<Plan,
 ///
 /// ```
 /// # use wallmirror::{open, write, Plan, Refusal};
-/// # let plan = Plan { columns: 3, rows: 1, levels: 3, degree_across: 1, degree_up: 1, class: 0 };
+/// # let plan = Plan { columns: 3, levels: 3, ..Plan::default() };
 /// # let (mut cells, mut functions) = (vec![0; 63], vec![0; 94]);
 /// open(plan, &mut cells, &mut functions)?;
 /// let mut file = [9; 8];
@@ -812,7 +926,7 @@ pub fn write(
 ///
 /// ```
 /// # use wallmirror::{height, open, Plan, Refusal};
-/// let plan = Plan { columns: 1, rows: 1, levels: 1, degree_across: 2, degree_up: 1, class: 0 };
+/// let plan = Plan { degree_across: 2, ..Plan::default() };
 /// let (mut cells, mut functions) = ([0; 1], [0; 6]);
 /// open(plan, &mut cells, &mut functions)?;
 /// let heights = [0, 0, 0, 0, 3, 100];
@@ -940,6 +1054,7 @@ mod tests {
                                 degree_across,
                                 degree_up,
                                 class,
+                                ..Plan::default()
                             });
                             most_cells = most_cells.max(t);
                             most_functions = most_functions.max(f);
@@ -948,7 +1063,40 @@ mod tests {
                 }
             }
         }
-        assert_eq!((most_cells, most_functions), (MAX_CELLS, MAX_FUNCTIONS));
+        // Without corners.
+        assert_eq!((most_cells, most_functions), (MAX_CELLS, 26_220));
+    }
+
+    #[test]
+    fn lengths_with_corners_are_those_that_open_takes() {
+        let mut most_functions = 0;
+        // None, one, each line between two cells, and lines that are not between.
+        let sets = |n: u32| [0, 1 << (n / 2) & !1, (1 << n) - 2, 1, 1 << n, 1 << 31];
+        for (columns, rows) in
+            (1..=16).flat_map(|columns| (1..=16).map(move |rows| (columns, rows)))
+        {
+            for levels in 1..=8 {
+                for (degree_across, degree_up) in [(1, 1), (2, 1), (3, 4), (4, 4)] {
+                    for (i, corners_across) in sets(columns).into_iter().enumerate() {
+                        for (j, corners_up) in sets(rows).into_iter().enumerate() {
+                            let plan = Plan {
+                                columns,
+                                rows,
+                                levels,
+                                degree_across,
+                                degree_up,
+                                class: 2,
+                                corners_across,
+                                corners_up,
+                            };
+                            assert!(i.max(j) < 3 || plan.cells().is_none(), "{plan:?}");
+                            most_functions = most_functions.max(try_lengths(plan).1);
+                        }
+                    }
+                }
+            }
+        }
+        assert_eq!(most_functions, MAX_FUNCTIONS);
     }
 
     /// Opens tables of the plan's lengths, or sees the plan refused.
