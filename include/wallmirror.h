@@ -16,28 +16,47 @@
  * level by level, row by row. The cell at column c, row r has four children one level down, at
  * columns 2c and 2c + 1 and rows 2r and 2r + 1.
  *
- * Functions. On a level of n columns, with degree_across p, there are n + p functions across;
- * function i covers columns max(0, i - p) to min(n - 1, i). Up it is the same with the rows and
- * degree_up. The support of a function is the rectangle of both, made of cells of its own level.
- * Functions are numbered like cells, with n + p to a row. Cell 5 and function 5 name different
- * things.
+ * Functions. They follow from knots, and these stand on the grid lines. On a level of n columns
+ * line x is the one before column x, and there are lines 0 to n. With degree_across p the knot on
+ * the first and on the last line is taken p + 1 times, the one on a corner p times, any other once.
+ * With all of them in rising order, from 0 on, function i across covers the columns from knot i to
+ * just before knot i + p + 1, and there is one for every p + 2 knots in a row. Up it is the same
+ * with the rows, degree_up and the corners up. The support of a function is the rectangle of both,
+ * made of cells of its own level. Functions are numbered like cells, row by row, with
+ * wallmirror_functions_across to a row. Cell 5 and function 5 name different things.
+ *
+ * Without corners that is n + p functions across, of which function i covers columns max(0, i - p)
+ * to min(n - 1, i).
+ *
+ * Corners. Bit k of corners_across marks the line of level 0 before column k as a corner, for k
+ * from 1 to columns - 1, and bit k of corners_up the line before row k, for k from 1 to rows - 1.
+ * The line is a corner on every level: on level j it is the one before column k * 2^j. The surface
+ * may have a kink there: functions are continuous across a corner, and no more. Each corner adds
+ * p - 1 functions across to every level, so c corners make it n + p + (p - 1) * c, and functions
+ * beside it cover fewer columns. With degree 1 a corner changes nothing but the file, since every
+ * line may have a kink then. The cells and their numbers have nothing to do with corners.
  *
  * Example: columns 3, rows 1, both degrees 1. Level 0 has cells 0 to 2 and two rows of four
  * functions, 0 to 3 and 4 to 7; level 1 has cells 3 to 14, six to a row, and functions from 8 on,
  * seven to a row. Function 1 covers cells 0 and 1, and so does function 5. The children of cell 0
- * are 3, 4, 9, 10.
+ * are 3, 4, 9, 10. With degree_across 2 and a corner before column 1 the knots across of level 0
+ * are 0 0 0 1 1 2 3 3 3, and six functions cover columns 0, 0, 0 to 1, 1 to 2, 1 to 2 and 2.
  *
  * Admissibility. In class m, not 0, a refined cell of level j with j - m + 1 at least 0 has a
- * neighbourhood: the cells of level j - m + 1 whose column differs by at most degree_across, and
- * row by at most degree_up, from those of its ancestor there. A mesh is admissible where the
- * neighbourhood of every refined cell is refined. In class 0 every mesh is.
+ * neighbourhood: the cells of level j - m + 1 that, across as well as up, are covered by a common
+ * function of that level with its ancestor there. Without corners these are the cells whose column
+ * differs by at most degree_across, and row by at most degree_up, from those of the ancestor; with
+ * them there may be fewer. A mesh is admissible where the neighbourhood of every refined cell is
+ * refined. In class 0 every mesh is.
  *
  * Levels over a cell. A function is over a cell where its support and the cell have a point in
  * common, whatever their levels. In class m, not 0, the active functions over an active cell of
  * level k all have levels from k - m + 1 to k. Functions of finer levels are passive there, those
  * of coarser ones deactivated. So who draws or sums the functions over a cell has at most m levels
  * to look at, and on each the functions over the cell's ancestor there: degree_across + 1 of them
- * across, from the ancestor's column on, and degree_up + 1 up, from its row on.
+ * in a row across and degree_up + 1 up. Those over column x begin with function
+ * x + (degree_across - 1) * c, where c corners are on lines 1 to x of that level; up it is the
+ * same.
  *
  * Undo. Keep the lists of each call, cut to the answered lengths. To take a run of calls back, give
  * the kept cell lists from the last call to the first, as marks, each to the opposite call by
@@ -53,14 +72,16 @@
  * opened.
  *
  * Files. The file of a mesh is bytes that the caller keeps where it likes: wallmirror_write makes
- * them of a mesh, wallmirror_read makes the mesh of them. They are a list of numbers: the six of
- * the plan in the order of WallmirrorPlan, how many cells are refined, the first refined cell if
- * there is one, then for each further one, in rising order, its difference from the one before. A
- * number is written in groups of seven bits, one to a byte, the lowest first, with the high bit set
- * in all but the last; in as few groups as it needs, and at most three. So one mesh has one file,
- * the same on every machine. The function table is not in it, since the cells fix it. In the
- * example above, with class 2, the mesh just opened is the bytes 3 1 3 1 1 2 0; with cells 0, 1 and
- * 3 refined it is 3 1 3 1 1 2 3 0 1 2.
+ * them of a mesh, wallmirror_read makes the mesh of them. They are a list of numbers: the first six
+ * of the plan in the order of WallmirrorPlan, how many cells are refined, the first refined cell if
+ * there is one, then for each further one, in rising order, its difference from the one before; and
+ * then corners_across and corners_up, which are left out if both are 0. A number is written in
+ * groups of seven bits, one to a byte, the lowest first, with the high bit set in all but the last;
+ * in as few groups as it needs, and at most three. So one mesh has one file, the same on every
+ * machine. The function table is not in it, since the cells and the corners fix it. In the example
+ * above, with class 2, the mesh just opened is the bytes 3 1 3 1 1 2 0; with cells 0, 1 and 3
+ * refined it is 3 1 3 1 1 2 3 0 1 2, and with a corner before column 1 besides
+ * 3 1 3 1 1 2 3 0 1 2 2 0.
  *
  * A file of unknown plan is read twice, the first time with empty tables (NULL, 0). That is
  * refused: with 3 and the plan, or with 12, 1 or 2, where no tables will do. Then make the tables
@@ -68,13 +89,12 @@
  *
  * Heights. The active functions carry a surface: its height at a point is the sum, over all active
  * functions, of the function's height times its value there. The value is that of a B-spline across
- * times that of one up. Their knots are the grid lines of the function's level, each inner one once
- * and the two ends degree + 1 times each. The heights of the functions are whole numbers, one for
- * each function of each level, in the order of their numbers; on level k the unit is 16^-k mm.
- * Whatever stands there for a function that is not active is ignored. A point is two whole numbers,
- * across and up, in eighths of a cell of the last level: 0 to 8 * columns * 2^(levels - 1) across
- * and 0 to 8 * rows * 2^(levels - 1) up. The far edges are included; the last function has the
- * value 1 there.
+ * times that of one up, over the knots of the function's level as above. The heights of the
+ * functions are whole numbers, one for each function of each level, in the order of their numbers;
+ * on level k the unit is 16^-k mm. Whatever stands there for a function that is not active is
+ * ignored. A point is two whole numbers, across and up, in eighths of a cell of the last level: 0
+ * to 8 * columns * 2^(levels - 1) across and 0 to 8 * rows * 2^(levels - 1) up. The far edges are
+ * included; the last function has the value 1 there.
  *
  * With degrees 1 and 2 and at most four levels the height in mm is a multiple of
  * 2^-(10 + 4 * levels), and the double that wallmirror_height answers is the sum itself, with no
@@ -96,6 +116,7 @@
  *   levels                        1 to 8
  *   degree_across, degree_up      1 to 4
  *   admissibility_class           0, or 2 to 8
+ *   corners_across, corners_up    bits 1 to columns - 1, bits 1 to rows - 1
  *   cells on all levels together  at most WALLMIRROR_MAX_CELLS
  *   functions of such a plan      at most WALLMIRROR_MAX_FUNCTIONS
  *   marks of a call               any number; their values are 32 bits
@@ -116,26 +137,28 @@ extern "C" {
 
 /* Of this header. */
 #define WALLMIRROR_VERSION_MAJOR 0
-#define WALLMIRROR_VERSION_MINOR 4
+#define WALLMIRROR_VERSION_MINOR 5
 #define WALLMIRROR_VERSION_PATCH 0
-#define WALLMIRROR_VERSION "0.4.0"
+#define WALLMIRROR_VERSION "0.5.0"
 
 /* The most cells a mesh may have on all levels together, and the most functions such a mesh has:
  * buffers of these sizes serve every plan. */
 #define WALLMIRROR_MAX_CELLS 21845
-#define WALLMIRROR_MAX_FUNCTIONS 26220
+#define WALLMIRROR_MAX_FUNCTIONS 54884
 
 /* The most bytes that the file of a mesh has: a buffer of this size serves every mesh. */
-#define WALLMIRROR_MAX_FILE_BYTES 5469
+#define WALLMIRROR_MAX_FILE_BYTES 5470
 
 /* The greatest height of an active function in mm, either way. It is met exactly: on level k the
  * heights go from -65536 * 16^k to 65536 * 16^k. */
 #define WALLMIRROR_MAX_HEIGHT_MM 65536
 
 /* The most stack that any call takes, in bytes: what a thread must have left when it calls. */
-#define WALLMIRROR_STACK_BYTES 131072
+#define WALLMIRROR_STACK_BYTES 262144
 
-/* The plan of a mesh, passed by value. It is the same in every call on that mesh. */
+/* The plan of a mesh, passed by value. It is the same in every call on that mesh. The corners stand
+ * last: an initialiser of six numbers, as {3, 1, 3, 1, 1, 2}, leaves both 0 and so has none, though
+ * some compilers warn of what it leaves out. */
 typedef struct WallmirrorPlan {
     uint32_t columns;             /* of level 0, 1 to 16 */
     uint32_t rows;                /* of level 0, 1 to 16 */
@@ -143,6 +166,8 @@ typedef struct WallmirrorPlan {
     uint32_t degree_across;       /* 1 to 4 */
     uint32_t degree_up;           /* 1 to 4 */
     uint32_t admissibility_class; /* 2 to 8, or 0: every mesh is admissible */
+    uint32_t corners_across;      /* bit k, 1 to columns - 1: a corner before column k */
+    uint32_t corners_up;          /* bit k, 1 to rows - 1: a corner before row k */
 } WallmirrorPlan;
 
 /* A byte of the cell table. */
@@ -165,7 +190,8 @@ enum WallmirrorFunction {
  * then 10, 11; then 13. */
 enum WallmirrorRefusal {
     WALLMIRROR_ACCEPTED = 0,
-    /* a number of the plan is out of range */
+    /* a number of the plan is out of range, or a bit of its corners marks no line between two
+     * columns (or rows) */
     WALLMIRROR_PLAN_OUT_OF_RANGE = 1,
     /* all levels together have more than WALLMIRROR_MAX_CELLS cells */
     WALLMIRROR_TOO_MANY_CELLS = 2,
@@ -192,9 +218,9 @@ enum WallmirrorRefusal {
     /* the function list is shorter than the functions it must name */
     WALLMIRROR_FUNCTION_LIST_TOO_SHORT = 11,
     /* a number of the file is cut off, has more than three groups or more than it needs, or is a
-     * difference of 0 */
+     * difference of 0; behind the last cell a number stands alone, or both corner numbers are 0 */
     WALLMIRROR_MALFORMED_FILE = 12,
-    /* bytes follow the last number of the file */
+    /* bytes follow the two corner numbers of the file */
     WALLMIRROR_TRAILING_BYTES = 13,
     /* the plan is none for heights: a degree is more than 2, or there are more than four levels */
     WALLMIRROR_PLAN_WITHOUT_HEIGHTS = 14,
@@ -245,7 +271,10 @@ static inline int wallmirror_plan_is_valid(WallmirrorPlan plan)
         plan.levels < 1 || plan.levels > 8 ||
         plan.degree_across < 1 || plan.degree_across > 4 ||
         plan.degree_up < 1 || plan.degree_up > 4 ||
-        plan.admissibility_class == 1 || plan.admissibility_class > 8)
+        plan.admissibility_class == 1 || plan.admissibility_class > 8 ||
+        /* columns and rows are at most 16 here */
+        (plan.corners_across & ~((1u << plan.columns) - 2u)) != 0 ||
+        (plan.corners_up & ~((1u << plan.rows) - 2u)) != 0)
         return 0;
     /* 1 + 4 + ... + 4^(levels-1) cells for each cell of level 0 */
     return plan.columns * plan.rows * (((1u << (2 * plan.levels)) - 1) / 3) <= WALLMIRROR_MAX_CELLS;
@@ -260,6 +289,35 @@ static inline size_t wallmirror_cells_len(WallmirrorPlan plan)
     return (size_t)plan.columns * plan.rows * (((1u << (2 * plan.levels)) - 1) / 3);
 }
 
+/* The functions over so many cells: as many more as the degree, and degree - 1 for each corner. */
+static inline size_t wallmirror_functions_over(uint32_t cells, uint32_t degree, uint32_t corners)
+{
+    size_t functions = (size_t)cells + degree;
+    for (; corners != 0; corners &= corners - 1)
+        functions += degree - 1;
+    return functions;
+}
+
+/* The functions across on a level, which are those in a row of the function table. The function in
+ * row j, column i of a level comes after those of the levels before it, as number
+ * j * wallmirror_functions_across + i among those of its own.
+ * 0 for a plan that is out of range or has too many cells, and for a level that it has not. */
+static inline size_t wallmirror_functions_across(WallmirrorPlan plan, uint32_t level)
+{
+    if (!wallmirror_plan_is_valid(plan) || level >= plan.levels)
+        return 0;
+    return wallmirror_functions_over(plan.columns << level, plan.degree_across,
+                                     plan.corners_across);
+}
+
+/* The functions up on a level, which are the rows of its part of the function table. 0 likewise. */
+static inline size_t wallmirror_functions_up(WallmirrorPlan plan, uint32_t level)
+{
+    if (!wallmirror_plan_is_valid(plan) || level >= plan.levels)
+        return 0;
+    return wallmirror_functions_over(plan.rows << level, plan.degree_up, plan.corners_up);
+}
+
 /* The length of the function table, and the most entries a function list needs.
  * 0 for a plan that is out of range or has too many cells. */
 static inline size_t wallmirror_functions_len(WallmirrorPlan plan)
@@ -269,8 +327,7 @@ static inline size_t wallmirror_functions_len(WallmirrorPlan plan)
     if (!wallmirror_plan_is_valid(plan))
         return 0;
     for (level = 0; level < plan.levels; level++)
-        total += (size_t)((plan.columns << level) + plan.degree_across) *
-                 ((plan.rows << level) + plan.degree_up);
+        total += wallmirror_functions_across(plan, level) * wallmirror_functions_up(plan, level);
     return total;
 }
 

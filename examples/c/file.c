@@ -112,7 +112,7 @@ static int draw(struct mesh *mesh)
 {
     static const uint32_t marks[2] = {0, 3};
     static uint32_t cell_list[WALLMIRROR_MAX_CELLS], function_list[WALLMIRROR_MAX_FUNCTIONS];
-    WallmirrorPlan plan = {3, 1, 3, 1, 1, 2};
+    WallmirrorPlan plan = {3, 1, 3, 1, 1, 2, 0, 0};
     uint32_t number;
     int i;
     if (!make_tables(mesh, plan))
@@ -144,7 +144,7 @@ static int compare(const struct mesh *saved, const struct mesh *loaded)
 int main(void)
 {
     static const char path[] = "wallmirror-example.mesh";
-    struct mesh drawn = {{0, 0, 0, 0, 0, 0}, NULL, NULL, 0, 0}, loaded = drawn;
+    struct mesh drawn = {{0, 0, 0, 0, 0, 0, 0, 0}, NULL, NULL, 0, 0}, loaded = drawn;
     int done = 0;
     if (draw(&drawn) && save(&drawn, path)) {
         done = load(&loaded, path) && compare(&drawn, &loaded);

@@ -7,19 +7,18 @@
 
 #include "wallmirror.h"
 
-static const WallmirrorPlan plan = {4, 4, 2, 2, 2, 2};
+static const WallmirrorPlan plan = {4, 4, 2, 2, 2, 2, 0, 0};
 static uint8_t cells[WALLMIRROR_MAX_CELLS], functions[WALLMIRROR_MAX_FUNCTIONS];
 static uint32_t cell_list[WALLMIRROR_MAX_CELLS], function_list[WALLMIRROR_MAX_FUNCTIONS];
 static int32_t heights[WALLMIRROR_MAX_FUNCTIONS]; /* all 0 to begin with */
 
-/* The number of a function: those of the levels above, then row by row, with columns + degree to a
- * row. */
-static uint32_t function_at(uint32_t level, uint32_t row, uint32_t column)
+/* The number of a function: those of the levels above, then row by row. */
+static uint32_t function_at(uint32_t level, size_t row, size_t column)
 {
-    uint32_t number = 0, k;
-    for (k = 0; k < level; k++)
-        number += ((plan.columns << k) + plan.degree_across) * ((plan.rows << k) + plan.degree_up);
-    return number + row * ((plan.columns << level) + plan.degree_across) + column;
+    size_t number = row * wallmirror_functions_across(plan, level) + column;
+    while (level-- > 0)
+        number += wallmirror_functions_across(plan, level) * wallmirror_functions_up(plan, level);
+    return (uint32_t)number;
 }
 
 static int refused(const char *what, uint32_t number)

@@ -198,7 +198,12 @@ static int season(WallmirrorPlan plan)
 
 int main(void)
 {
-    static const WallmirrorPlan plans[] = {{3, 1, 3, 1, 1, 0}, {2, 3, 4, 2, 1, 2}, {4, 4, 5, 3, 3, 3}};
+    /* the last two with corners, one of them with as many functions as there can be */
+    static const WallmirrorPlan plans[] = {{3, 1, 3, 1, 1, 0, 0, 0},
+                                           {2, 3, 4, 2, 1, 2, 0, 0},
+                                           {4, 4, 5, 3, 3, 3, 0, 0},
+                                           {3, 4, 4, 2, 3, 2, 2, 12},
+                                           {16, 16, 4, 4, 4, 2, 65534, 65534}};
     struct sigaction action;
     size_t i;
     memset(&action, 0, sizeof action);

@@ -1,8 +1,8 @@
 /*
  * The lengths that the header computes are those that the library takes, for every plan in range
- * and for the numbers just outside, its macros agree with each other, its structs are laid out as
- * the library has them, the longest file is as long as it says, and the greatest height is taken
- * and no greater one. The output is to be that of sizes.expected.
+ * and for the numbers just outside, with corners and without, its macros agree with each other, its
+ * structs are laid out as the library has them, the longest file is as long as it says, and the
+ * greatest height is taken and no greater one. The output is to be that of sizes.expected.
  */
 #include <stddef.h>
 #include <stdio.h>
@@ -48,10 +48,12 @@ static void try_version(void)
 /* Every field has four bytes, but for a height of eight, and follows the one before. */
 static void try_structs(void)
 {
-    if (sizeof(WallmirrorPlan) != 24 || offsetof(WallmirrorPlan, columns) != 0 ||
+    if (sizeof(WallmirrorPlan) != 32 || offsetof(WallmirrorPlan, columns) != 0 ||
         offsetof(WallmirrorPlan, rows) != 4 || offsetof(WallmirrorPlan, levels) != 8 ||
         offsetof(WallmirrorPlan, degree_across) != 12 || offsetof(WallmirrorPlan, degree_up) != 16 ||
-        offsetof(WallmirrorPlan, admissibility_class) != 20)
+        offsetof(WallmirrorPlan, admissibility_class) != 20 ||
+        offsetof(WallmirrorPlan, corners_across) != 24 ||
+        offsetof(WallmirrorPlan, corners_up) != 28)
         wrong++;
     if (sizeof(WallmirrorCount) != 20 || offsetof(WallmirrorCount, number) != 0 ||
         offsetof(WallmirrorCount, active_cells) != 4 ||
@@ -61,7 +63,7 @@ static void try_structs(void)
     if (sizeof(WallmirrorAnswer) != 12 || offsetof(WallmirrorAnswer, number) != 0 ||
         offsetof(WallmirrorAnswer, cells) != 4 || offsetof(WallmirrorAnswer, functions) != 8)
         wrong++;
-    if (sizeof(WallmirrorRead) != 28 || offsetof(WallmirrorRead, number) != 0 ||
+    if (sizeof(WallmirrorRead) != 36 || offsetof(WallmirrorRead, number) != 0 ||
         offsetof(WallmirrorRead, plan) != 4)
         wrong++;
     if (sizeof(WallmirrorWritten) != 8 || offsetof(WallmirrorWritten, number) != 0 ||
@@ -76,21 +78,24 @@ static int same_plan(WallmirrorPlan a, WallmirrorPlan b)
 {
     return a.columns == b.columns && a.rows == b.rows && a.levels == b.levels &&
            a.degree_across == b.degree_across && a.degree_up == b.degree_up &&
-           a.admissibility_class == b.admissibility_class;
+           a.admissibility_class == b.admissibility_class &&
+           a.corners_across == b.corners_across && a.corners_up == b.corners_up;
 }
 
-/* Every cell of eight levels but the last is refined: 5461 cells, one byte each behind the plan and
- * two bytes of count. */
+/* Every cell of seven levels but the last is refined: 5460 cells, one byte each behind the plan and
+ * two bytes of count, and behind them two for the corners. */
 static void try_longest_file(void)
 {
-    static const uint8_t head[9] = {1, 1, 8, 4, 3, 2, 0x80 | 5461 % 128, 5461 / 128, 0};
+    static const uint8_t head[9] = {4, 1, 7, 4, 3, 2, 0x80 | 5460 % 128, 5460 / 128, 0};
     static uint8_t file[WALLMIRROR_MAX_FILE_BYTES], written[WALLMIRROR_MAX_FILE_BYTES + 1];
-    WallmirrorPlan plan = {1, 1, 8, 4, 3, 2};
+    WallmirrorPlan plan = {4, 1, 7, 4, 3, 2, 10, 0};
     size_t t = wallmirror_cells_len(plan), f = wallmirror_functions_len(plan);
     WallmirrorRead first, second;
     WallmirrorWritten short_of_one, whole;
     memset(file, 1, sizeof file);
     memcpy(file, head, sizeof head);
+    file[sizeof file - 2] = 10;
+    file[sizeof file - 1] = 0;
     memset(written, 9, sizeof written);
     first = wallmirror_read(file, sizeof file, NULL, 0, NULL, 0);
     if (first.number != WALLMIRROR_TABLE_LENGTH || !same_plan(first.plan, plan))
@@ -121,11 +126,11 @@ static WallmirrorHeight height_at(WallmirrorPlan plan, int32_t last, uint32_t ac
     return wallmirror_height(plan, cells, t, functions, f, heights, f, across, up);
 }
 
-/* The last function has its height at the far corner, and that is at most the greatest; there is
- * nothing beyond the corner, and no height where a degree is 3. */
+/* The last function has its height where both far edges meet, and that is at most the greatest;
+ * there is nothing beyond the edges, and no height where a degree is 3. */
 static void try_heights(void)
 {
-    WallmirrorPlan plan = {16, 2, 1, 2, 1, 0};
+    WallmirrorPlan plan = {16, 2, 1, 2, 1, 0, 1u << 15, 2};
     WallmirrorHeight answer;
     int side;
     for (side = -1; side <= 1; side += 2) {
@@ -149,9 +154,59 @@ static void try_heights(void)
         wrong++;
 }
 
+/* The corners that are tried of n columns or rows: none, one, one before each, and three that are
+ * not between two of them. */
+enum { SETS = 6, GOOD_SETS = 3 };
+
+static uint32_t corners_of(uint32_t n, int set)
+{
+    const uint32_t sets[SETS] = {0, 1u << n / 2 & ~1u, (1u << n) - 2, 1, 1u << n, 1u << 31};
+    return sets[set];
+}
+
+static void try_corners(void)
+{
+    static const uint32_t degrees[4][2] = {{1, 1}, {2, 1}, {3, 4}, {4, 4}};
+    WallmirrorPlan plan = {0, 0, 0, 0, 0, 2, 0, 0};
+    int i, across, up;
+    for (plan.columns = 1; plan.columns <= 16; plan.columns++)
+        for (plan.rows = 1; plan.rows <= 16; plan.rows++)
+            for (plan.levels = 1; plan.levels <= 8; plan.levels++)
+                for (i = 0; i < 4; i++)
+                    for (across = 0; across < SETS; across++)
+                        for (up = 0; up < SETS; up++) {
+                            plan.degree_across = degrees[i][0];
+                            plan.degree_up = degrees[i][1];
+                            plan.corners_across = corners_of(plan.columns, across);
+                            plan.corners_up = corners_of(plan.rows, up);
+                            if ((across >= GOOD_SETS || up >= GOOD_SETS) &&
+                                wallmirror_plan_is_valid(plan))
+                                wrong++;
+                            try_plan(plan);
+                        }
+}
+
+/* Each bit alone: those of lines between two columns (or rows) are taken. */
+static void try_bits(void)
+{
+    WallmirrorPlan across = {1, 1, 2, 2, 2, 0, 0, 0}, up = across;
+    uint32_t n, bit;
+    for (n = 1; n <= 16; n++) {
+        across.columns = up.rows = n;
+        for (bit = 0; bit < 32; bit++) {
+            int good = bit >= 1 && bit < n;
+            across.corners_across = up.corners_up = (uint32_t)1 << bit;
+            if (wallmirror_plan_is_valid(across) != good || wallmirror_plan_is_valid(up) != good)
+                wrong++;
+            try_plan(across);
+            try_plan(up);
+        }
+    }
+}
+
 int main(void)
 {
-    WallmirrorPlan plan;
+    WallmirrorPlan plan = {0, 0, 0, 0, 0, 0, 0, 0};
     try_version();
     try_structs();
     try_longest_file();
@@ -164,6 +219,10 @@ int main(void)
                         for (plan.admissibility_class = 0; plan.admissibility_class <= 9;
                              plan.admissibility_class++)
                             try_plan(plan);
+    printf("%lu plans without corners taken, %lu refused, at most %lu functions\n", taken, refused,
+           (unsigned long)most_functions);
+    try_corners();
+    try_bits();
     printf("%lu plans taken, %lu refused, %lu wrong\n", taken, refused, wrong);
     printf("at most %lu cells and %lu functions\n", (unsigned long)most_cells,
            (unsigned long)most_functions);
