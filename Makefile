@@ -25,6 +25,7 @@ pictures:
 	docs/mesh.sh > docs/mesh.svg
 	docs/levels.sh > docs/levels.svg
 	docs/heights.sh > docs/heights.svg
+	docs/corner.sh > docs/corner.svg
 
 install: all
 	install -d "$(DESTDIR)$(PREFIX)/include" "$(DESTDIR)$(PREFIX)/lib"
