@@ -1,16 +1,15 @@
 -- A number read group by group at a place of the bytes, and the bytes of one written. Assumes nothing.
 use mathlib.Core.Path.{_≡_, refl, ap, _∙_}
-use mathlib.Core.List.{List, [], _∷_, append-assoc}
+use mathlib.Core.List.{List, [], _∷_}
 use Prim.Native.Nat.{ℕ, zero, suc, _+_, _-_, _*_, _/_, _%_, _<_, _≤_}
 use native.Mathlib.Numerals.{add-one}
 use native.Mathlib.Omega.{arith}
-use lib.ListN.{length, take, drop, set, drop-of-length-le}
-use lib.Seq.{drop-cons, sets, sets-eq}
+use lib.ListN.{length, drop, drop-of-length-le}
+use lib.Seq.{drop-cons}
 use borrow.Author.Tests.{lt-ltb, le-ltb, ne-eqb, eq-eqb}
 use Rattle.codec.specs.Fitting.{numberLimit}
 use Rattle.codec.specs.Numbers.{Decoded, bad, got, above, decodeGroups, decodeNumber, encodeGroups, encodeNumber}
 use Rattle.codec.specs.Steps.{ByteAt, Found}
-use Rattle.facts.specs.Writing.{writtenAt, Writes}
 
 -- ---- one group
 
@@ -116,16 +115,3 @@ unfolding encodeNumber encodeGroups
 bytes-three n l h =
     let e : n / 128 / 128 ≡ n / 16384 = omega arith in
     rw (le-ltb n 128 (omega arith), le-ltb (n / 128) 128 (omega arith), e, lt-ltb (n / 16384) 128 (omega arith)) refl
-
--- a run of stores writes
-pub writes : (old : List ℕ) (at : ℕ) (text text′ : List ℕ) (r : ℕ) → text ≡ text′ → at + length text ≤ length old → r ≡ at + length text′ → Writes old at text r (sets old at text′)
-unfolding writtenAt
-writes old at text text′ r e h q = rw e (record { end = q; bytes = sets-eq text′ old at (rw e at h) ∙ append-assoc (take at old) text′ (drop (at + length text′) old) })
-
-pub two-stores : (old : List ℕ) (at a b : ℕ) → sets old at (a ∷ b ∷ []) ≡ set (set old at a) (at + 1) b
-two-stores old at a b = rw add-one refl
-
-pub three-stores : (old : List ℕ) (at a b d : ℕ) → sets old at (a ∷ b ∷ d ∷ []) ≡ set (set (set old at a) (at + 1) b) (at + 2) d
-three-stores old at a b d =
-    let e : at + 2 ≡ suc (suc at) = omega arith in
-    rw (e, add-one) refl

@@ -3,15 +3,14 @@ use mathlib.Core.Path.{_≡_, refl, sym, ap, subst, _∙_}
 use mathlib.Core.Logic.{_≢_}
 use mathlib.Core.List.{List, _++_, append-assoc}
 use Prim.Native.Nat.{ℕ, _+_, _-_, _≤_, _<_}
-use native.Mathlib.Nat.{zero-add}
 use native.Mathlib.Omega.{arith}
 use lib.Dec.{eqb}
-use lib.ListN.{length, take, drop, length-append}
+use lib.ListN.{length, take, length-append}
 use lib.Seq.{getD-take, length-take-le}
 use borrow.Author.Tests.{lt-ltb, le-ltb, eq-eqb, ne-eqb}
 use Rattle.facts.specs.Numbers.{listed}
-use Rattle.facts.specs.Writing.{writtenAt, Writes}
-use Rattle.facts.proofs.Writing.{writes-more}
+use Rattle.facts.specs.Writing.{Writes}
+use Rattle.facts.proofs.Writing.{writes-more, writes-front}
 use Rattle.facts.proofs.Tests.{T-true, true-T}
 use Rattle.facts.proofs.Numbers.{listed-same}
 use Rattle.facts.proofs.Turns.{listed-short}
@@ -94,10 +93,8 @@ too-few text file r h e = rw (lt-ltb (length file) (length text) h, e) refl
 
 wrote : (text file new : List ℕ) (n r : ℕ) → length text ≤ length file → n ≡ length text → Writes file 0 text r new
     → _≡_ {A = WriteOutcome} (record { answer = record { number = 0; length = n }; file = new }) (writeText text file)
-unfolding writeText writtenAt
-wrote text file new n r h e w =
-    let b : new ≡ text ++ drop (length text) file = w .bytes ∙ rw zero-add refl in
-    rw (le-ltb (length file) (length text) h, e, b) refl
+unfolding writeText
+wrote text file new n r h e w = rw (le-ltb (length file) (length text) h, e, writes-front w) refl
 
 -- the head, the cells, the corners
 module _ (p : Plan) (cells part : List ℕ) (k : Part p cells part) (m : Measured) (w : Measures part m) where

@@ -3,7 +3,8 @@ use mathlib.Core.Path.{refl, ap}
 use Prim.Native.Nat.{_+_, _/_, _%_}
 use native.Mathlib.Omega.{arith}
 use lib.ListN.{length, length-set}
-use Rattle.codec.proofs.Groups.{bytes-one, bytes-two, bytes-three, writes, two-stores, three-stores}
+use Rattle.facts.proofs.Writing.{writes, two-stores, three-stores}
+use Rattle.codec.proofs.Groups.{bytes-one, bytes-two, bytes-three}
 use borrow.Author.Needs.{needs}
 use Rattle.codec.proofs.write.Statement.{statement}
 use Rattle.codec.proofs.write.Tie as tie
