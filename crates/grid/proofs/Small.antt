@@ -27,10 +27,10 @@ pub finer-small : (p : Plan) {b k x s : ℕ} → b ≤ 16 → k < 8 → x < grow
 unfolding ratio
 finer-small p {x = x} h l i e = let g : x * 2 + 2 ≤ 4096 = omega (arith, grown-small p h l) in rw e g
 
--- so a shift loses no bit
-pub shifted : (p : Plan) {b k : ℕ} → b ≤ 16 → k < 8 → (b * 2 ^ k) % 2 ^ 32 ≡ grown (ratio p) b k
+-- a shift by less than 8 loses no bit
+pub shifted : (p : Plan) {b k : ℕ} → b ≤ 2048 → k < 8 → (b * 2 ^ k) % 2 ^ 32 ≡ grown (ratio p) b k
 unfolding grown ratio
-shifted p {b} {k} h l = mod-eq-of-lt (omega (arith, grown-small p h l))
+shifted p {b} {k} h l = mod-eq-of-lt (omega (arith, mul-le-mul {n₁ = b} h (pow-mono {i = k} {j = 7} (omega arith))))
 
 pub shifted-down : (p : Plan) (x d : ℕ) → x / 2 ^ d ≡ ancestor p d x
 unfolding ancestor ratio

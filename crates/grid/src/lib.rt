@@ -289,13 +289,13 @@ impl Plan {
         2
     }
 
-    // A direction with `base` columns (or rows) on level 0: how many it has on a level.
-    fn grown(self, base: u32, level: u32) -> u32
-        requires { ⌜ base ≤ 16 ⌝ }
-        requires { ⌜ level < 8 ⌝ }
-        ensures { λ r. ⌜ r ≡ grown (ratio self) base level ⌝ }
+    // How many columns (or rows) `base` of them are some levels down. A level has no more than 2,048.
+    pub fn grown(self, base: u32, levels: u32) -> u32
+        requires { ⌜ base ≤ 2048 ⌝ }
+        requires { ⌜ levels < 8 ⌝ }
+        ensures { λ r. ⌜ r ≡ grown (ratio self) base levels ⌝ }
     {
-        base << level
+        base << levels
     }
 
     // The same with `more` columns (or rows) than cells.

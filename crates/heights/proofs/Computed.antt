@@ -21,7 +21,7 @@ use Rattle.heights.specs.declared.Height.the-variants.{At, Refused}
 use Rattle.heights.specs.Heights.{eighths, onMesh, valueAt, productOf, heightSum, places, inexact, low, allLow, heightsRefusal, refusal, answer, lowOn}
 
 -- a list of n heights
-pub heightsOf : ℕ → (ℕ → ℤ) → List ℤ
+unfoldable pub heightsOf : ℕ → (ℕ → ℤ) → List ℤ
 heightsOf zero f = []
 heightsOf (suc n) f = f 0 ∷ heightsOf n (λ i. f (suc i))
 
