@@ -8,6 +8,7 @@ use grid::Plan;
 use heights::HeightAnswer;
 use mesh::Count;
 use outcomes::Answer;
+use projector::CornersAnswer;
 ghost use mathlib.Core.Path.{_≡_};
 ghost use Rattle.mesh.specs.Mesh.{openMesh, check, count};
 ghost use Rattle.outcomes.specs.Calls.{refineCells, refineFunctions, coarsenCells, coarsenFunctions};
@@ -15,6 +16,8 @@ ghost use Rattle.outcomes.specs.Contracts.{Meets};
 ghost use Rattle.files.specs.File.{readMesh, writeMesh};
 ghost use Rattle.files.specs.Steps.{leftByRead, leftByWrite};
 ghost use Rattle.heights.specs.Heights.{answer, flattened};
+ghost use Rattle.projector.specs.Projector.{project};
+ghost use Rattle.projector.specs.Steps.{leftByCorners};
 
 #[no_mangle]
 pub extern "C" fn wallmirror_open(plan: Plan, cells: &mut [u8], functions: &mut [u8]) -> u32
@@ -166,4 +169,17 @@ pub extern "C" fn wallmirror_height(
     ensures { λ r. ⌜ r ≡ flattened (answer plan (now (cells .entry)) (now (functions .entry)) (now (heights .entry)) across up) ⌝ }
 {
     heights::flatten(heights::answer(plan, cells, functions, heights, across, up))
+}
+
+#[no_mangle]
+pub extern "C" fn wallmirror_corners(
+    plan: Plan,
+    cells: &[u8],
+    functions: &[u8],
+    heights: &[i32],
+    out: &mut [f64],
+) -> CornersAnswer
+    ensures { λ r. ⌜ leftByCorners r out ≡ project plan (now (cells .entry)) (now (functions .entry)) (now (heights .entry)) (now (out .entry)) ⌝ }
+{
+    projector::corners(plan, cells, functions, heights, out)
 }

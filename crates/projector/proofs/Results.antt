@@ -1,0 +1,267 @@
+-- What is claimed of the corners holds. Assumes nothing.
+use mathlib.Core.Path.{_≡_, refl, sym, ap, _∙_}
+use mathlib.Core.Logic.{_≢_}
+use mathlib.Core.Bool.{Bool, true, false, not, _&&_, cond}
+use mathlib.Core.List.{List, [], _∷_, _++_, append-assoc, flatMap}
+use Prim.Native.Nat.{ℕ, zero, suc, _+_, _-_, _*_, _≤_, _<_}
+use native.Mathlib.Omega.{arith}
+use lib.Dec.{T, eqb, ltb, eqb·suc-zero, ltb→lt, nltb→le}
+use lib.IntN.{ℤ, pos}
+use lib.Ieee.{Float}
+use lib.ListN.{length, take, drop, length-append, length-drop}
+use lib.Seq.{drop-drop, drop-at}
+use Rattle.facts.specs.Numbers.{first}
+use Rattle.facts.proofs.Tests.{differ, T-true}
+use Rattle.exact.proofs.Dyadic.{dyadic-value}
+use Rattle.grid.specs.declared.Plan.{Plan}
+use Rattle.grid.specs.Plan.{inRange, tooLarge, cellTotal, functionTotal, cellPlace}
+use Rattle.grid.proofs.Laws.{cell-inside}
+use Rattle.mesh.specs.Mesh.{active, isMesh, isAdmissible, isLabelled, refusal3, refusal6, check, tally, count}
+use Rattle.mesh.proofs.Bridge.{check-passed}
+use Rattle.heights.specs.Heights.{onMesh, inexact, allLow, heightsRefusal}
+use Rattle.heights.proofs.Refusals.{answered}
+use Rattle.projector.specs.declared.Corner.{Corner}
+use Rattle.projector.specs.Projector.{mostProjected, cornerAt, cornerOf, cornersOf, corners, threeFloats, floatsOf, planRefusal, refusal, CornersOutcome, refused, filled, project}
+use Rattle.projector.specs.Demands.{Sound, Projected, Demands, given}
+use Rattle.projector.proofs.Places.{on-lines}
+use Rattle.projector.proofs.Floats.{floats-length, listed-tally, corners-length, floats-count, tally-small, floatsBelow, floats-from, twelve}
+use Rattle.projector.proofs.Refusals.{first-here, first-none, three, small, plan-16}
+
+-- ---- the outcome by its refusal, n, and by whether the floats are too few
+
+module _ (cs : List Corner) (lent : List Float) where
+  abbrev outcome : ℕ → Bool → CornersOutcome
+  outcome n few =
+      let floats = floatsOf cs in
+      cond (eqb n 0)
+      (cond few (refused 10 lent) (record { answer = record { number = 0; corners = length cs }; out = floats ++ drop (length floats) lent }))
+      (refused n lent)
+
+  abbrev few : Bool
+  few = ltb (length lent) (length (floatsOf cs))
+
+  outcome-kept : (n : ℕ) (b : Bool) → outcome n b .answer .number ≢ 0 → (outcome n b .answer .corners ≡ 0) × (outcome n b .out ≡ lent)
+  unfolding refused
+  outcome-kept zero true h = (refl, refl)
+  outcome-kept zero false h = absurd (h refl)
+  outcome-kept (suc n) b h = rw (eqb·suc-zero n) (refl, refl)
+
+  outcome-taken : (n : ℕ) (b : Bool) → outcome n b .answer .number ≡ 0 → (n ≡ 0) × (b ≡ false)
+  unfolding refused
+  outcome-taken zero false e = (refl, refl)
+  outcome-taken zero true e = absurd (omega arith)
+  outcome-taken (suc n) b e = absurd (let z : suc n ≡ 0 = rw (eqb·suc-zero n) at e in omega arith)
+
+  outcome-number : (n : ℕ) (b : Bool) (P : ℕ → Type 0) → P 0 → P n → (b ≡ true → n ≡ 0 → P 10) → P (outcome n b .answer .number)
+  unfolding refused
+  outcome-number zero true P z h t = t refl refl
+  outcome-number zero false P z h t = z
+  outcome-number (suc n) b P z h t = rw (eqb·suc-zero n) h
+
+  fits : few ≡ false → length (floatsOf cs) ≤ length lent
+  fits q = nltb→le (length lent) (length (floatsOf cs)) (rw q tt)
+
+  outcome-size : (n : ℕ) (b : Bool) → few ≡ b → length (outcome n b .out) ≡ length lent
+  unfolding refused
+  outcome-size zero true q = refl
+  outcome-size zero false q = length-append (floatsOf cs) (drop (length (floatsOf cs)) lent) ∙ omega (arith, length-drop (length (floatsOf cs)) lent, fits q)
+  outcome-size (suc n) b q = rw (eqb·suc-zero n) refl
+
+  outcome-past : (n : ℕ) (b : Bool) → drop (3 * outcome n b .answer .corners) (outcome n b .out) ≡ drop (3 * outcome n b .answer .corners) lent
+  unfolding refused
+  outcome-past zero true = refl
+  outcome-past zero false = rw (← floats-length cs) (drop-at (floatsOf cs) (drop (length (floatsOf cs)) lent) (length (floatsOf cs)) refl)
+  outcome-past (suc n) b = rw (eqb·suc-zero n) refl
+
+-- ---- which numbers a refusal may have
+
+first-all : (P : ℕ → Type 0) (a b c : ℕ) → P 0 → P a → P b → P c → P (first (λ n. n) (a ∷ b ∷ c ∷ []))
+unfolding first
+first-all P zero zero zero z x y w = z
+first-all P zero zero (suc c) z x y w = rw (eqb·suc-zero c) w
+first-all P zero (suc b) c z x y w = rw (eqb·suc-zero b) y
+first-all P (suc a) b c z x y w = rw (eqb·suc-zero a) x
+
+-- not k
+abbrev other : ℕ → ℕ → Type 0
+other k n = T (not (eqb n k))
+
+module _ (P : ℕ → Type 0) (p : Plan) where
+  plan-number : P 0 → P 1 → P 2 → (mostProjected < cellTotal p → P 16) → P (planRefusal p)
+  unfolding planRefusal
+  plan-number a b c d = go (inRange p) (tooLarge p) (ltb mostProjected (cellTotal p)) refl
+    where
+      go : (x y z : Bool) → ltb mostProjected (cellTotal p) ≡ z → P (cond (not x) 1 (cond y 2 (cond z 16 0)))
+      go false y z q = b
+      go true true z q = c
+      go true false true q = d (ltb→lt mostProjected (cellTotal p) (rw q tt))
+      go true false false q = a
+
+  check-number : (cells functions : List ℕ) → P 0 → P 1 → P 2 → P 3 → P 4 → P 5 → P 6 → P (check p cells functions)
+  unfolding check refusal3 refusal6
+  check-number cells functions a b c d e f g =
+      go (inRange p) (tooLarge p) (eqb (length cells) (cellTotal p) && eqb (length functions) (functionTotal p)) (isMesh p cells) (isAdmissible p cells) (isLabelled p cells functions)
+    where
+      go : (x y z u v w : Bool) → P (cond (eqb (three x y z) 0) (cond (not u) 4 (cond (not v) 5 (cond (not w) 6 0))) (three x y z))
+      go false y z u v w = b
+      go true true z u v w = c
+      go true false false u v w = d
+      go true false true false v w = e
+      go true false true true false w = f
+      go true false true true true false = g
+      go true false true true true true = a
+
+  heights-number : (functions : List ℕ) (heights : List ℤ) → P 0 → P 3 → P 14 → P 15 → P (heightsRefusal p functions heights)
+  unfolding heightsRefusal
+  heights-number functions heights a b c d = go (eqb (length heights) (functionTotal p)) (inexact p) (allLow p functions heights)
+    where
+      go : (x y z : Bool) → P (cond (not x) 3 (cond y 14 (cond (not z) 15 0)))
+      go false y z = b
+      go true true z = c
+      go true false false = d
+      go true false true = a
+
+-- ---- all of it
+
+module _ (p : Plan) (cells functions : List ℕ) (heights : List ℤ) (lent : List Float) where
+  abbrev cs : List Corner
+  cs = corners p functions heights cells
+
+  abbrev n : ℕ
+  n = refusal p cells functions heights
+
+  -- the numbers that the refusals in order have
+  numbers : (P : ℕ → Type 0) → P 0 → P 1 → P 2 → P 3 → P 4 → P 5 → P 6 → P 14 → P 15 → (mostProjected < cellTotal p → P 16) → P n
+  unfolding refusal
+  numbers P a b c d e f g h i j =
+      first-all P (planRefusal p) (check p cells functions) (heightsRefusal p functions heights) a
+      (plan-number P p a b c j)
+      (check-number P p cells functions a b c d e f g)
+      (heights-number P p functions heights a d h i)
+
+  -- ---- accepted
+
+  -- what an accepted call had to pass
+  pub record Taken : Type 0 where
+    pub planned : planRefusal p ≡ 0
+    pub checked : check p cells functions ≡ 0
+    pub judged : heightsRefusal p functions heights ≡ 0
+    pub roomy : few cs lent ≡ false
+
+  taken : given p cells functions heights lent .number ≡ 0 → Taken
+  unfolding project filled refusal
+  taken e =
+      let (z, b) = outcome-taken cs lent n (few cs lent) e in
+      let (h, r) = first-none (planRefusal p) _ z in
+      let (c, q) = first-none (check p cells functions) _ r in
+      record { planned = h; checked = c; judged = first-none (heightsRefusal p functions heights) [] q .0; roomy = b }
+
+  taken-is : Taken → project p cells functions heights lent ≡ filled cs lent
+  unfolding project refusal first
+  taken-is t = rw (t .planned, t .checked, t .judged) refl
+
+  written : Taken → filled cs lent ≡ record { answer = record { number = 0; corners = length cs }; out = floatsOf cs ++ drop (length (floatsOf cs)) lent }
+  unfolding filled
+  written t = rw (t .roomy) refl
+
+  active-count : check p cells functions ≡ 0 → count p cells functions .active ≡ tally (cellTotal p) (active cells)
+  unfolding count
+  active-count e = rw e refl
+
+  -- ---- where a corner stands
+
+  module _ (c : ℕ) (below : c < cellTotal p) (yes : active cells c ≡ true) where
+    abbrev fours : List Float
+    fours = floatsOf (cornersOf p functions heights (cellPlace p c))
+
+    -- the cell's floats, and what follows
+    behind : Taken → (more : List Float) × (drop (12 * tally c (active cells)) (project p cells functions heights lent .out) ≡ fours ++ more)
+    behind t =
+        let (rest, e) = floats-from p functions heights cells c below yes in
+        let before = floatsBelow p functions heights cells c in
+        let others = floatsOf (flatMap (λ (d : ℕ). cornersOf p functions heights (cellPlace p d)) rest) in
+        let tail = drop (length (floatsOf cs)) lent in
+        let out : project p cells functions heights lent .out ≡ floatsOf cs ++ tail = ap (λ (o : CornersOutcome). o .out) (taken-is t ∙ written t) in
+        let len : length before ≡ 12 * tally c (active cells) = twelve p functions heights cells c ∙ rw (listed-tally c (active cells)) refl in (
+          others ++ tail,
+          ap (drop (12 * tally c (active cells))) (out ∙ ap (λ (l : List Float). l ++ tail) e ∙ append-assoc before (fours ++ others) tail ∙ ap (λ (l : List Float). before ++ l) (append-assoc fours others tail))
+              ∙ drop-at before (fours ++ (others ++ tail)) (12 * tally c (active cells)) len,
+        )
+
+    among : (a b : ℕ) → a ≤ 1 → b ≤ 1 → (more : List Float) → take 3 (drop (6 * b + 3 * a) (fours ++ more)) ≡ threeFloats (cornerOf p functions heights (cellPlace p c) a b)
+    unfolding cornersOf flatMap
+    among zero zero g h more = refl
+    among (suc zero) zero g h more = refl
+    among zero (suc zero) g h more = refl
+    among (suc zero) (suc zero) g h more = refl
+    among (suc (suc a)) b g h more = absurd (omega arith)
+    among zero (suc (suc b)) g h more = absurd (omega arith)
+    among (suc zero) (suc (suc b)) g h more = absurd (omega arith)
+
+    stands : Taken → (a b : ℕ) → a ≤ 1 → b ≤ 1
+        → take 3 (drop (12 * tally c (active cells) + 6 * b + 3 * a) (project p cells functions heights lent .out)) ≡ threeFloats (cornerOf p functions heights (cellPlace p c) a b)
+    stands t a b g h =
+        let (more, e) = behind t in
+        let s : 12 * tally c (active cells) + 6 * b + 3 * a ≡ 12 * tally c (active cells) + (6 * b + 3 * a) = omega arith in
+        ap (λ (m : ℕ). take 3 (drop m (project p cells functions heights lent .out))) s
+        ∙ ap (take 3) (sym (drop-drop (6 * b + 3 * a) (12 * tally c (active cells)) (project p cells functions heights lent .out)))
+        ∙ ap (λ (l : List Float). take 3 (drop (6 * b + 3 * a) l)) e
+        ∙ among a b g h more
+
+  -- ---- what it is
+
+  sound : Taken → (c : ℕ) → c < cellTotal p → (a b : ℕ) → a ≤ 1 → b ≤ 1 → Sound p cells functions heights (cellPlace p c) a b
+  unfolding cornerOf cornerAt
+  sound t c l a b g h =
+      let range = check-passed p cells functions (t .checked) .range in
+      let o = on-lines p (cellPlace p c) range (cell-inside p range c l) g h in
+      record {
+        across = dyadic-value 0 (pos _);
+        up = dyadic-value 0 (pos _);
+        height = sym (answered p cells functions heights _ _ (t .checked) (t .judged) (T-true (onMesh p _ _) (o .inside)) refl);
+      }
+
+  room : 12 * mostProjected ≤ length lent → n ≡ 0 → few cs lent ≡ true → ⊥
+  unfolding refusal
+  room h z f =
+      let l = ltb→lt (length lent) (length (floatsOf cs)) (rw f tt) in
+      omega (arith, floats-count p functions heights cells, tally-small (cellTotal p) (active cells), small p (first-none (planRefusal p) _ z .0), l, h)
+
+  -- ---- the number
+
+  refusal-16 : inRange p ≡ true → tooLarge p ≡ false → mostProjected < cellTotal p → n ≡ 16
+  unfolding refusal
+  refusal-16 a b l =
+      ap (λ (m : ℕ). first (λ k. k) (m ∷ check p cells functions ∷ heightsRefusal p functions heights ∷ [])) (plan-16 p a b l)
+      ∙ first-here 16 (check p cells functions ∷ heightsRefusal p functions heights ∷ []) (differ 16 0 tt)
+
+  number-16 : n ≡ 16 → given p cells functions heights lent .number ≡ 16
+  unfolding project filled refused
+  number-16 e = ap (λ (m : ℕ). outcome cs lent m (few cs lent) .answer .number) e
+
+  not-16 : cellTotal p ≤ mostProjected → given p cells functions heights lent .number ≢ 16
+  unfolding project filled
+  not-16 l =
+      differ _ 16 (outcome-number cs lent n (few cs lent) (other 16) tt (numbers (other 16) tt tt tt tt tt tt tt tt tt (λ g. absurd (omega (arith, g, l)))) (λ f z. tt))
+
+  not-10 : 12 * mostProjected ≤ length lent → given p cells functions heights lent .number ≢ 10
+  unfolding project filled
+  not-10 l =
+      differ _ 10 (outcome-number cs lent n (few cs lent) (other 10) tt (numbers (other 10) tt tt tt tt tt tt tt tt tt (λ g. tt)) (λ f z. absurd (room l z f)))
+
+  projected : Projected p cells functions heights lent
+  unfolding project filled
+  projected = record {
+    large = λ a b l. number-16 (refusal-16 a b l);
+    small = not-16;
+    enough = not-10;
+    kept = outcome-kept cs lent n (few cs lent);
+    size = outcome-size cs lent n (few cs lent) refl;
+    past = outcome-past cs lent n (few cs lent);
+    four = λ e. let t = taken e in ap (λ (o : CornersOutcome). o .answer .corners) (taken-is t ∙ written t) ∙ corners-length p functions heights cells ∙ ap (λ (m : ℕ). 4 * m) (sym (active-count (t .checked)));
+    stands = λ e c l u. stands c l (T-true (active cells c) u) (taken e);
+    sound = λ e. sound (taken e);
+  }
+
+pub demands : Demands
+demands = projected

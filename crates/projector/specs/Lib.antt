@@ -1,0 +1,3 @@
+pub mod Projector
+pub mod Steps
+pub mod Demands
