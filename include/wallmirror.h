@@ -105,11 +105,27 @@
  * With heights 10 and 8 for these, and 0 for the others, the surface is 5 + 8/16 = 5.5 mm high
  * there.
  *
- * Pointers. Each table, file, list of heights, mark list and output list is a pointer and its
- * number of entries. A null pointer with length 0 is taken as an empty slice. With any other length
- * the pointer must be aligned for its type and lead to that many entries, readable, and writable
- * where it is not const. The tables, lists and file of one call must not overlap each other. So the
- * cell list of an earlier call may serve as marks, but not as the cell list of the same call too.
+ * Projector. wallmirror_corners gives the surface as a grid that can be thrown or drawn: of each
+ * active cell, in rising order of the numbers, its four corners, lower left, lower right, upper
+ * left, upper right, where row 0 is the lowest. These are points and have nothing to do with the
+ * corners of a plan, which are lines. A cell's corner is three doubles: across and up, in cells of
+ * the last level, and the height of the surface there in mm, as wallmirror_height answers it at the
+ * point 8 * across, 8 * up. With s = 2^(levels - 1 - k) a cell of level k at column c, row r lies
+ * from c * s to (c + 1) * s across and from r * s to (r + 1) * s up. So a cell has twelve doubles,
+ * all of them exact, and they fill the lent output from its start. In the example above, with the
+ * heights above, the corners of cell 3 are 0 0 0, 2 0 5.5, 0 2 0 and 2 2 2.5.
+ *
+ * A plan with more than WALLMIRROR_MAX_PROJECTED_CELLS cells on all levels together is refused with
+ * 16, directly after 1 and 2. Then follows what wallmirror_height refuses, where 15 is for the
+ * heights alone, since no corner of a cell lies beyond the mesh; and last 10, where the output is
+ * shorter than all corners. Its length is what wallmirror_corners_len says, or more.
+ *
+ * Pointers. Each table, file, list of heights, mark list, output list and output of doubles is a
+ * pointer and its number of entries. A null pointer with length 0 is taken as an empty slice. With
+ * any other length the pointer must be aligned for its type and lead to that many entries,
+ * readable, and writable where it is not const. The tables, lists, file and output of one call must
+ * not overlap each other. So the cell list of an earlier call may serve as marks, but not as the
+ * cell list of the same call too.
  *
  * Limits.
  *   columns, rows                 1 to 16
@@ -123,6 +139,7 @@
  *   file of a mesh                at most WALLMIRROR_MAX_FILE_BYTES bytes
  *   plan of wallmirror_height     degrees 1 and 2, at most four levels
  *   height of an active function  at most WALLMIRROR_MAX_HEIGHT_MM mm either way
+ *   plan of wallmirror_corners    the same, and at most WALLMIRROR_MAX_PROJECTED_CELLS cells
  *   stack of a call               at most WALLMIRROR_STACK_BYTES
  */
 #ifndef WALLMIRROR_H
@@ -137,9 +154,9 @@ extern "C" {
 
 /* Of this header. */
 #define WALLMIRROR_VERSION_MAJOR 0
-#define WALLMIRROR_VERSION_MINOR 5
+#define WALLMIRROR_VERSION_MINOR 6
 #define WALLMIRROR_VERSION_PATCH 0
-#define WALLMIRROR_VERSION "0.5.0"
+#define WALLMIRROR_VERSION "0.6.0"
 
 /* The most cells a mesh may have on all levels together, and the most functions such a mesh has:
  * buffers of these sizes serve every plan. */
@@ -152,6 +169,11 @@ extern "C" {
 /* The greatest height of an active function in mm, either way. It is met exactly: on level k the
  * heights go from -65536 * 16^k to 65536 * 16^k. */
 #define WALLMIRROR_MAX_HEIGHT_MM 65536
+
+/* The most cells on all levels together of a plan that wallmirror_corners takes, and twelve doubles
+ * for each: a buffer of this size serves every mesh that it takes. */
+#define WALLMIRROR_MAX_PROJECTED_CELLS 1024
+#define WALLMIRROR_MAX_CORNER_DOUBLES 12288
 
 /* The most stack that any call takes, in bytes: what a thread must have left when it calls. */
 #define WALLMIRROR_STACK_BYTES 262144
@@ -186,8 +208,8 @@ enum WallmirrorFunction {
 };
 
 /* The number that every call answers. Where several apply, the first of this order is given:
- * 12; 1 to 6; then 3 of the heights, 14, 15; then the marks in list order, each tried for 7, 8, 9;
- * then 10, 11; then 13. */
+ * 12; 1, 2; then 16, of wallmirror_corners alone; 3 to 6; then 3 of the heights, 14, 15; then the
+ * marks in list order, each tried for 7, 8, 9; then 10, 11; then 13. */
 enum WallmirrorRefusal {
     WALLMIRROR_ACCEPTED = 0,
     /* a number of the plan is out of range, or a bit of its corners marks no line between two
@@ -195,8 +217,8 @@ enum WallmirrorRefusal {
     WALLMIRROR_PLAN_OUT_OF_RANGE = 1,
     /* all levels together have more than WALLMIRROR_MAX_CELLS cells */
     WALLMIRROR_TOO_MANY_CELLS = 2,
-    /* a table has not the length that the plan gives it; of wallmirror_height also, after 6: the
-     * heights are not as many as the functions */
+    /* a table has not the length that the plan gives it; of wallmirror_height and of
+     * wallmirror_corners also, after 6: the heights are not as many as the functions */
     WALLMIRROR_TABLE_LENGTH = 3,
     /* the cell bytes are not a mesh: another byte than 0, 1, 2, an absent cell of level 0, a refined
      * cell with an absent child, any other cell with a child that is not absent, or a refined cell
@@ -213,7 +235,8 @@ enum WallmirrorRefusal {
     /* a mark of a refining call is of the last level */
     WALLMIRROR_MARK_OF_LAST_LEVEL = 9,
     /* the cell list is shorter than the cells it must name; of wallmirror_write: the lent bytes are
-     * fewer than the file has */
+     * fewer than the file has; of wallmirror_corners: the lent doubles are fewer than twelve for
+     * each active cell */
     WALLMIRROR_CELL_LIST_TOO_SHORT = 10,
     /* the function list is shorter than the functions it must name */
     WALLMIRROR_FUNCTION_LIST_TOO_SHORT = 11,
@@ -226,7 +249,10 @@ enum WallmirrorRefusal {
     WALLMIRROR_PLAN_WITHOUT_HEIGHTS = 14,
     /* the point lies beyond the mesh, or the height of an active function is more than
      * WALLMIRROR_MAX_HEIGHT_MM either way */
-    WALLMIRROR_POINT_OR_HEIGHT_OUT_OF_RANGE = 15
+    WALLMIRROR_POINT_OR_HEIGHT_OUT_OF_RANGE = 15,
+    /* of wallmirror_corners: all levels together have more than WALLMIRROR_MAX_PROJECTED_CELLS
+     * cells */
+    WALLMIRROR_TOO_MANY_CELLS_TO_PROJECT = 16
 };
 
 /* What wallmirror_count answers. After a refusal all but the number are 0. */
@@ -263,6 +289,12 @@ typedef struct WallmirrorHeight {
     uint32_t number; /* a WallmirrorRefusal */
     double height;   /* of the surface, in mm; 0 after a refusal */
 } WallmirrorHeight;
+
+/* What wallmirror_corners answers. */
+typedef struct WallmirrorCorners {
+    uint32_t number;  /* a WallmirrorRefusal */
+    uint32_t corners; /* how many were written, of three doubles each; 0 after a refusal */
+} WallmirrorCorners;
 
 /* Whether the plan is one that wallmirror_open takes (refusals 1 and 2 do not apply). */
 static inline int wallmirror_plan_is_valid(WallmirrorPlan plan)
@@ -329,6 +361,15 @@ static inline size_t wallmirror_functions_len(WallmirrorPlan plan)
     for (level = 0; level < plan.levels; level++)
         total += wallmirror_functions_across(plan, level) * wallmirror_functions_up(plan, level);
     return total;
+}
+
+/* The doubles that wallmirror_corners writes for a mesh: twelve for each active cell. */
+static inline size_t wallmirror_corners_len(const uint8_t *cells, size_t cells_len)
+{
+    size_t active = 0, i;
+    for (i = 0; i < cells_len; i++)
+        active += cells[i] == WALLMIRROR_CELL_ACTIVE;
+    return 12 * active;
 }
 
 /* Makes both tables the coarsest mesh of the plan: every cell and function of level 0 active,
@@ -423,6 +464,17 @@ WallmirrorHeight wallmirror_height(WallmirrorPlan plan,
                                    const uint8_t *functions, size_t functions_len,
                                    const int32_t *heights, size_t heights_len,
                                    uint32_t across, uint32_t up);
+
+/* The corners of the active cells with the height of the surface there, as is said at the top:
+ * twelve doubles for a cell, exactly, from the start of out on. Doubles past them keep their
+ * values. Of a height that is 0 the same holds as with wallmirror_height. Refuses 1; 2; 16; 3 to 6;
+ * then 3 where there is not one height for each function; then 14; then 15, for the heights; then
+ * 10. */
+WallmirrorCorners wallmirror_corners(WallmirrorPlan plan,
+                                     const uint8_t *cells, size_t cells_len,
+                                     const uint8_t *functions, size_t functions_len,
+                                     const int32_t *heights, size_t heights_len,
+                                     double *out, size_t out_len);
 
 #ifdef __cplusplus
 }

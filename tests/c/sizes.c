@@ -1,8 +1,9 @@
 /*
  * The lengths that the header computes are those that the library takes, for every plan in range
  * and for the numbers just outside, with corners and without, its macros agree with each other, its
- * structs are laid out as the library has them, the longest file is as long as it says, and the
- * greatest height is taken and no greater one. The output is to be that of sizes.expected.
+ * structs are laid out as the library has them, the longest file is as long as it says, the
+ * greatest height is taken and no greater one, and so are the most cells for the projector. The
+ * output is to be that of sizes.expected.
  */
 #include <stddef.h>
 #include <stdio.h>
@@ -12,12 +13,29 @@
 
 static uint8_t cells[WALLMIRROR_MAX_CELLS + 1], functions[WALLMIRROR_MAX_FUNCTIONS + 1];
 static unsigned long taken, refused, wrong;
-static size_t most_cells, most_functions;
+static size_t most_cells, most_functions, most_projected;
+
+/* Of the projector the plan alone is tried, with nothing lent: it is refused as by open, with 16
+ * where it has too many cells, or with 3 for the empty tables. */
+static void try_projected(WallmirrorPlan plan, size_t t, uint32_t opened)
+{
+    WallmirrorCorners answer = wallmirror_corners(plan, NULL, 0, NULL, 0, NULL, 0, NULL, 0);
+    uint32_t number = opened;
+    if (opened == WALLMIRROR_ACCEPTED)
+        number = WALLMIRROR_TABLE_LENGTH;
+    if (t > WALLMIRROR_MAX_PROJECTED_CELLS)
+        number = WALLMIRROR_TOO_MANY_CELLS_TO_PROJECT;
+    if (answer.number != number || answer.corners != 0)
+        wrong++;
+    if (answer.number == WALLMIRROR_TABLE_LENGTH && t > most_projected)
+        most_projected = t;
+}
 
 static void try_plan(WallmirrorPlan plan)
 {
     size_t t = wallmirror_cells_len(plan), f = wallmirror_functions_len(plan);
     uint32_t number = wallmirror_open(plan, cells, t, functions, f);
+    try_projected(plan, t, number);
     if (!wallmirror_plan_is_valid(plan)) {
         refused++;
         if (t != 0 || f != 0 || (number != WALLMIRROR_PLAN_OUT_OF_RANGE &&
@@ -71,6 +89,9 @@ static void try_structs(void)
         wrong++;
     if (sizeof(WallmirrorHeight) != 16 || offsetof(WallmirrorHeight, number) != 0 ||
         offsetof(WallmirrorHeight, height) != 8 || sizeof(double) != 8)
+        wrong++;
+    if (sizeof(WallmirrorCorners) != 8 || offsetof(WallmirrorCorners, number) != 0 ||
+        offsetof(WallmirrorCorners, corners) != 4)
         wrong++;
 }
 
@@ -154,6 +175,39 @@ static void try_heights(void)
         wrong++;
 }
 
+/* The most corners: all 196 cells of level 0 are refined, and their 784 children have four corners
+ * each. A double fewer is refused, and of more those past the corners keep their values. */
+static void try_most_corners(void)
+{
+    static int32_t heights[WALLMIRROR_MAX_FUNCTIONS]; /* all 0 */
+    static uint32_t marks[14 * 14], cell_list[14 * 14], function_list[WALLMIRROR_MAX_FUNCTIONS];
+    static double out[WALLMIRROR_MAX_CORNER_DOUBLES];
+    WallmirrorPlan plan = {14, 14, 2, 2, 2, 2, (1u << 14) - 2, (1u << 14) - 2};
+    size_t t = wallmirror_cells_len(plan), f = wallmirror_functions_len(plan), doubles, i;
+    WallmirrorCorners answer;
+    for (i = 0; i < 14 * 14; i++)
+        marks[i] = (uint32_t)i;
+    for (i = 0; i < WALLMIRROR_MAX_CORNER_DOUBLES; i++)
+        out[i] = 0.5;
+    if (wallmirror_open(plan, cells, t, functions, f) != WALLMIRROR_ACCEPTED ||
+        wallmirror_refine_cells(plan, cells, t, functions, f, marks, 14 * 14, cell_list, 14 * 14,
+                                function_list, f).cells != 14 * 14)
+        wrong++;
+    doubles = wallmirror_corners_len(cells, t);
+    if (doubles != 12 * 784 || doubles > WALLMIRROR_MAX_CORNER_DOUBLES)
+        wrong++;
+    answer = wallmirror_corners(plan, cells, t, functions, f, heights, f, out, doubles - 1);
+    if (answer.number != WALLMIRROR_CELL_LIST_TOO_SHORT || answer.corners != 0 || out[0] != 0.5)
+        wrong++;
+    answer = wallmirror_corners(plan, cells, t, functions, f, heights, f, out,
+                                WALLMIRROR_MAX_CORNER_DOUBLES);
+    /* the last one is where both far edges meet */
+    if (answer.number != WALLMIRROR_ACCEPTED || answer.corners != 4 * 784 || out[0] != 0 ||
+        out[doubles - 3] != 28 || out[doubles - 2] != 28 || out[doubles - 1] != 0 ||
+        out[doubles] != 0.5)
+        wrong++;
+}
+
 /* The corners that are tried of n columns or rows: none, one, one before each, and three that are
  * not between two of them. */
 enum { SETS = 6, GOOD_SETS = 3 };
@@ -211,6 +265,7 @@ int main(void)
     try_structs();
     try_longest_file();
     try_heights();
+    try_most_corners();
     for (plan.columns = 0; plan.columns <= 17; plan.columns++)
         for (plan.rows = 0; plan.rows <= 17; plan.rows++)
             for (plan.levels = 0; plan.levels <= 9; plan.levels++)
@@ -231,5 +286,12 @@ int main(void)
     printf("version %s, at most %lu bytes of stack and %lu of a file, heights to %lu mm\n",
            WALLMIRROR_VERSION, (unsigned long)WALLMIRROR_STACK_BYTES,
            (unsigned long)WALLMIRROR_MAX_FILE_BYTES, (unsigned long)WALLMIRROR_MAX_HEIGHT_MM);
+    /* no plan has just as many cells as there may be */
+    printf("the projector takes at most %lu cells, plans up to %lu, and %lu doubles are enough\n",
+           (unsigned long)WALLMIRROR_MAX_PROJECTED_CELLS, (unsigned long)most_projected,
+           (unsigned long)WALLMIRROR_MAX_CORNER_DOUBLES);
+    if (most_projected > WALLMIRROR_MAX_PROJECTED_CELLS ||
+        WALLMIRROR_MAX_CORNER_DOUBLES != 12 * WALLMIRROR_MAX_PROJECTED_CELLS)
+        wrong++;
     return wrong != 0;
 }
