@@ -935,6 +935,21 @@ static int is_too_high(const struct layout *at, const uint8_t *functions, const 
     return wrong != 0;
 }
 
+/* Check, and then what is refused of the heights. */
+static uint32_t check_heights(struct layout *at, WallmirrorPlan plan, const uint8_t *cells,
+                              size_t cells_len, const uint8_t *functions, size_t functions_len,
+                              const int32_t *heights, size_t heights_len)
+{
+    uint32_t number = check(at, plan, cells, cells_len, functions, functions_len);
+    if (number != 0)
+        return number;
+    if (heights_len != functions_len)
+        return WALLMIRROR_TABLE_LENGTH;
+    if (at->across > 2 || at->up > 2 || at->levels > 4)
+        return WALLMIRROR_PLAN_WITHOUT_HEIGHTS;
+    return is_too_high(at, functions, heights) ? WALLMIRROR_POINT_OR_HEIGHT_OUT_OF_RANGE : 0;
+}
+
 WallmirrorHeight tuned_height(WallmirrorPlan plan, const uint8_t *cells, size_t cells_len,
                               const uint8_t *functions, size_t functions_len,
                               const int32_t *heights, size_t heights_len,
@@ -943,15 +958,10 @@ WallmirrorHeight tuned_height(WallmirrorPlan plan, const uint8_t *cells, size_t 
     WallmirrorHeight answer = {0, 0};
     struct layout at;
     uint32_t level, i, j;
-    answer.number = check(&at, plan, cells, cells_len, functions, functions_len);
-    if (answer.number != 0)
-        return answer;
-    if (heights_len != functions_len)
-        answer.number = WALLMIRROR_TABLE_LENGTH;
-    else if (at.across > 2 || at.up > 2 || at.levels > 4)
-        answer.number = WALLMIRROR_PLAN_WITHOUT_HEIGHTS;
-    else if (across > 8 * at.columns[at.levels - 1] || up > 8 * at.rows[at.levels - 1] ||
-             is_too_high(&at, functions, heights))
+    answer.number = check_heights(&at, plan, cells, cells_len, functions, functions_len, heights,
+                                  heights_len);
+    if (answer.number == 0 &&
+        (across > 8 * at.columns[at.levels - 1] || up > 8 * at.rows[at.levels - 1]))
         answer.number = WALLMIRROR_POINT_OR_HEIGHT_OUT_OF_RANGE;
     if (answer.number != 0)
         return answer;
@@ -970,5 +980,104 @@ WallmirrorHeight tuned_height(WallmirrorPlan plan, const uint8_t *cells, size_t 
                     sum += heights[first + i] * values_across[i] * values_up[j];
         answer.height += sum / (1 << 4 * level);
     }
+    return answer;
+}
+
+/* ---- Corners of cells ---- */
+
+/* The most lines of the last level across, or up, and the most points where they meet: those of 12
+ * by 1 cells with four levels. */
+enum { MOST_LINES = 12 * 8 + 1, MOST_POINTS = MOST_LINES * (8 + 1) };
+
+/* Of a level's functions in one direction, on each line of the last level: the first that is over
+ * it, and the values from there on. */
+struct lines {
+    size_t first[MOST_LINES];
+    double values[MOST_LINES][3];
+};
+
+static void lay_lines(struct lines *lines, uint32_t degree, size_t n, uint32_t level,
+                      uint32_t corners, size_t size, size_t last)
+{
+    size_t line;
+    for (line = 0; line <= last; line++)
+        lines->first[line] =
+            values_at(degree, n, level, corners, size, line, lines->values[line]);
+}
+
+/* The heights where the lines of the last level meet, row by row. */
+static void lay_heights(const struct layout *at, const uint8_t *functions, const int32_t *heights,
+                        double *out)
+{
+    static const double units[4] = {1, 1.0 / 16, 1.0 / 256, 1.0 / 4096};
+    size_t columns = at->columns[at->levels - 1], rows = at->rows[at->levels - 1], x, y;
+    uint32_t level, i, j;
+    memset(out, 0, (columns + 1) * (rows + 1) * sizeof *out);
+    for (level = 0; level < at->levels; level++) {
+        struct lines across, up;
+        size_t size = (size_t)1 << (at->levels - 1 - level), width = at->functions_across[level];
+        lay_lines(&across, at->across, at->columns[level], level, at->corners_across, size,
+                  columns);
+        lay_lines(&up, at->up, at->rows[level], level, at->corners_up, size, rows);
+        for (y = 0; y <= rows; y++)
+            for (x = 0; x <= columns; x++) {
+                size_t first = at->functions_at[level] + up.first[y] * width + across.first[x];
+                double sum = 0;
+                for (j = 0; j <= at->up; j++, first += width)
+                    for (i = 0; i <= at->across; i++)
+                        if (functions[first + i] == 1)
+                            sum += heights[first + i] * across.values[x][i] * up.values[y][j];
+                out[y * (columns + 1) + x] += sum * units[level];
+            }
+    }
+}
+
+/* The four corners of the cells of a row, of which each is `size` last-level cells wide. */
+static double *put_row(const uint8_t *cells, size_t n, size_t row, size_t size,
+                       const double *heights, double *out)
+{
+    size_t column, i;
+    for (column = 0; column < n; column++) {
+        if (cells[column] != 1)
+            continue;
+        for (i = 0; i < 4; i++, out += 3) {
+            size_t x = (column + i % 2) * size, y = (row + i / 2) * size;
+            out[0] = (double)x;
+            out[1] = (double)y;
+            out[2] = heights[y * (n * size + 1) + x];
+        }
+    }
+    return out;
+}
+
+WallmirrorCorners tuned_corners(WallmirrorPlan plan, const uint8_t *cells, size_t cells_len,
+                                const uint8_t *functions, size_t functions_len,
+                                const int32_t *heights, size_t heights_len,
+                                double *out, size_t out_len)
+{
+    double at_lines[MOST_POINTS];
+    WallmirrorCorners answer = {0, 0};
+    struct layout at;
+    uint32_t level, active;
+    size_t row;
+    answer.number = lay_out(&at, plan);
+    if (answer.number == 0 && at.cells_at[at.levels] > WALLMIRROR_MAX_PROJECTED_CELLS)
+        answer.number = WALLMIRROR_TOO_MANY_CELLS_TO_PROJECT;
+    if (answer.number == 0)
+        answer.number = check_heights(&at, plan, cells, cells_len, functions, functions_len,
+                                      heights, heights_len);
+    if (answer.number != 0)
+        return answer;
+    active = count_byte(cells, cells_len, 1);
+    if (out_len < (size_t)12 * active) {
+        answer.number = WALLMIRROR_CELL_LIST_TOO_SHORT;
+        return answer;
+    }
+    lay_heights(&at, functions, heights, at_lines);
+    for (level = 0; level < at.levels; level++)
+        for (row = 0; row < at.rows[level]; row++)
+            out = put_row(cells + at.cells_at[level] + row * at.columns[level], at.columns[level],
+                          row, (size_t)1 << (at.levels - 1 - level), at_lines, out);
+    answer.corners = 4 * active;
     return answer;
 }

@@ -40,4 +40,9 @@ WallmirrorHeight tuned_height(WallmirrorPlan plan, const uint8_t *cells, size_t 
                               const int32_t *heights, size_t heights_len,
                               uint32_t across, uint32_t up);
 
+WallmirrorCorners tuned_corners(WallmirrorPlan plan, const uint8_t *cells, size_t cells_len,
+                                const uint8_t *functions, size_t functions_len,
+                                const int32_t *heights, size_t heights_len,
+                                double *out, size_t out_len);
+
 #endif

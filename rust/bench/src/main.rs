@@ -1,7 +1,8 @@
 //! Prints, for meshes near the largest, what each call takes: the library, the tuned C version
 //! beside it (`c/tuned.c`), the model, and how often both tables could be read meanwhile. Some
 //! calls follow on meshes with corners, for which there are no goals. Then, for the smallest
-//! meshes, what the height at one point takes. Run it in release mode:
+//! meshes, what the height at one point takes, and for the largest that the projector takes, what
+//! the corners of their cells take. Run it in release mode:
 //! `cargo run --release --offline -p bench`.
 //!
 //! The times are the least of many rounds. Library, C and reading take turns, so that a ratio
@@ -11,6 +12,7 @@ mod versions;
 
 use differential::scenario::{self, Scenario};
 use differential::{plan, Kind, Tables};
+use model::{projector::Corner, Plan};
 use std::hint::black_box;
 use std::time::{Duration, Instant};
 use versions::{agree, Buffers, Call, LIBRARY, TUNED};
@@ -31,7 +33,8 @@ impl Goal {
 
     fn of(call: Call, marks: usize) -> Option<Goal> {
         match call {
-            Call::Open | Call::Count | Call::Read | Call::Write => None,
+            // The corners have a goal of their own.
+            Call::Open | Call::Count | Call::Read | Call::Write | Call::Corners => None,
             Call::Check => Some(Goal::Check),
             Call::Height => Some(Goal::Height),
             Call::Change(kind) if kind.by_functions() => Some(Goal::Functions),
@@ -134,7 +137,8 @@ fn main() {
     let cornered: Vec<Row> = scenario::with_corners().iter().flat_map(measure_corners).collect();
     rows.extend(scenario::with_heights().iter().flat_map(measure_height));
     let points = measure_points();
-    print_summary(&rows, &points);
+    let projected = measure_projected(&points);
+    print_summary(&rows, &points.map(|[.., four]| four.to_tuned()), &projected);
     print_summary_of_corners(&cornered);
 }
 
@@ -250,7 +254,7 @@ impl Point {
         let tables =
             scenario::towards_the_first_cell(plan([1, 1, levels, degree, degree, 0])).to_coarsen;
         let [[check, height], [tuned_check, tuned_height]] =
-            time_small(Buffers::with_room(&tables));
+            time_small(Buffers::with_room(&tables), Call::Height, 200);
         let (functions, tuned_after_check) = (tables.functions.len(), tuned_height - tuned_check);
         Point { degree, levels, functions, check, height, tuned_after_check }
     }
@@ -290,8 +294,8 @@ impl Point {
 }
 
 /// Measures and prints what one point takes after the check, on meshes so small that their tables
-/// hardly count, and answers for each degree how many times as long as C it takes on four levels.
-fn measure_points() -> [f64; 2] {
+/// hardly count: for each degree, on one level to four.
+fn measure_points() -> [[Point; 4]; 2] {
     println!("one point of 1 by 1 cells, refined towards the first cell, class 0; nanoseconds");
     println!(
         "{:<6} {:>8} {:>9} {:>6} {:>8} {:>8} {:>11} {:>8} {:>8} {:>9}",
@@ -306,36 +310,144 @@ fn measure_points() -> [f64; 2] {
         "C after",
         "library/C"
     );
-    let ratios = [1, 2].map(|degree| {
+    let points = [1, 2].map(|degree| {
         let points = [1, 2, 3, 4].map(|levels| Point::measure(degree, levels));
         points.iter().for_each(Point::print);
-        points[3].to_tuned()
+        points
     });
     println!(
         "on four levels it takes {:.1} and {:.1} times as long as C, goal {:.0}\n",
-        ratios[0],
-        ratios[1],
+        points[0][3].to_tuned(),
+        points[1][3].to_tuned(),
         Point::MOST
     );
-    ratios
+    points
 }
 
-/// Nanoseconds of check and height, of the library and of C: the least of many rounds of calls.
-fn time_small(mut buffers: Buffers) -> [[f64; 2]; 2] {
-    const CALLS: usize = 200;
+/// Nanoseconds of check and of a call that begins with it, of the library and of C: the least of
+/// many rounds of so many calls.
+fn time_small(mut buffers: Buffers, call: Call, calls: usize) -> [[f64; 2]; 2] {
     let mut least = [[Duration::MAX; 2]; 2];
     repeat(Duration::from_millis(400), 1000, || {
         for (version, least) in [&LIBRARY, &TUNED].into_iter().zip(&mut least) {
-            for (call, least) in [Call::Check, Call::Height].into_iter().zip(least) {
-                let calls = timed(|| (0..CALLS).for_each(|_| buffers.run(version, call, &[])));
+            for (call, least) in [Call::Check, call].into_iter().zip(least) {
+                let calls = timed(|| (0..calls).for_each(|_| buffers.run(version, call, &[])));
                 *least = calls.min(*least);
             }
         }
     });
-    least.map(|version| version.map(|time| time.as_secs_f64() * 1e9 / CALLS as f64))
+    least.map(|version| version.map(|time| time.as_secs_f64() * 1e9 / calls as f64))
 }
 
-fn print_summary(rows: &[Row], points: &[f64]) {
+/// What the corners of the active cells take on a mesh, in nanoseconds.
+struct Projected {
+    place: String,
+    corners: u32,
+    check: f64,
+    call: f64,
+    /// Of one call for the height at a point, which a caller would need for every corner instead.
+    height: f64,
+    /// Of C, the height at one point after the check, on as many levels.
+    tuned_height: f64,
+    tuned_after_check: f64,
+    model: f64,
+}
+
+impl Projected {
+    /// How many times as long as a height of C a corner may take after the check. The C version of
+    /// the call goes further: it computes a point that cells share once, and values once for a line.
+    const MOST: f64 = Point::MOST;
+
+    fn measure(scenario: &Scenario, points: &[[Point; 4]; 2]) -> Projected {
+        let (tables, place) = (&scenario.to_coarsen, scenario.to_string());
+        let Plan { degree_across, levels, .. } = tables.plan;
+        let tuned_height =
+            points[degree_across as usize - 1][levels as usize - 1].tuned_after_check;
+        let mut buffers = Buffers::with_room(tables);
+        assert_eq!(agree(Call::Corners, &buffers, &[]).0, 0, "{place}");
+        buffers.run(&LIBRARY, Call::Corners, &[]);
+        let corners = buffers.answer[1];
+        let mut model = Duration::MAX;
+        repeat(Duration::from_millis(60), 20, || {
+            model = model.min(timed(|| run_model(Call::Corners, tables, &[], &buffers)));
+        });
+        let model = model.as_secs_f64() * 1e9;
+        let [[_, height], _] = time_small(buffers.clone(), Call::Height, 20);
+        let [[check, call], [tuned_check, tuned_call]] = time_small(buffers, Call::Corners, 4);
+        let tuned_after_check = tuned_call - tuned_check;
+        Projected { place, corners, check, call, height, tuned_height, tuned_after_check, model }
+    }
+
+    fn after_check(&self) -> f64 {
+        self.call - self.check
+    }
+
+    fn for_each(&self) -> f64 {
+        self.after_check() / f64::from(self.corners)
+    }
+
+    fn to_height(&self) -> f64 {
+        self.for_each() / self.tuned_height
+    }
+
+    fn misses(&self) -> bool {
+        self.to_height() > Projected::MOST
+    }
+
+    fn print(&self) {
+        let corners = f64::from(self.corners);
+        println!(
+            "{:<66} {:>7} {:>6.1} {:>6.1} {:>8.1} {:>8.1} {:>8.1} {:>6.1} {:>12.1} {:>10.1} {:>5.0}{}",
+            self.place,
+            self.corners,
+            self.check / 1e3,
+            self.call / 1e3,
+            self.for_each(),
+            self.tuned_after_check / corners,
+            self.tuned_height,
+            self.to_height(),
+            self.height * corners / self.call,
+            self.model / self.call,
+            Projected::MOST,
+            if self.misses() { " missed" } else { "" }
+        );
+    }
+}
+
+/// Measures and prints the corners of the active cells on meshes that the projector takes.
+fn measure_projected(points: &[[Point; 4]; 2]) -> Vec<Projected> {
+    println!(
+        "corners of the active cells: check and the whole call in microseconds; for each corner,"
+    );
+    println!(
+        "after the check, nanoseconds of the library, of C with shared points, and of one height of C;"
+    );
+    println!("heights: one call of the library for each corner");
+    println!(
+        "{:<66} {:>7} {:>6} {:>6} {:>8} {:>8} {:>8} {:>6} {:>12} {:>10} {:>5}",
+        "mesh",
+        "corners",
+        "check",
+        "call",
+        "for each",
+        "C shared",
+        "C height",
+        "ratio",
+        "heights/call",
+        "model/call",
+        "goal"
+    );
+    let measured = |scenario: &Scenario| {
+        let projected = Projected::measure(scenario, points);
+        projected.print();
+        projected
+    };
+    let all = scenario::projected().iter().map(measured).collect();
+    println!();
+    all
+}
+
+fn print_summary(rows: &[Row], points: &[f64], projected: &[Projected]) {
     for row in rows.iter().filter(|row| row.misses()) {
         let most = row.goal().map_or(0.0, Goal::most);
         println!("missed: {:.1} times reading, not {most:.0}, {}", row.to_read(), row.said());
@@ -344,8 +456,14 @@ fn print_summary(rows: &[Row], points: &[f64]) {
     for ratio in &slow {
         println!("missed: one point on four levels takes {ratio:.1} times as long as C");
     }
-    let missed = rows.iter().filter(|row| row.misses()).count() + slow.len();
-    let goals = rows.iter().filter(|row| row.goal().is_some()).count() + points.len();
+    let slowest = projected.iter().filter(|projected| projected.misses());
+    for row in slowest.clone() {
+        let (ratio, place) = (row.to_height(), &row.place);
+        println!("missed: {ratio:.1} heights of C, not {:.0}, corners: {place}", Projected::MOST);
+    }
+    let missed = rows.iter().filter(|row| row.misses()).count() + slow.len() + slowest.count();
+    let with_goal = rows.iter().filter(|row| row.goal().is_some()).count();
+    let goals = with_goal + points.len() + projected.len();
     println!("{missed} of {goals} goals missed");
     for goal in Goal::ALL {
         let of_goal: Vec<&Row> = rows.iter().filter(|row| row.goal() == Some(goal)).collect();
@@ -497,6 +615,12 @@ fn run_model(call: Call, tables: &Tables, marks: &[u32], buffers: &Buffers) {
             let (across, up) = *point;
             let height = model::height::height(*plan, cells, functions, heights, across, up);
             black_box(height.expect("a height").to_f64());
+        }
+        Call::Corners => {
+            let room = buffers.out.len();
+            let corners = model::projector::corners(*plan, cells, functions, heights, room);
+            let corners = corners.expect("corners").into_iter().map(Corner::floats);
+            drop(black_box(corners.collect::<Vec<_>>()));
         }
         Call::Change(kind) => {
             drop(black_box(kind.of_model()(*plan, cells, functions, marks, t, f)));

@@ -1,7 +1,7 @@
 //! The library and the tuned C version, called alike.
 
 use differential::{raw, Kind, Tables};
-use wallmirror::ffi;
+use wallmirror::{ffi, MAX_CORNER_DOUBLES};
 
 #[derive(Clone, Copy)]
 pub enum Call {
@@ -11,6 +11,7 @@ pub enum Call {
     Read,
     Write,
     Height,
+    Corners,
     Change(Kind),
 }
 
@@ -23,6 +24,7 @@ impl Call {
             Call::Read => "read file",
             Call::Write => "write file",
             Call::Height => "height",
+            Call::Corners => "corners",
             Call::Change(kind) => kind.name(),
         }
     }
@@ -54,6 +56,18 @@ type Height = unsafe extern "C" fn(
     u32,
 ) -> ffi::Height;
 
+type Corners = unsafe extern "C" fn(
+    ffi::Plan,
+    *const u8,
+    usize,
+    *const u8,
+    usize,
+    *const i32,
+    usize,
+    *mut f64,
+    usize,
+) -> ffi::Corners;
+
 /// The calls of one version.
 pub struct Version {
     open: Open,
@@ -62,6 +76,7 @@ pub struct Version {
     read: Read,
     write: Write,
     height: Height,
+    corners: Corners,
     change: fn(Kind) -> ffi::Change,
 }
 
@@ -72,6 +87,7 @@ pub const LIBRARY: Version = Version {
     read: ffi::wallmirror_read,
     write: ffi::wallmirror_write,
     height: ffi::wallmirror_height,
+    corners: ffi::wallmirror_corners,
     change: Kind::of_library,
 };
 
@@ -82,6 +98,7 @@ pub const TUNED: Version = Version {
     read: tuned::tuned_read,
     write: tuned::tuned_write,
     height: tuned::tuned_height,
+    corners: tuned::tuned_corners,
     change: |kind| match kind {
         Kind::RefineCells => tuned::tuned_refine_cells,
         Kind::RefineFunctions => tuned::tuned_refine_functions,
@@ -170,6 +187,17 @@ mod tuned {
             across: u32,
             up: u32,
         ) -> ffi::Height;
+        pub fn tuned_corners(
+            plan: ffi::Plan,
+            cells: *const u8,
+            cells_len: usize,
+            functions: *const u8,
+            functions_len: usize,
+            heights: *const i32,
+            heights_len: usize,
+            out: *mut f64,
+            out_len: usize,
+        ) -> ffi::Corners;
     }
 }
 
@@ -182,6 +210,8 @@ pub struct Buffers {
     pub file: Vec<u8>,
     pub heights: Vec<i32>,
     pub point: (u32, u32),
+    /// The bits of doubles, so that they are compared in every bit.
+    pub out: Vec<u64>,
     pub answer: [u32; 9],
 }
 
@@ -194,18 +224,20 @@ impl Buffers {
             file,
             heights: vec![0; tables.functions.len()],
             point: (0, 0),
+            out: vec![],
             answer: [0; 9],
         }
     }
 
-    /// Lists of T and F entries, the file of the mesh, heights that all functions may have, and a
-    /// point on no grid line.
+    /// Lists of T and F entries, the file of the mesh, heights that all functions may have, a point
+    /// on no grid line, and room for all corners of cells that there may be.
     pub fn with_room(tables: &Tables) -> Buffers {
         let (t, f) = (tables.cells.len(), tables.functions.len());
         let heights = (0..f as i32).map(|i| i * 40_503 % 65_537 - 32_768).collect();
         let (across, up) = model::height::far_edges(tables.plan);
         let point = (across / 2 + 3, up / 2 - 3);
-        Buffers { heights, point, ..Buffers::new(tables, t, f, tables.file()) }
+        let out = vec![0; MAX_CORNER_DOUBLES];
+        Buffers { heights, point, out, ..Buffers::new(tables, t, f, tables.file()) }
     }
 
     /// Puts the tables back, which are to have the same lengths.
@@ -218,7 +250,7 @@ impl Buffers {
         let plan = raw(self.tables.plan);
         let Tables { cells, functions, .. } = &mut self.tables;
         let (t, f) = (cells.len(), functions.len());
-        // SAFETY: separate vectors of these lengths.
+        // SAFETY: separate vectors of these lengths; u64 is as long as f64 and aligned as it.
         self.answer = unsafe {
             match call {
                 Call::Open => {
@@ -267,6 +299,14 @@ impl Buffers {
                     let bits = height.to_bits();
                     padded([number, bits as u32, (bits >> 32) as u32])
                 }
+                Call::Corners => {
+                    let (heights, length) = (self.heights.as_ptr(), self.heights.len());
+                    let (cells, functions) = (cells.as_ptr(), functions.as_ptr());
+                    let (out, room) = (self.out.as_mut_ptr().cast(), self.out.len());
+                    let ffi::Corners { number, corners } =
+                        (version.corners)(plan, cells, t, functions, f, heights, length, out, room);
+                    padded([number, corners])
+                }
                 Call::Change(kind) => {
                     let answer = (version.change)(kind)(
                         plan,
@@ -305,7 +345,7 @@ pub fn agree(call: Call, before: &Buffers, marks: &[u32]) -> (u32, u32) {
     assert_eq!(library.answer, tuned.answer, "{name} {plan:?}, {} marks", marks.len());
     assert!(
         library == tuned,
-        "tables, lists or files differ: {name} {plan:?}, {} marks",
+        "tables, lists, files or outputs differ: {name} {plan:?}, {} marks",
         marks.len()
     );
     let changed = if matches!(call, Call::Change(_)) { library.answer[1] } else { 0 };
@@ -317,30 +357,33 @@ mod tests {
     use super::*;
     use differential::{has_corners, random_corners, random_plan, random_refined, Random};
     use model::Plan;
-    use wallmirror::{MAX_CELLS, MAX_FUNCTIONS};
+    use wallmirror::{MAX_CELLS, MAX_FUNCTIONS, MAX_PROJECTED_CELLS};
 
     /// Random meshes, some with a wrong byte or another class, random marks, some of them wrong,
-    /// files, some of them with a wrong byte, cut or longer, and heights and points, some beyond.
+    /// files, some of them with a wrong byte, cut or longer, heights and points, some beyond, and
+    /// outputs for corners of cells, some too short.
     #[test]
     fn tuned_is_as_the_library() {
         let mut random = Random::new(600);
-        let (mut seen, mut cornered) = ([0; 16], 0);
-        for turn in 0..4000 {
+        let (mut seen, mut cornered, mut projected) = ([0; 17], 0, 0);
+        for turn in 0..5000 {
             let degrees = (random.below(4) as u32 + 1, random.below(4) as u32 + 1);
             let class = random.pick(&[0, 2, 2, 3, 4, 5, 8]);
-            let most = if turn % 100 == 0 { 21_845 } else { 500 };
+            let most = if turn % 100 == 0 { 21_845 } else { random.pick(&[500, 500, 1_300]) };
             let plan = random_plan(&mut random, degrees, class, most);
             cornered += u32::from(has_corners(plan));
             let mut tables = Tables::with_refined(plan, &random_refined(&mut random, plan));
-            let call = match random.below(11) {
+            let call = match random.below(13) {
                 0 => random.pick(&[Call::Open, Call::Check, Call::Count]),
                 1 => Call::Read,
                 2 => Call::Write,
                 3 | 4 => Call::Height,
+                5 | 6 => Call::Corners,
                 _ => Call::Change(random.pick(&Kind::ALL)),
             };
             let marks = marks(&mut random, call, &tables);
             let (heights, point) = (heights(&mut random, &tables), point(&mut random, plan));
+            let out = output(&mut random, &tables);
             let mut file = tables.file();
             match random.below(10) {
                 0 | 1 => wrong_byte(&mut random, &mut file),
@@ -362,11 +405,13 @@ mod tests {
             let room = random.pick(&[0, 3, MAX_CELLS, MAX_CELLS]);
             let function_room = random.pick(&[3, MAX_FUNCTIONS, MAX_FUNCTIONS]);
             let before =
-                Buffers { heights, point, ..Buffers::new(&tables, room, function_room, file) };
-            seen[agree(call, &before, &marks).0 as usize] += 1;
+                Buffers { heights, point, out, ..Buffers::new(&tables, room, function_room, file) };
+            let number = agree(call, &before, &marks).0;
+            seen[number as usize] += 1;
+            projected += u32::from(number == 0 && matches!(call, Call::Corners));
         }
         assert!(seen.iter().all(|&count| count > 0), "{seen:?}");
-        assert!(cornered > 1000, "{cornered}");
+        assert!(cornered > 1000 && projected > 40, "{cornered} {projected}");
     }
 
     fn wrong_byte(random: &mut Random, table: &mut [u8]) {
@@ -394,6 +439,14 @@ mod tests {
             return random.pick(&[(across + (1 << 12), up), (across, u32::MAX)]);
         }
         (across, up)
+    }
+
+    /// Any bits, and room for all corners, most often.
+    fn output(random: &mut Random, tables: &Tables) -> Vec<u64> {
+        let active = tables.cells.iter().filter(|&&byte| byte == model::ACTIVE).count();
+        let needed = 12 * active.min(MAX_PROJECTED_CELLS);
+        let length = random.pick(&[needed - 1, needed, needed, needed + 7, MAX_CORNER_DOUBLES]);
+        (0..length).map(|_| random.bits()).collect()
     }
 
     fn marks(random: &mut Random, call: Call, tables: &Tables) -> Vec<u32> {

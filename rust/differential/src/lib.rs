@@ -6,6 +6,7 @@ use std::fmt::Debug;
 use wallmirror::{ffi, MAX_FILE_BYTES};
 
 pub mod scenario;
+pub mod surface;
 
 /// A seeded generator (splitmix64), so that every run of the tests is the same.
 pub struct Random(u64);
@@ -178,6 +179,9 @@ struct Lent<T> {
 }
 
 const GUARDS: usize = 16;
+
+/// The bits of a double that is no number and that arithmetic does not leave as it is.
+pub const SIGNALLING: u64 = 0x7ff0_0000_dead_beef;
 
 impl<T: Copy + PartialEq + Debug> Lent<T> {
     fn new(content: &[T], guard: T) -> Lent<T> {
@@ -434,6 +438,58 @@ impl Tables {
         expected
     }
 
+    /// The corners of the active cells, written to the output as lent: the bits of doubles, so that
+    /// each of them counts, also of what is no number. Library and model are to agree in every bit,
+    /// and the library's heights are to be those that it answers at the points. Answers the corners,
+    /// or the refusal.
+    pub fn corners(&self, heights: &[i32], out: &[u64]) -> Result<Vec<[f64; 3]>, u32> {
+        let (mut cells, mut functions) = self.lend();
+        let mut lent_heights = Lent::new(heights, i32::MIN);
+        let mut lent_out = Lent::new(out, SIGNALLING);
+        let plan = self.plan;
+        let lengths = (heights.len(), out.len());
+        let said = || format!("corners, {} heights to {} doubles, {plan:?}", lengths.0, lengths.1);
+        // SAFETY: separate buffers of these lengths; u64 is as long as f64 and aligned as it.
+        let answer = unsafe {
+            ffi::wallmirror_corners(
+                raw(self.plan),
+                cells.pointer(),
+                cells.len(),
+                functions.pointer(),
+                functions.len(),
+                lent_heights.pointer(),
+                lent_heights.len(),
+                lent_out.pointer().cast(),
+                lent_out.len(),
+            )
+        };
+        let expected =
+            model::projector::corners(plan, &self.cells, &self.functions, heights, out.len());
+        let corners: Vec<[f64; 3]> =
+            expected.iter().flatten().map(|corner| corner.floats()).collect();
+        let number = *expected.as_ref().err().unwrap_or(&0);
+        let answered = ffi::Corners { number, corners: corners.len() as u32 };
+        assert_eq!(answer, answered, "{}", said());
+        let bits: Vec<u64> = corners.as_flattened().iter().map(|double| double.to_bits()).collect();
+        lent_out.expect(&overwritten(out, &bits), "output", &said);
+        cells.expect(&self.cells, "cell table", &said);
+        functions.expect(&self.functions, "function table", &said);
+        lent_heights.expect(heights, "heights", &said);
+        self.expect_heights_at(&corners, heights, &said);
+        expected.map(|_| corners)
+    }
+
+    /// The library answers the heights of these corners at their points. Without the model, which
+    /// takes its time for each.
+    fn expect_heights_at(&self, corners: &[[f64; 3]], heights: &[i32], said: &dyn Fn() -> String) {
+        let plan = of_wrapper(self.plan);
+        for &[across, up, height] in corners {
+            let (x, y) = (8 * across as u32, 8 * up as u32);
+            let at = wallmirror::height(plan, &self.cells, &self.functions, heights, x, y);
+            assert_eq!(at.map(f64::to_bits), Ok(height.to_bits()), "{across}, {up}: {}", said());
+        }
+    }
+
     /// Runs one of the four calls with the lists as lent. The tables are then as it left them.
     pub fn call(
         &mut self,
@@ -659,4 +715,41 @@ pub fn covered_part(plan: Plan, refined: BTreeSet<Cell>) -> BTreeSet<Cell> {
         }
         refined = kept;
     }
+}
+
+/// A call that refines more often than not, with marks that it takes.
+pub fn random_step(random: &mut Random, tables: &mut Tables) {
+    let refine = [Kind::RefineCells, Kind::RefineFunctions];
+    let kind = if random.once_in(4) { random.pick(&Kind::ALL) } else { random.pick(&refine) };
+    let markable = tables.markable(kind);
+    // The finest ones more often than not, so that many levels come together.
+    let from = if random.once_in(3) { 0 } else { markable.len() * 3 / 4 };
+    let marks: Vec<u32> = match &markable[from..] {
+        [] => vec![],
+        some => (0..random.pick(&[1, 1, 2, 5])).map(|_| random.pick(some)).collect(),
+    };
+    assert_eq!(tables.call_with_room(kind, &marks).number, 0);
+}
+
+/// The refined cells of every mesh of the plan, admissible or not.
+pub fn all_meshes(plan: Plan) -> Vec<BTreeSet<Cell>> {
+    let mut meshes = vec![BTreeSet::new()];
+    for cell in plan.cells().filter(|cell| cell.level + 1 < plan.levels) {
+        // A cell may be refined where it is present.
+        let refined: Vec<_> = meshes
+            .iter()
+            .filter(|mesh| plan.parent(cell).is_none_or(|parent| mesh.contains(&parent)))
+            .map(|mesh| mesh.iter().copied().chain([cell]).collect())
+            .collect();
+        meshes.extend(refined);
+    }
+    meshes
+}
+
+/// The tables of every admissible mesh of the plan.
+pub fn all_admissible(plan: Plan) -> impl Iterator<Item = Tables> {
+    all_meshes(plan)
+        .into_iter()
+        .map(move |refined| Tables::with_refined(plan, &refined))
+        .filter(|tables| tables.check() == 0)
 }

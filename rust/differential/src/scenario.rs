@@ -84,6 +84,22 @@ pub fn with_heights() -> Vec<Scenario> {
     ]
 }
 
+/// The same for plans that the projector takes: as many cells and as many active ones as there may
+/// be, and the most functions.
+pub fn projected() -> Vec<Scenario> {
+    vec![
+        wholly(plan([14, 14, 2, 2, 2, 2])),
+        wholly(plan([14, 14, 2, 1, 1, 2])),
+        wholly(plan([12, 1, 4, 2, 2, 0])),
+        wholly(plan([4, 3, 4, 2, 2, 2])),
+        wholly(plan([8, 6, 3, 2, 2, 2])),
+        towards_the_first_cell(plan([4, 3, 4, 2, 2, 2])),
+        nearly_empty(plan([14, 14, 2, 2, 2, 2])),
+        wholly(cornered([14, 14, 2, 2, 2, 2])),
+        wholly(cornered([12, 1, 4, 2, 2, 0])),
+    ]
+}
+
 /// The plan with every line of level 0 a corner.
 fn cornered(numbers: [u32; 6]) -> Plan {
     let plan = plan(numbers);

@@ -1,33 +1,10 @@
 //! Small plans, tried systematically: all cell tables of a few byte values, all admissible meshes with
 //! all single marks. Where a test only samples, it says so.
 
-use differential::{every_corners, plan, Kind, Tables};
-use model::{Cell, Plan};
+use differential::{all_admissible, all_meshes, every_corners, plan, Kind, Tables};
+use model::Cell;
 use std::collections::BTreeSet;
 use Kind::*;
-
-/// The refined cells of every mesh of the plan, admissible or not.
-fn all_meshes(plan: Plan) -> Vec<BTreeSet<Cell>> {
-    let mut meshes = vec![BTreeSet::new()];
-    for cell in plan.cells().filter(|cell| cell.level + 1 < plan.levels) {
-        // A cell may be refined where it is present.
-        let refined: Vec<_> = meshes
-            .iter()
-            .filter(|mesh| plan.parent(cell).is_none_or(|parent| mesh.contains(&parent)))
-            .map(|mesh| mesh.iter().copied().chain([cell]).collect())
-            .collect();
-        meshes.extend(refined);
-    }
-    meshes
-}
-
-/// The tables of every admissible mesh of the plan.
-fn all_admissible(plan: Plan) -> impl Iterator<Item = Tables> {
-    all_meshes(plan)
-        .into_iter()
-        .map(move |refined| Tables::with_refined(plan, &refined))
-        .filter(|tables| tables.check() == 0)
-}
 
 #[test]
 fn the_number_of_meshes() {

@@ -3,9 +3,11 @@
 //! and random meshes with heights of many kinds, against the model and in every bit.
 
 use differential::scenario;
+use differential::surface::{damage, heights_with, labelled, most, random_heights, with_heights};
+use differential::surface::{Fill, DAMAGES, DEGREES};
 use differential::{
     all_corners, every_corners, has_corners, of_wrapper, plan, random_corners, random_plan,
-    random_refined, Kind, Random, Tables,
+    random_refined, random_step, Random, Tables,
 };
 use model::height::{b_spline, far_edges, places, value, Fraction};
 use model::knots::{Direction, Knots};
@@ -13,16 +15,13 @@ use model::{Cell, Plan, ACTIVE, DEACTIVATED, PASSIVE};
 use std::collections::{BTreeMap, BTreeSet};
 use std::fmt::Debug;
 use std::str::FromStr;
-use wallmirror::{ffi, Mesh, Refusal, MAX_HEIGHT_MM};
+use wallmirror::{ffi, Mesh, Refusal};
 
 const W0: [u32; 6] = [3, 1, 3, 1, 1, 0];
 const W2: [u32; 6] = [3, 1, 3, 1, 1, 2];
 
 /// The numbers that are answered.
 const OF_HEIGHT: [usize; 9] = [0, 1, 2, 3, 4, 5, 6, 14, 15];
-
-/// The degrees of a plan whose surface has heights.
-const DEGREES: [(u32, u32); 4] = [(1, 1), (2, 1), (1, 2), (2, 2)];
 
 /// The mesh of the plan in which these cells are refined.
 fn mesh<const N: usize>(numbers: [u32; N], refined: &[u32]) -> Tables {
@@ -40,29 +39,6 @@ fn mesh_of(plan: Plan, refined: &[u32]) -> Tables {
 fn towards_the_first_cell<const N: usize>(numbers: [u32; N]) -> Tables {
     let first = |level| plan(numbers).cell_number(Cell { level, row: 0, column: 0 }) as u32;
     mesh(numbers, &(0..numbers[2] - 1).map(first).collect::<Vec<_>>())
-}
-
-/// Heights of 0 but for these functions.
-fn heights_with(tables: &Tables, some: &[(usize, i32)]) -> Vec<i32> {
-    let mut heights = vec![0; tables.functions.len()];
-    for &(function, height) in some {
-        heights[function] = height;
-    }
-    heights
-}
-
-/// The greatest number that an active function of the level may have, or that there is.
-fn most(level: u32) -> i32 {
-    i32::try_from(i64::from(MAX_HEIGHT_MM) << (4 * level)).unwrap_or(i32::MAX)
-}
-
-/// The functions with this label, and their levels.
-fn labelled(tables: &Tables, label: u8) -> Vec<(usize, u32)> {
-    let numbered = tables.plan.functions().zip(&tables.functions).enumerate();
-    numbered
-        .filter(|(_, (_, &byte))| byte == label)
-        .map(|(number, (function, _))| (number, function.level))
-        .collect()
 }
 
 /// How often each number was answered.
@@ -385,51 +361,6 @@ fn kinks_at_corners_alone() {
 }
 
 // ---- Heights and points of every kind ----
-
-/// What the active functions have.
-#[derive(Clone, Copy, Debug, PartialEq, Eq)]
-enum Fill {
-    Zero,
-    Small,
-    Any,
-    Limits,
-    Negative,
-    One,
-}
-
-impl Fill {
-    const ALL: [Fill; 6] =
-        [Fill::Zero, Fill::Small, Fill::Any, Fill::Limits, Fill::Negative, Fill::One];
-}
-
-/// Heights that are taken: those of active functions within their limits, those of others whatever.
-fn random_heights(random: &mut Random, tables: &Tables, fill: Fill) -> Vec<i32> {
-    let active = labelled(tables, ACTIVE);
-    let mut heights = vec![0; tables.functions.len()];
-    for &(function, level) in &active {
-        let most = most(level);
-        heights[function] = match fill {
-            Fill::Zero | Fill::One => 0,
-            Fill::Small => random.below(9) as i32 - 4,
-            Fill::Any => random.bits() as i32 % most,
-            Fill::Limits => random.pick(&[most, -most, most - 1, 1 - most]),
-            Fill::Negative => -random.pick(&[0, 1, 17, most]),
-        };
-    }
-    if fill == Fill::One {
-        let (function, level) = random.pick(&active);
-        heights[function] = random.pick(&[1, -1, 3, -3, most(level), -most(level)]);
-    }
-    let kind = random.below(3);
-    for (height, _) in heights.iter_mut().zip(&tables.functions).filter(|(_, &b)| b != ACTIVE) {
-        *height = match kind {
-            0 => 0,
-            1 => random.pick(&[i32::MIN, i32::MAX, 65_537, -65_537]),
-            _ => random.bits() as i32,
-        };
-    }
-    heights
-}
 
 /// The points that are so many eighths apart, and those of the far edges.
 fn points_in_steps(plan: Plan, step: u32) -> Vec<(u32, u32)> {
@@ -832,32 +763,6 @@ fn null_pointers_of_length_0() {
 
 // ---- Random ones ----
 
-/// A plan whose surface has heights, with at most so many cells.
-fn with_heights(random: &mut Random, degrees: (u32, u32), class: u32, most: usize) -> Plan {
-    // Half of them with four levels, as far as so few cells allow.
-    let fewest = random.pick(&[1, if most >= 85 { 4 } else { 1 }]);
-    loop {
-        let plan = random_plan(random, degrees, class, most);
-        if (fewest..=4).contains(&plan.levels) {
-            return plan;
-        }
-    }
-}
-
-/// A call that refines more often than not, with marks that it takes.
-fn random_step(random: &mut Random, tables: &mut Tables) {
-    let refine = [Kind::RefineCells, Kind::RefineFunctions];
-    let kind = if random.once_in(4) { random.pick(&Kind::ALL) } else { random.pick(&refine) };
-    let markable = tables.markable(kind);
-    // The finest ones more often than not, so that many levels come together.
-    let from = if random.once_in(3) { 0 } else { markable.len() * 3 / 4 };
-    let marks: Vec<u32> = match &markable[from..] {
-        [] => vec![],
-        some => (0..random.pick(&[1, 1, 2, 5])).map(|_| random.pick(some)).collect(),
-    };
-    assert_eq!(tables.call_with_room(kind, &marks).number, 0);
-}
-
 /// Meshes that random runs reach, with heights and points of every kind.
 #[test]
 fn meshes_of_random_runs() {
@@ -900,35 +805,11 @@ struct Lent {
 }
 
 /// Puts one thing wrong with what was made of the mesh.
-fn damage(random: &mut Random, mesh: &Tables, lent: &mut Lent) {
+fn damage_lent(random: &mut Random, mesh: &Tables, lent: &mut Lent) {
     let Lent { tables, heights, point } = lent;
-    let cell = random.below(mesh.cells.len());
-    match random.below(17) {
-        0 => tables.plan.columns = random.pick(&[0, 17, u32::MAX]),
-        1 => tables.plan.levels = random.pick(&[0, 8, 9, 1 << 31]),
-        2 => {
-            let larger = random.pick(&[(16, 16, 5), (1, 2, 8), (5, 1, 7)]);
-            (tables.plan.columns, tables.plan.rows, tables.plan.levels) = larger;
-        }
-        // A class that the mesh was not made for, most often.
-        3 | 4 => tables.plan.class = random.pick(&[1, 2, 2, 2]),
-        5 => drop(tables.cells.pop()),
-        6 => tables.functions.push(0),
-        7 if cell < tables.cells.len() => tables.cells[cell] = random.pick(&[0, 1, 2, 3]),
-        8 => tables.functions[0] = random.pick(&[0, 1, 2, 255]),
-        9 => drop(heights.pop()),
-        10 => heights.push(random.pick(&[0, i32::MIN])),
-        11 => heights.clear(),
-        12 => tables.plan.corners_across = random_corners(random, mesh.plan.columns),
-        13 => tables.plan.corners_up = random_corners(random, mesh.plan.rows),
-        14 => tables.plan.corners_across |= random.pick(&[1, 1 << 16, 1 << 31]),
-        15 if heights.len() == mesh.functions.len() => {
-            let (function, level) = random.pick(&labelled(mesh, ACTIVE));
-            // What the last levels may have is more than there is.
-            let beyond = most(level.min(3)) + 1;
-            heights[function] = random.pick(&[beyond, -beyond, i32::MAX, i32::MIN]);
-        }
-        _ => *point = random_beyond(random, mesh.plan),
+    match random.below(DAMAGES + 1) {
+        DAMAGES => *point = random_beyond(random, mesh.plan),
+        thing => damage(random, thing, mesh, tables, heights),
     }
 }
 
@@ -953,7 +834,7 @@ fn damaged_in_several_ways() {
         let points = random_points(&mut random, &mesh, 6);
         let mut lent = Lent { tables: mesh.clone(), heights, point: random.pick(&points) };
         for _ in 0..random.below(4) {
-            damage(&mut random, &mesh, &mut lent);
+            damage_lent(&mut random, &mesh, &mut lent);
         }
         let (across, up) = lent.point;
         let answered = lent.tables.height(&lent.heights, across, up);

@@ -6,7 +6,7 @@ use differential::{raw, Kind, Tables};
 use std::arch::asm;
 use std::collections::BTreeMap;
 use std::ffi::c_void;
-use wallmirror::{ffi, STACK_BYTES};
+use wallmirror::{ffi, MAX_CORNER_DOUBLES, MAX_PROJECTED_CELLS, STACK_BYTES};
 
 /// What a thread needs for itself: its start in the C library and in Rust, its thread-local data,
 /// and the page at the end of its stack that must not be touched. A closure of a test is in it too.
@@ -57,6 +57,15 @@ fn each_call_without_marks(
                 let (cells, functions) = (cells.as_ptr(), functions.as_ptr());
                 let heights = heights.as_ptr();
                 ffi::wallmirror_height(raw(plan), cells, t, functions, f, heights, f, across, up)
+                    .number
+            });
+        }
+        if t <= MAX_PROJECTED_CELLS {
+            let mut out = vec![0.0; MAX_CORNER_DOUBLES];
+            visit("corners", place, &mut || unsafe {
+                let (cells, functions) = (cells.as_ptr(), functions.as_ptr());
+                let (heights, out, room) = (heights.as_ptr(), out.as_mut_ptr(), out.len());
+                ffi::wallmirror_corners(raw(plan), cells, t, functions, f, heights, f, out, room)
                     .number
             });
         }
@@ -189,6 +198,7 @@ fn every_call_within_its_stack() {
     let mut scenarios = scenario::all();
     scenarios.extend(scenario::with_corners());
     scenarios.extend(scenario::with_heights());
+    scenarios.extend(scenario::projected());
     measure(&scenarios);
     run_on_exactly_as_much(&scenarios);
     run_on_threads(&scenarios);

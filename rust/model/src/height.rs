@@ -141,16 +141,13 @@ pub fn millimetres(level: u32, height: i32) -> Fraction {
     Fraction::new(height.into(), 16i128.pow(level))
 }
 
-/// The height of the surface at a point, in millimetres.
-pub fn height(
+/// The active functions with their heights in millimetres. For tables that check passes; refusals 3,
+/// 14 and 15 as far as the heights give cause.
+pub fn active_heights(
     plan: Plan,
-    cells: &[u8],
     functions: &[u8],
     heights: &[i32],
-    across: u32,
-    up: u32,
-) -> Result<Fraction, u32> {
-    check(plan, cells, functions)?;
+) -> Result<Vec<(Function, Fraction)>, u32> {
     if heights.len() != plan.function_total() {
         return Err(3);
     }
@@ -166,8 +163,25 @@ pub fn height(
         .collect();
     let most = Fraction::whole(MOST_MM);
     let too_high = |height: Fraction| height > most || height < Fraction::ZERO - most;
+    if active.iter().any(|&(_, height)| too_high(height)) {
+        return Err(15);
+    }
+    Ok(active)
+}
+
+/// The height of the surface at a point, in millimetres.
+pub fn height(
+    plan: Plan,
+    cells: &[u8],
+    functions: &[u8],
+    heights: &[i32],
+    across: u32,
+    up: u32,
+) -> Result<Fraction, u32> {
+    check(plan, cells, functions)?;
+    let active = active_heights(plan, functions, heights)?;
     let (far_across, far_up) = far_edges(plan);
-    if across > far_across || up > far_up || active.iter().any(|&(_, height)| too_high(height)) {
+    if across > far_across || up > far_up {
         return Err(15);
     }
     let sum = |sum, &(function, height): &(Function, Fraction)| {

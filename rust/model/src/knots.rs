@@ -29,7 +29,7 @@ impl Direction {
         let apart = 2u32.pow(self.level); // from one line of level 0 to the next
         if line == 0 || line == self.cells() {
             self.degree + 1
-        } else if line % apart == 0 && self.corners >> (line / apart) & 1 == 1 {
+        } else if line.is_multiple_of(apart) && self.corners >> (line / apart) & 1 == 1 {
             self.degree
         } else {
             1

@@ -16,6 +16,7 @@ use std::rc::Rc;
 pub mod file;
 pub mod height;
 pub mod knots;
+pub mod projector;
 pub mod session;
 
 #[derive(Clone, Copy, Debug, PartialEq, Eq)]
@@ -752,7 +753,7 @@ mod tests {
                 let expected = if good { Ok(()) } else { Err(1) };
                 assert_eq!(refuse_plan(plan([columns, 1, 3, 2, 2, 2, 1 << bit, 0])), expected);
                 assert_eq!(refuse_plan(plan([1, columns, 3, 2, 2, 2, 0, 1 << bit])), expected);
-                let all = (1 << columns) - 2 | 1 << bit;
+                let all = ((1 << columns) - 2) | (1 << bit);
                 assert_eq!(refuse_plan(plan([columns, 1, 3, 2, 2, 2, all, 0])), expected);
             }
         }

@@ -64,6 +64,15 @@ pub struct Height {
     pub height: f64,
 }
 
+/// What [`wallmirror_corners`] answers: its number, and how many corners of cells were written, of
+/// three doubles each, 0 after a refusal.
+#[repr(C)]
+#[derive(Clone, Copy, Debug, Default, PartialEq, Eq)]
+pub struct Corners {
+    pub number: u32,
+    pub corners: u32,
+}
+
 /// A refining or coarsening call.
 ///
 /// # Safety
@@ -203,4 +212,21 @@ unsafe extern "C" {
         across: u32,
         up: u32,
     ) -> Height;
+
+    /// As [`crate::corners`].
+    ///
+    /// # Safety
+    ///
+    /// As [`Change`] says, of both tables, the heights and the output.
+    pub fn wallmirror_corners(
+        plan: Plan,
+        cells: *const u8,
+        cells_len: usize,
+        functions: *const u8,
+        functions_len: usize,
+        heights: *const i32,
+        heights_len: usize,
+        out: *mut f64,
+        out_len: usize,
+    ) -> Corners;
 }

@@ -245,6 +245,38 @@
 //! # Ok::<(), wallmirror::Refusal>(())
 //! ```
 //!
+//! # Projector
+//!
+//! [`Mesh::corners`] gives the surface as a grid that can be thrown or drawn: of each active cell,
+//! in rising order of the numbers, its four corners, lower left, lower right, upper left, upper
+//! right, where row 0 is the lowest; [`corners`] is the same with lent slices. These are points and
+//! have nothing to do with the corners of a plan, which are lines. A [`Corner`] has its place across
+//! and up, in cells of the last level, and the height of the surface there in millimetres, as
+//! [`height`] answers it at the point 8 · across, 8 · up. With s = 2^(levels - 1 - k) a cell of level
+//! k at column c, row r lies from c · s to (c + 1) · s across and from r · s to (r + 1) · s up. All
+//! these numbers are exact.
+//!
+//! ```
+//! # use wallmirror::{open, refine_cells, Cell, Corner, Function, Mesh, Plan};
+//! # let plan = Plan { columns: 3, levels: 3, class: 2, ..Plan::default() };
+//! # let (mut cells, mut functions) = (vec![0; 63], vec![0; 94]);
+//! # let (mut cell_list, mut function_list) = ([Cell(0); 63], [Function(0); 94]);
+//! # open(plan, &mut cells, &mut functions)?;
+//! # let marks = [Cell(0)];
+//! # refine_cells(plan, &mut cells, &mut functions, &marks, &mut cell_list, &mut function_list)?;
+//! let mesh = Mesh { plan, cells, functions };
+//! let mut heights = vec![0; mesh.functions.len()];
+//! (heights[1], heights[9]) = (10, 8);
+//! let corners = mesh.corners(&heights)?;
+//! // Cells 1, 2, 3, 4, 9 and 10 are active; these are the corners of cell 3.
+//! assert_eq!(corners.len(), 4 * 6);
+//! assert_eq!(corners[4 * 2], Corner { across: 0.0, up: 0.0, height: 0.0 });
+//! assert_eq!(corners[4 * 2 + 1], Corner { across: 2.0, up: 0.0, height: 5.5 });
+//! assert_eq!(corners[4 * 2 + 2], Corner { across: 0.0, up: 2.0, height: 0.0 });
+//! assert_eq!(corners[4 * 2 + 3], Corner { across: 2.0, up: 2.0, height: 2.5 });
+//! # Ok::<(), wallmirror::Refusal>(())
+//! ```
+//!
 //! # Limits
 //!
 //! | | |
@@ -260,6 +292,7 @@
 //! | file of a mesh | at most [`MAX_FILE_BYTES`] |
 //! | plan of [`height`] | degrees 1 and 2, at most four levels |
 //! | height of an active function | at most [`MAX_HEIGHT_MM`] either way |
+//! | plan of [`corners`] | the same, and at most [`MAX_PROJECTED_CELLS`] on all levels together |
 //! | stack of a call | at most [`STACK_BYTES`] |
 
 use std::fmt;
@@ -331,6 +364,13 @@ pub const MAX_FILE_BYTES: usize = 5_470;
 /// The greatest height of an active function in millimetres, either way. It is met exactly: on level
 /// k the heights go from -65,536 · 16^k to 65,536 · 16^k.
 pub const MAX_HEIGHT_MM: u32 = 65_536;
+
+/// The most cells on all levels together of a plan that [`corners`] takes.
+pub const MAX_PROJECTED_CELLS: usize = 1_024;
+
+/// Twelve doubles for each of [`MAX_PROJECTED_CELLS`]: as many serve every mesh that [`corners`]
+/// takes.
+pub const MAX_CORNER_DOUBLES: usize = 12_288;
 
 /// The most stack that any call takes, in bytes: what a thread must have left when it calls. The
 /// library allocates nothing, so whatever it needs beside the tables and lists is there. A thread
@@ -445,9 +485,9 @@ pub struct Cell(pub u32);
 #[derive(Clone, Copy, Debug, Default, PartialEq, Eq, PartialOrd, Ord, Hash)]
 pub struct Function(pub u32);
 
-/// Why a call was refused. Where several apply, the first of this order is given: 12; 1 to 6; then 3
-/// of the heights, 14, 15; then the marks in list order, each tried for 7, 8, 9; then 10, 11; then
-/// 13.
+/// Why a call was refused. Where several apply, the first of this order is given: 12; 1, 2; then 16,
+/// of [`corners`] alone; 3 to 6; then 3 of the heights, 14, 15; then the marks in list order, each
+/// tried for 7, 8, 9; then 10, 11; then 13.
 #[derive(Clone, Copy, Debug, PartialEq, Eq, Hash)]
 #[repr(u32)]
 pub enum Refusal {
@@ -457,7 +497,7 @@ pub enum Refusal {
     /// All levels together have more than [`MAX_CELLS`] cells.
     TooManyCells = 2,
     /// The cell table has not [`Plan::cells`] bytes, or the function table not [`Plan::functions`].
-    /// Of [`height`] also, after 6: the heights are not as many as the functions.
+    /// Of [`height`] and [`corners`] also, after 6: the heights are not as many as the functions.
     TableLength = 3,
     /// The cell bytes are not a mesh: another byte than 0, 1, 2, an absent cell of level 0, a
     /// refined cell with an absent child, any other cell with a child that is not absent, or a
@@ -476,7 +516,8 @@ pub enum Refusal {
     /// A mark to refine is of the last level. Coarsening never gives this.
     MarkOfLastLevel = 9,
     /// The cell list has fewer entries than cells change. Of [`write()`]: the lent bytes are fewer
-    /// than the file has.
+    /// than the file has. Of [`corners`]: the lent doubles are fewer than twelve for each active
+    /// cell.
     CellListTooShort = 10,
     /// The function list has fewer entries than functions change.
     FunctionListTooShort = 11,
@@ -490,11 +531,13 @@ pub enum Refusal {
     /// The point lies beyond the mesh, or the height of an active function is more than
     /// [`MAX_HEIGHT_MM`] either way.
     PointOrHeightOutOfRange = 15,
+    /// Of [`corners`]: all levels together have more than [`MAX_PROJECTED_CELLS`] cells.
+    TooManyCellsToProject = 16,
 }
 
 impl Refusal {
     /// All refusals in the order of their numbers.
-    pub const ALL: [Refusal; 15] = [
+    pub const ALL: [Refusal; 16] = [
         Refusal::PlanOutOfRange,
         Refusal::TooManyCells,
         Refusal::TableLength,
@@ -510,9 +553,10 @@ impl Refusal {
         Refusal::TrailingBytes,
         Refusal::PlanWithoutHeights,
         Refusal::PointOrHeightOutOfRange,
+        Refusal::TooManyCellsToProject,
     ];
 
-    /// The number that the library answers, 1 to 15.
+    /// The number that the library answers, 1 to 16.
     pub fn number(self) -> u32 {
         self as u32
     }
@@ -552,7 +596,7 @@ impl fmt::Display for Refusal {
             Refusal::MarkOfWrongKind => "a mark is not of the kind that the call takes",
             Refusal::MarkOfLastLevel => "a mark is of the last level, which cannot be refined",
             Refusal::CellListTooShort => {
-                "the cell list is too short for the cells that change, or the lent bytes for the file"
+                "the cell list is too short for the cells that change, the lent bytes for the file, or the lent doubles for the corners of the cells"
             }
             Refusal::FunctionListTooShort => {
                 "the function list is too short for the functions that change"
@@ -566,6 +610,9 @@ impl fmt::Display for Refusal {
             }
             Refusal::PointOrHeightOutOfRange => {
                 "the point lies beyond the mesh, or the height of an active function is more than 65536 mm either way"
+            }
+            Refusal::TooManyCellsToProject => {
+                "all levels together have more than 1024 cells, which is too many for the projector"
             }
         };
         write!(f, "refusal {}: {message}", self.number())
@@ -656,6 +703,31 @@ impl Mesh {
     pub fn height(&self, heights: &[i32], across: u32, up: u32) -> Result<f64, Refusal> {
         height(self.plan, &self.cells, &self.functions, heights, across, up)
     }
+
+    /// The corners of the active cells, four for each, as [`corners`] says. Refuses 1; 2; 16; 3 to
+    /// 6; then 3 of the heights, 14, 15.
+    pub fn corners(&self, heights: &[i32]) -> Result<Vec<Corner>, Refusal> {
+        let active = self.cells.iter().filter(|&&byte| byte == 1).count();
+        // More are refused, so that no table asks for much memory.
+        let mut filled = vec![Corner::default(); 4 * active.min(MAX_PROJECTED_CELLS)];
+        let written =
+            corners(self.plan, &self.cells, &self.functions, heights, doubles(&mut filled))?;
+        filled.truncate(written);
+        Ok(filled)
+    }
+}
+
+/// A corner of a cell: a point of the surface. Not to be taken for a corner of a plan, which is a
+/// line.
+#[repr(C)]
+#[derive(Clone, Copy, Debug, Default, PartialEq)]
+pub struct Corner {
+    /// In cells of the last level.
+    pub across: f64,
+    /// In cells of the last level.
+    pub up: f64,
+    /// Of the surface, in millimetres.
+    pub height: f64,
 }
 
 /// How many entries a call wrote to its two lists.
@@ -962,6 +1034,58 @@ pub fn height(
     Ok(answer.height)
 }
 
+/// Writes the corners of the active cells to the lent doubles and answers how many they are: for
+/// each cell, in rising order of the numbers, lower left, lower right, upper left, upper right, and
+/// for each corner its place across and up, in cells of the last level, and the height of the surface
+/// there in millimetres, as [`height`] answers it. That makes twelve doubles for a cell, all of them
+/// exact; [`MAX_CORNER_DOUBLES`] are always enough. Doubles past them keep their values. Refuses 1;
+/// 2; 16; 3 to 6; then 3 where there is not one height for each function; then 14; then 15, for the
+/// heights; then 10.
+///
+/// ```
+/// # use wallmirror::{corners, open, Plan, Refusal};
+/// let plan = Plan::default();
+/// let (mut cells, mut functions) = ([0; 1], [0; 4]);
+/// open(plan, &mut cells, &mut functions)?;
+/// let heights = [7, -8, 9, 10];
+/// let mut out = [0.5; 13];
+/// assert_eq!(corners(plan, &cells, &functions, &heights, &mut out), Ok(4));
+/// assert_eq!(out[..6], [0.0, 0.0, 7.0, 1.0, 0.0, -8.0]); // both lower ones
+/// assert_eq!(out[6..], [0.0, 1.0, 9.0, 1.0, 1.0, 10.0, 0.5]); // both upper ones
+/// let short = corners(plan, &cells, &functions, &heights, &mut out[..11]);
+/// assert_eq!(short, Err(Refusal::CellListTooShort));
+/// # Ok::<(), Refusal>(())
+/// ```
+pub fn corners(
+    plan: Plan,
+    cells: &[u8],
+    functions: &[u8],
+    heights: &[i32],
+    out: &mut [f64],
+) -> Result<usize, Refusal> {
+    // SAFETY: pointers and lengths are those of slices; the mutable one overlaps no other.
+    let answer = unsafe {
+        ffi::wallmirror_corners(
+            plan.raw(),
+            cells.as_ptr(),
+            cells.len(),
+            functions.as_ptr(),
+            functions.len(),
+            heights.as_ptr(),
+            heights.len(),
+            out.as_mut_ptr(),
+            out.len(),
+        )
+    };
+    accepted(answer.number)?;
+    Ok(answer.corners as usize)
+}
+
+fn doubles(corners: &mut [Corner]) -> &mut [f64] {
+    // SAFETY: Corner is three f64 in the order of C, with nothing between them.
+    unsafe { std::slice::from_raw_parts_mut(corners.as_mut_ptr().cast(), 3 * corners.len()) }
+}
+
 fn accepted(number: u32) -> Result<(), Refusal> {
     match number {
         0 => Ok(()),
@@ -1003,6 +1127,8 @@ mod tests {
             ("MAX_FUNCTIONS", MAX_FUNCTIONS),
             ("MAX_FILE_BYTES", MAX_FILE_BYTES),
             ("MAX_HEIGHT_MM", MAX_HEIGHT_MM as usize),
+            ("MAX_PROJECTED_CELLS", MAX_PROJECTED_CELLS),
+            ("MAX_CORNER_DOUBLES", MAX_CORNER_DOUBLES),
             ("STACK_BYTES", STACK_BYTES),
         ] {
             assert!(header.contains(&format!("#define WALLMIRROR_{name} {number}\n")), "{name}");
@@ -1018,7 +1144,7 @@ mod tests {
             assert!(refusal.to_string().starts_with(&format!("refusal {}: ", i + 1)));
         }
         assert_eq!(Refusal::from_number(0), None);
-        assert_eq!(Refusal::from_number(16), None);
+        assert_eq!(Refusal::from_number(17), None);
     }
 
     #[test]
