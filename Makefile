@@ -26,6 +26,7 @@ pictures:
 	docs/levels.sh > docs/levels.svg
 	docs/heights.sh > docs/heights.svg
 	docs/corner.sh > docs/corner.svg
+	docs/projector.sh > docs/projector.svg
 
 install: all
 	install -d "$(DESTDIR)$(PREFIX)/include" "$(DESTDIR)$(PREFIX)/lib"
