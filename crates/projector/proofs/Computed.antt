@@ -8,7 +8,7 @@ use lib.IntN.{ℤ, pos, negsuc}
 use lib.Ieee.{Float, odd, ofBits, binary64}
 use lib.ListN.{replicate}
 use Rattle.facts.specs.Bounded.{some, every}
-use Rattle.facts.specs.Numbers.{elem, tabulate, listed, first}
+use Rattle.facts.specs.Numbers.{elem, tabulate, listed}
 use Rattle.exact.specs.Dyadic.{over, dyadic}
 use Rattle.exact.specs.Sums.{sumℤ}
 use Rattle.grid.specs.Numbering.{offset, number, levelOf, placeOn, place}
@@ -19,7 +19,7 @@ use Rattle.splines.specs.Values.{rise, fall, box, basis, scale, cellOf, value, 
 use Rattle.heights.specs.Heights.{eighths, valueAt, productOf, heightSum, inexact, low, allLow, heightsRefusal, lowOn}
 use Rattle.heights.proofs.Computed.{heightsOf, only}
 use Rattle.projector.specs.declared.CornersAnswer.{CornersAnswer}
-use Rattle.projector.specs.Projector.{lineAt, cornerAt, cornerOf, cornersOf, corners, planRefusal, refusal, CornersOutcome, refused, filled, project}
+use Rattle.projector.specs.Projector.{lineAt, cornerAt, cornerOf, cornersOf, corners, planRefusal, meshRefusal, refusal, CornersOutcome, refused, filled, project}
 
 -- the mesh with these refined cells, so many heights, and n floats, each 5
 abbrev pub projectTo : List ℕ → List ℕ → ℕ → (ℕ → ℤ) → ℕ → CornersOutcome
@@ -83,7 +83,7 @@ pub afterP3 :
     ∷ n4 ∷ n2 ∷ m0·5 ∷ n6 ∷ n2 ∷ n1·75 ∷ n4 ∷ n4 ∷ n0 ∷ n6 ∷ n4 ∷ n0
     ∷ n6 ∷ n2 ∷ n1·75 ∷ n8 ∷ n2 ∷ n3·5 ∷ n6 ∷ n4 ∷ n0 ∷ n8 ∷ n4 ∷ n0
     ∷ n5 ∷ n5 ∷ []
-unfolding odd ofBits heightsOf some every elem tabulate listed first flatMap over dyadic sumℤ offset number levelOf placeOn place between numbersInRange cornersInRange inRange tooLarge ratio grown above below parent child lastLevel covers together supportedAt supported ancestor nearAt near absent active refined children cellFits isMesh isAdmissible tableOf labelOf labels isLabelled refusal3 refusal6 check isSet isCorner cornersTo times knotFrom knot beyond functions rise fall box basis scale cellOf value valueIn valueOn eighths valueAt productOf heightSum inexact low allLow heightsRefusal lowOn lineAt cornerAt cornerOf cornersOf corners planRefusal refusal refused filled project
+unfolding odd ofBits heightsOf some every elem tabulate listed flatMap over dyadic sumℤ offset number levelOf placeOn place between numbersInRange cornersInRange inRange tooLarge ratio grown above below parent child lastLevel covers together supportedAt supported ancestor nearAt near absent active refined children cellFits isMesh isAdmissible tableOf labelOf labels isLabelled refusal3 refusal6 check isSet isCorner cornersTo times knotFrom knot beyond functions rise fall box basis scale cellOf value valueIn valueOn eighths valueAt productOf heightSum inexact low allLow heightsRefusal lowOn lineAt cornerAt cornerOf cornersOf corners planRefusal meshRefusal refusal refused filled project
 afterP3 = refl
 
 -- ---- the answers
@@ -113,7 +113,7 @@ pub memory :
     ∷ said 3 0
     ∷ said 3 0
     ∷ []
-unfolding odd ofBits heightsOf some every elem tabulate listed first flatMap over dyadic sumℤ offset number levelOf placeOn place between numbersInRange cornersInRange inRange tooLarge ratio grown above below parent child lastLevel covers together supportedAt supported ancestor nearAt near absent active refined children cellFits isMesh isAdmissible tableOf labelOf labels isLabelled refusal3 refusal6 check isSet isCorner cornersTo times knotFrom knot beyond functions rise fall box basis scale cellOf value valueIn valueOn eighths valueAt productOf heightSum inexact low allLow heightsRefusal lowOn lineAt cornerAt cornerOf cornersOf corners planRefusal refusal refused filled project
+unfolding odd ofBits heightsOf some every elem tabulate listed flatMap over dyadic sumℤ offset number levelOf placeOn place between numbersInRange cornersInRange inRange tooLarge ratio grown above below parent child lastLevel covers together supportedAt supported ancestor nearAt near absent active refined children cellFits isMesh isAdmissible tableOf labelOf labels isLabelled refusal3 refusal6 check isSet isCorner cornersTo times knotFrom knot beyond functions rise fall box basis scale cellOf value valueIn valueOn eighths valueAt productOf heightSum inexact low allLow heightsRefusal lowOn lineAt cornerAt cornerOf cornersOf corners planRefusal meshRefusal refusal refused filled project
 memory = refl
 
 -- one cell of two levels has 13 functions with degrees 1 and 1
@@ -138,10 +138,10 @@ pub answers :
     ∷ said 14 0
     ∷ said 4 0
     ∷ []
-unfolding odd ofBits heightsOf some every elem tabulate listed first flatMap over dyadic sumℤ offset number levelOf placeOn place between numbersInRange cornersInRange inRange tooLarge ratio grown above below parent child lastLevel covers together supportedAt supported ancestor nearAt near absent active refined children cellFits isMesh isAdmissible tableOf labelOf labels isLabelled refusal3 refusal6 check isSet isCorner cornersTo times knotFrom knot beyond functions rise fall box basis scale cellOf value valueIn valueOn eighths valueAt productOf heightSum inexact low allLow heightsRefusal lowOn lineAt cornerAt cornerOf cornersOf corners planRefusal refusal refused filled project
+unfolding odd ofBits heightsOf some every elem tabulate listed flatMap over dyadic sumℤ offset number levelOf placeOn place between numbersInRange cornersInRange inRange tooLarge ratio grown above below parent child lastLevel covers together supportedAt supported ancestor nearAt near absent active refined children cellFits isMesh isAdmissible tableOf labelOf labels isLabelled refusal3 refusal6 check isSet isCorner cornersTo times knotFrom knot beyond functions rise fall box basis scale cellOf value valueIn valueOn eighths valueAt productOf heightSum inexact low allLow heightsRefusal lowOn lineAt cornerAt cornerOf cornersOf corners planRefusal meshRefusal refusal refused filled project
 answers = refl
 
 -- with a refusal the floats stay, one float short too
 pub kept : projectTo (1 ∷ 1 ∷ 1 ∷ 1 ∷ 1 ∷ 0 ∷ []) [] 4 (only 0 (pos 3)) 11 .out ≡ replicate 11 n5
-unfolding odd ofBits heightsOf some every elem tabulate listed first flatMap over dyadic sumℤ offset number levelOf placeOn place between numbersInRange cornersInRange inRange tooLarge ratio grown above below parent child lastLevel covers together supportedAt supported ancestor nearAt near absent active refined children cellFits isMesh isAdmissible tableOf labelOf labels isLabelled refusal3 refusal6 check isSet isCorner cornersTo times knotFrom knot beyond functions rise fall box basis scale cellOf value valueIn valueOn eighths valueAt productOf heightSum inexact low allLow heightsRefusal lowOn lineAt cornerAt cornerOf cornersOf corners planRefusal refusal refused filled project
+unfolding odd ofBits heightsOf some every elem tabulate listed flatMap over dyadic sumℤ offset number levelOf placeOn place between numbersInRange cornersInRange inRange tooLarge ratio grown above below parent child lastLevel covers together supportedAt supported ancestor nearAt near absent active refined children cellFits isMesh isAdmissible tableOf labelOf labels isLabelled refusal3 refusal6 check isSet isCorner cornersTo times knotFrom knot beyond functions rise fall box basis scale cellOf value valueIn valueOn eighths valueAt productOf heightSum inexact low allLow heightsRefusal lowOn lineAt cornerAt cornerOf cornersOf corners planRefusal meshRefusal refusal refused filled project
 kept = refl

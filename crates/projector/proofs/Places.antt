@@ -1,12 +1,11 @@
 -- The corners of a cell lie on the mesh, and code computes them. Assumes nothing.
-use mathlib.Core.Path.{_≡_, sym, ap, _∙_}
+use mathlib.Core.Path.{_≡_}
 use Prim.Native.Nat.{ℕ, _+_, _-_, _*_, _^_, _≤_, _<_}
-use native.Mathlib.Nat.{le-trans, le-of-eq, lt-of-le-of-lt, mul-le-mul-right}
+use native.Mathlib.Nat.{lt-of-le-of-lt, mul-le-mul-right}
 use native.Mathlib.Omega.{arith}
 use lib.Dec.{T, leb, le→leb, lit<}
 use lib.IntN.{ℤ, pos}
 use lib.Ieee.{Float, binary64, ofInt}
-use lib.Pow.{pow-add}
 use mathlib.Core.List.{List}
 use Rattle.facts.proofs.Tests.{and-i}
 use Rattle.exact.specs.Dyadic.{dyadic}
@@ -16,19 +15,16 @@ use Rattle.grid.specs.declared.Place.{Place}
 use Rattle.grid.specs.Plan.{ratio, grown, columnsAt, rowsAt, CellInside}
 use Rattle.grid.specs.Range.{InRange}
 use Rattle.grid.proofs.Small.{grown-small}
-use Rattle.heights.specs.Heights.{onMesh, heightSum, places}
+use Rattle.heights.specs.Heights.{eighths, onMesh, heightSum, places}
+use Rattle.heights.proofs.Points.{far-edge}
 use Rattle.projector.specs.declared.Corner.{Corner}
 use Rattle.projector.specs.Projector.{lineAt, cornerAt, cornerOf}
 
 -- ---- a line of a level, among those of the last
 
 pub line-le : (p : Plan) (b k x : ℕ) → k < p .levels → x ≤ grown (ratio p) b k → lineAt p k x ≤ grown (ratio p) b (p .levels - 1)
-unfolding lineAt grown
-line-le p b k x l h =
-    let d = p .levels - 1 - k in
-    let e : p .levels - 1 ≡ k + d = omega arith in
-    let q : b * ratio p ^ (p .levels - 1) ≡ b * ratio p ^ k * ratio p ^ d = ap (λ (z : ℕ). b * ratio p ^ z) e ∙ rw (pow-add (ratio p) k d) (omega arith) in
-    le-trans (mul-le-mul-right (ratio p ^ d) h) (le-of-eq (sym q))
+unfolding lineAt grown eighths
+line-le p b k x l h = omega (arith, far-edge p k b l, mul-le-mul-right (8 * ratio p ^ (p .levels - 1 - k)) h)
 
 -- ---- the corners of a cell: a is 0 for its left line and 1 for its right, b 0 for the lower and 1 for the upper
 

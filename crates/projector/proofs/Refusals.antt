@@ -2,51 +2,26 @@
 use mathlib.Core.Path.{_≡_, refl, sym, _∙_}
 use mathlib.Core.Logic.{_≢_}
 use mathlib.Core.Bool.{Bool, true, false, not, _&&_, cond}
-use mathlib.Core.List.{List, [], _∷_}
+use mathlib.Core.List.{List}
 use Prim.Native.Nat.{ℕ, zero, suc, _≤_, _<_}
 use native.Mathlib.Omega.{arith}
 use lib.Dec.{eqb, ltb, eqb·suc-zero, nltb→le}
 use lib.IntN.{ℤ}
 use lib.Ieee.{Float}
 use lib.ListN.{length}
-use borrow.Author.Tests.{lt-ltb, le-ltb}
-use Rattle.facts.specs.Numbers.{first}
+use borrow.Author.Tests.{ne-eqb, lt-ltb, le-ltb}
 use Rattle.facts.proofs.Tests.{T-true, true-T}
 use Rattle.grid.specs.declared.Plan.{Plan}
 use Rattle.grid.specs.Plan.{inRange, tooLarge, cellTotal, functionTotal}
 use Rattle.grid.specs.Range.{InRange}
 use Rattle.grid.proofs.Laws.{in-range}
 use Rattle.mesh.specs.Mesh.{refusal3, check}
-use Rattle.mesh.proofs.Bridge.{check-passed}
+use Rattle.mesh.proofs.Bridge.{chain, check-passed}
 use Rattle.heights.specs.Heights.{onMesh, heightsRefusal}
 use Rattle.heights.proofs.Refusals.{on-surface}
 use Rattle.projector.specs.declared.CornersAnswer.{CornersAnswer}
-use Rattle.projector.specs.Projector.{mostProjected, corners, planRefusal, refusal, CornersOutcome, refused, filled, project}
-use Rattle.projector.specs.Steps.{meshRefusal, Ready}
-
--- ---- the first that is not 0
-
-abbrev id : ℕ → ℕ
-id n = n
-
-pub first-here : (n : ℕ) (ns : List ℕ) → n ≢ 0 → first id (n ∷ ns) ≡ n
-unfolding first
-first-here zero ns h = absurd (h refl)
-first-here (suc n) ns h = rw (eqb·suc-zero n)
-
-first-later : (n : ℕ) (ns : List ℕ) → n ≡ 0 → first id (n ∷ ns) ≡ first id ns
-unfolding first
-first-later n ns e = rw e
-
-first-last : (n : ℕ) → first id (n ∷ []) ≡ n
-unfolding first
-first-last zero = refl
-first-last (suc n) = rw (eqb·suc-zero n)
-
-pub first-none : (n : ℕ) (ns : List ℕ) → first id (n ∷ ns) ≡ 0 → (n ≡ 0) × (first id ns ≡ 0)
-unfolding first
-first-none zero ns e = (refl, e)
-first-none (suc n) ns e = absurd (let z : suc n ≡ 0 = rw (eqb·suc-zero n) at e in omega arith)
+use Rattle.projector.specs.Projector.{mostProjected, corners, planRefusal, meshRefusal, refusal, CornersOutcome, refused, filled, project}
+use Rattle.projector.specs.Steps.{Ready}
 
 -- ---- 1 and 2 of refusals 1 to 3
 
@@ -95,11 +70,11 @@ module _ (p : Plan) (cells functions : List ℕ) where
 
   pub refuse-1 : refusal3 p cells functions ≡ 1 → 1 ≡ meshRefusal p cells functions
   unfolding refusal3 meshRefusal planRefusal
-  refuse-1 e = rw (out-of-range (inRange p) (tooLarge p) sized e) (sym (first-here 1 _ (λ (z : _≡_ {A = ℕ} 1 0). omega arith)))
+  refuse-1 e = rw (out-of-range (inRange p) (tooLarge p) sized e) refl
 
   pub refuse-2 : refusal3 p cells functions ≡ 2 → 2 ≡ meshRefusal p cells functions
   unfolding refusal3 meshRefusal planRefusal
-  refuse-2 e = let (a, b) = large (inRange p) (tooLarge p) sized e in rw (a, b) (sym (first-here 2 _ (λ (z : _≡_ {A = ℕ} 2 0). omega arith)))
+  refuse-2 e = let (a, b) = large (inRange p) (tooLarge p) sized e in rw (a, b) refl
 
   -- what neither of them leaves
   allowed : refusal3 p cells functions ≢ 1 → refusal3 p cells functions ≢ 2 → (inRange p ≡ true) × (tooLarge p ≡ false)
@@ -111,15 +86,11 @@ module _ (p : Plan) (cells functions : List ℕ) where
 
   pub refuse-16 : refusal3 p cells functions ≢ 1 → refusal3 p cells functions ≢ 2 → mostProjected < cellTotal p → 16 ≡ meshRefusal p cells functions
   unfolding meshRefusal
-  refuse-16 g h l =
-      let (a, b) = allowed g h in
-      rw (plan-16 p a b l) (sym (first-here 16 _ (λ (z : _≡_ {A = ℕ} 16 0). omega arith)))
+  refuse-16 g h l = let (a, b) = allowed g h in rw (plan-16 p a b l) refl
 
   pub refuse-later : refusal3 p cells functions ≢ 1 → refusal3 p cells functions ≢ 2 → cellTotal p ≤ mostProjected → check p cells functions ≡ meshRefusal p cells functions
   unfolding meshRefusal planRefusal
-  refuse-later g h l =
-      let (a, b) = allowed g h in
-      rw (a, b, le-ltb mostProjected (cellTotal p) l) (sym (first-later 0 (check p cells functions ∷ []) refl ∙ first-last (check p cells functions)))
+  refuse-later g h l = let (a, b) = allowed g h in rw (a, b, le-ltb mostProjected (cellTotal p) l) refl
 
   -- ---- what they leave
 
@@ -133,8 +104,7 @@ module _ (p : Plan) (cells functions : List ℕ) where
   pub passed : meshRefusal p cells functions ≡ 0 → Passed
   unfolding meshRefusal
   passed e =
-      let (a, b) = first-none (planRefusal p) _ e in
-      let c = first-none (check p cells functions) _ b .0 in
+      let (a, c) = chain (planRefusal p) (check p cells functions) e in
       let k = check-passed p cells functions c in
       record { checked = c; range = k .range; of-cells = k .cells; of-functions = k .functions; small≤ = small p a }
 
@@ -147,20 +117,12 @@ module _ (p : Plan) (cells functions : List ℕ) where
     -- ---- the outcome
 
     refusal-mesh : meshRefusal p cells functions ≢ 0 → refusal p cells functions heights ≡ meshRefusal p cells functions
-    unfolding refusal meshRefusal first
-    refusal-mesh h = go (planRefusal p) (check p cells functions) h
-      where
-        go : (a b : ℕ) → first id (a ∷ b ∷ []) ≢ 0 → first id (a ∷ b ∷ heightsRefusal p functions heights ∷ []) ≡ first id (a ∷ b ∷ [])
-        go zero zero h = absurd (h refl)
-        go zero (suc b) h = rw (eqb·suc-zero b)
-        go (suc a) b h = rw (eqb·suc-zero a)
+    unfolding refusal
+    refusal-mesh h = rw (ne-eqb _ _ h) refl
 
     refusal-heights : meshRefusal p cells functions ≡ 0 → refusal p cells functions heights ≡ heightsRefusal p functions heights
-    unfolding refusal meshRefusal
-    refusal-heights e =
-        let (a, b) = first-none (planRefusal p) _ e in
-        let c = first-none (check p cells functions) _ b .0 in
-        first-later (planRefusal p) _ a ∙ first-later (check p cells functions) _ c ∙ first-last (heightsRefusal p functions heights)
+    unfolding refusal
+    refusal-heights e = rw e refl
 
     refuse : (n : ℕ) {r : CornersAnswer} → n ≡ refusal p cells functions heights → n ≢ 0 → r ≡ record { number = n; corners = 0 }
         → _≡_ {A = CornersOutcome} (record { answer = r; out = out }) (project p cells functions heights out)

@@ -2,7 +2,7 @@
 use mathlib.Core.Path.{_≡_, refl, sym, ap, _∙_}
 use mathlib.Core.Logic.{_≢_}
 use mathlib.Core.Bool.{Bool, true, false, not, _&&_, cond}
-use mathlib.Core.List.{List, [], _∷_, _++_, append-assoc, flatMap}
+use mathlib.Core.List.{List, _++_, append-assoc, flatMap}
 use Prim.Native.Nat.{ℕ, zero, suc, _+_, _-_, _*_, _≤_, _<_}
 use native.Mathlib.Omega.{arith}
 use lib.Dec.{T, eqb, ltb, eqb·suc-zero, ltb→lt, nltb→le}
@@ -10,22 +10,21 @@ use lib.IntN.{ℤ, pos}
 use lib.Ieee.{Float}
 use lib.ListN.{length, take, drop, length-append, length-drop}
 use lib.Seq.{drop-drop, drop-at}
-use Rattle.facts.specs.Numbers.{first}
 use Rattle.facts.proofs.Tests.{differ, T-true}
 use Rattle.exact.proofs.Dyadic.{dyadic-value}
 use Rattle.grid.specs.declared.Plan.{Plan}
 use Rattle.grid.specs.Plan.{inRange, tooLarge, cellTotal, functionTotal, cellPlace}
 use Rattle.grid.proofs.Laws.{cell-inside}
 use Rattle.mesh.specs.Mesh.{active, isMesh, isAdmissible, isLabelled, refusal3, refusal6, check, tally, count}
-use Rattle.mesh.proofs.Bridge.{check-passed}
+use Rattle.mesh.proofs.Bridge.{chain}
 use Rattle.heights.specs.Heights.{onMesh, inexact, allLow, heightsRefusal}
 use Rattle.heights.proofs.Refusals.{answered}
 use Rattle.projector.specs.declared.Corner.{Corner}
-use Rattle.projector.specs.Projector.{mostProjected, cornerAt, cornerOf, cornersOf, corners, threeFloats, floatsOf, planRefusal, refusal, CornersOutcome, refused, filled, project}
+use Rattle.projector.specs.Projector.{mostProjected, cornerAt, cornerOf, cornersOf, corners, threeFloats, floatsOf, planRefusal, meshRefusal, refusal, CornersOutcome, refused, filled, project}
 use Rattle.projector.specs.Demands.{Sound, Projected, Demands, given}
 use Rattle.projector.proofs.Places.{on-lines}
 use Rattle.projector.proofs.Floats.{floats-length, listed-tally, corners-length, floats-count, tally-small, floatsBelow, floats-from, twelve}
-use Rattle.projector.proofs.Refusals.{first-here, first-none, three, small, plan-16}
+use Rattle.projector.proofs.Refusals.{three, plan-16, passed, accepted}
 
 -- ---- the outcome by its refusal, n, and by whether the floats are too few
 
@@ -75,12 +74,9 @@ module _ (cs : List Corner) (lent : List Float) where
 
 -- ---- which numbers a refusal may have
 
-first-all : (P : ℕ → Type 0) (a b c : ℕ) → P 0 → P a → P b → P c → P (first (λ n. n) (a ∷ b ∷ c ∷ []))
-unfolding first
-first-all P zero zero zero z x y w = z
-first-all P zero zero (suc c) z x y w = rw (eqb·suc-zero c) w
-first-all P zero (suc b) c z x y w = rw (eqb·suc-zero b) y
-first-all P (suc a) b c z x y w = rw (eqb·suc-zero a) x
+chain-all : (P : ℕ → Type 0) (a b : ℕ) → P a → P b → P (cond (eqb a 0) b a)
+chain-all P zero b x y = y
+chain-all P (suc a) b x y = rw (eqb·suc-zero a) x
 
 -- not k
 abbrev other : ℕ → ℕ → Type 0
@@ -132,19 +128,17 @@ module _ (p : Plan) (cells functions : List ℕ) (heights : List ℤ) (lent : Li
 
   -- the numbers that the refusals in order have
   numbers : (P : ℕ → Type 0) → P 0 → P 1 → P 2 → P 3 → P 4 → P 5 → P 6 → P 14 → P 15 → (mostProjected < cellTotal p → P 16) → P n
-  unfolding refusal
+  unfolding refusal meshRefusal
   numbers P a b c d e f g h i j =
-      first-all P (planRefusal p) (check p cells functions) (heightsRefusal p functions heights) a
-      (plan-number P p a b c j)
-      (check-number P p cells functions a b c d e f g)
+      chain-all P (meshRefusal p cells functions) (heightsRefusal p functions heights)
+      (chain-all P (planRefusal p) (check p cells functions) (plan-number P p a b c j) (check-number P p cells functions a b c d e f g))
       (heights-number P p functions heights a d h i)
 
   -- ---- accepted
 
   -- what an accepted call had to pass
   pub record Taken : Type 0 where
-    pub planned : planRefusal p ≡ 0
-    pub checked : check p cells functions ≡ 0
+    pub mesh : meshRefusal p cells functions ≡ 0
     pub judged : heightsRefusal p functions heights ≡ 0
     pub roomy : few cs lent ≡ false
 
@@ -152,17 +146,12 @@ module _ (p : Plan) (cells functions : List ℕ) (heights : List ℤ) (lent : Li
   unfolding project filled refusal
   taken e =
       let (z, b) = outcome-taken cs lent n (few cs lent) e in
-      let (h, r) = first-none (planRefusal p) _ z in
-      let (c, q) = first-none (check p cells functions) _ r in
-      record { planned = h; checked = c; judged = first-none (heightsRefusal p functions heights) [] q .0; roomy = b }
+      let (m, j) = chain (meshRefusal p cells functions) (heightsRefusal p functions heights) z in
+      record { mesh = m; judged = j; roomy = b }
 
-  taken-is : Taken → project p cells functions heights lent ≡ filled cs lent
-  unfolding project refusal first
-  taken-is t = rw (t .planned, t .checked, t .judged) refl
-
-  written : Taken → filled cs lent ≡ record { answer = record { number = 0; corners = length cs }; out = floatsOf cs ++ drop (length (floatsOf cs)) lent }
+  written : Taken → project p cells functions heights lent ≡ record { answer = record { number = 0; corners = length cs }; out = floatsOf cs ++ drop (length (floatsOf cs)) lent }
   unfolding filled
-  written t = rw (t .roomy) refl
+  written t = sym (accepted p cells functions heights lent (t .mesh) (t .judged) (rw (t .roomy) refl))
 
   active-count : check p cells functions ≡ 0 → count p cells functions .active ≡ tally (cellTotal p) (active cells)
   unfolding count
@@ -171,24 +160,24 @@ module _ (p : Plan) (cells functions : List ℕ) (heights : List ℤ) (lent : Li
   -- ---- where a corner stands
 
   module _ (c : ℕ) (below : c < cellTotal p) (yes : active cells c ≡ true) where
-    abbrev fours : List Float
-    fours = floatsOf (cornersOf p functions heights (cellPlace p c))
+    abbrev floatsThere : List Float
+    floatsThere = floatsOf (cornersOf p functions heights (cellPlace p c))
 
     -- the cell's floats, and what follows
-    behind : Taken → (more : List Float) × (drop (12 * tally c (active cells)) (project p cells functions heights lent .out) ≡ fours ++ more)
+    behind : Taken → (more : List Float) × (drop (12 * tally c (active cells)) (project p cells functions heights lent .out) ≡ floatsThere ++ more)
     behind t =
         let (rest, e) = floats-from p functions heights cells c below yes in
         let before = floatsBelow p functions heights cells c in
         let others = floatsOf (flatMap (λ (d : ℕ). cornersOf p functions heights (cellPlace p d)) rest) in
         let tail = drop (length (floatsOf cs)) lent in
-        let out : project p cells functions heights lent .out ≡ floatsOf cs ++ tail = ap (λ (o : CornersOutcome). o .out) (taken-is t ∙ written t) in
+        let out : project p cells functions heights lent .out ≡ floatsOf cs ++ tail = ap (λ (o : CornersOutcome). o .out) (written t) in
         let len : length before ≡ 12 * tally c (active cells) = twelve p functions heights cells c ∙ rw (listed-tally c (active cells)) refl in (
           others ++ tail,
-          ap (drop (12 * tally c (active cells))) (out ∙ ap (λ (l : List Float). l ++ tail) e ∙ append-assoc before (fours ++ others) tail ∙ ap (λ (l : List Float). before ++ l) (append-assoc fours others tail))
-              ∙ drop-at before (fours ++ (others ++ tail)) (12 * tally c (active cells)) len,
+          ap (drop (12 * tally c (active cells))) (out ∙ ap (λ (l : List Float). l ++ tail) e ∙ append-assoc before (floatsThere ++ others) tail ∙ ap (λ (l : List Float). before ++ l) (append-assoc floatsThere others tail))
+              ∙ drop-at before (floatsThere ++ (others ++ tail)) (12 * tally c (active cells)) len,
         )
 
-    among : (a b : ℕ) → a ≤ 1 → b ≤ 1 → (more : List Float) → take 3 (drop (6 * b + 3 * a) (fours ++ more)) ≡ threeFloats (cornerOf p functions heights (cellPlace p c) a b)
+    among : (a b : ℕ) → a ≤ 1 → b ≤ 1 → (more : List Float) → take 3 (drop (6 * b + 3 * a) (floatsThere ++ more)) ≡ threeFloats (cornerOf p functions heights (cellPlace p c) a b)
     unfolding cornersOf flatMap
     among zero zero g h more = refl
     among (suc zero) zero g h more = refl
@@ -213,27 +202,25 @@ module _ (p : Plan) (cells functions : List ℕ) (heights : List ℤ) (lent : Li
   sound : Taken → (c : ℕ) → c < cellTotal p → (a b : ℕ) → a ≤ 1 → b ≤ 1 → Sound p cells functions heights (cellPlace p c) a b
   unfolding cornerOf cornerAt
   sound t c l a b g h =
-      let range = check-passed p cells functions (t .checked) .range in
-      let o = on-lines p (cellPlace p c) range (cell-inside p range c l) g h in
+      let k = passed p cells functions (t .mesh) in
+      let o = on-lines p (cellPlace p c) (k .range) (cell-inside p (k .range) c l) g h in
       record {
         across = dyadic-value 0 (pos _);
         up = dyadic-value 0 (pos _);
-        height = sym (answered p cells functions heights _ _ (t .checked) (t .judged) (T-true (onMesh p _ _) (o .inside)) refl);
+        height = sym (answered p cells functions heights _ _ (k .checked) (t .judged) (T-true (onMesh p _ _) (o .inside)) refl);
       }
 
   room : 12 * mostProjected ≤ length lent → n ≡ 0 → few cs lent ≡ true → ⊥
   unfolding refusal
   room h z f =
       let l = ltb→lt (length lent) (length (floatsOf cs)) (rw f tt) in
-      omega (arith, floats-count p functions heights cells, tally-small (cellTotal p) (active cells), small p (first-none (planRefusal p) _ z .0), l, h)
+      omega (arith, floats-count p functions heights cells, tally-small (cellTotal p) (active cells), passed p cells functions (chain (meshRefusal p cells functions) _ z .0) .small≤, l, h)
 
   -- ---- the number
 
   refusal-16 : inRange p ≡ true → tooLarge p ≡ false → mostProjected < cellTotal p → n ≡ 16
-  unfolding refusal
-  refusal-16 a b l =
-      ap (λ (m : ℕ). first (λ k. k) (m ∷ check p cells functions ∷ heightsRefusal p functions heights ∷ [])) (plan-16 p a b l)
-      ∙ first-here 16 (check p cells functions ∷ heightsRefusal p functions heights ∷ []) (differ 16 0 tt)
+  unfolding refusal meshRefusal
+  refusal-16 a b l = rw (plan-16 p a b l) refl
 
   number-16 : n ≡ 16 → given p cells functions heights lent .number ≡ 16
   unfolding project filled refused
@@ -258,7 +245,7 @@ module _ (p : Plan) (cells functions : List ℕ) (heights : List ℤ) (lent : Li
     kept = outcome-kept cs lent n (few cs lent);
     size = outcome-size cs lent n (few cs lent) refl;
     past = outcome-past cs lent n (few cs lent);
-    four = λ e. let t = taken e in ap (λ (o : CornersOutcome). o .answer .corners) (taken-is t ∙ written t) ∙ corners-length p functions heights cells ∙ ap (λ (m : ℕ). 4 * m) (sym (active-count (t .checked)));
+    four = λ e. let t = taken e in ap (λ (o : CornersOutcome). o .answer .corners) (written t) ∙ corners-length p functions heights cells ∙ ap (λ (m : ℕ). 4 * m) (sym (active-count (passed p cells functions (t .mesh) .checked)));
     stands = λ e c l u. stands c l (T-true (active cells c) u) (taken e);
     sound = λ e. sound (taken e);
   }

@@ -7,7 +7,7 @@ use lib.Dec.{eqb, ltb}
 use lib.IntN.{ℤ, pos}
 use lib.Ieee.{Float}
 use lib.ListN.{length, drop}
-use Rattle.facts.specs.Numbers.{listed, first}
+use Rattle.facts.specs.Numbers.{listed}
 use Rattle.exact.specs.Dyadic.{dyadic}
 use Rattle.grid.specs.declared.Plan.{Plan}
 use Rattle.grid.specs.declared.Place.{Place}
@@ -62,9 +62,14 @@ floatsOf = flatMap threeFloats
 unfoldable pub planRefusal : Plan → ℕ
 planRefusal p = cond (not (inRange p)) 1 (cond (tooLarge p) 2 (cond (ltb mostProjected (cellTotal p)) 16 0))
 
--- the first that is not 0: these, what is left of check's 1 to 6, and Req 03's "refusals", of which 15 has no point to judge
+-- then what is left of check's 1 to 6
+unfoldable pub meshRefusal : Plan → List ℕ → List ℕ → ℕ
+meshRefusal p cells functions = cond (eqb (planRefusal p) 0) (check p cells functions) (planRefusal p)
+
+-- then Req 03's "refusals", of which 15 has no point to judge
 unfoldable pub refusal : Plan → List ℕ → List ℕ → List ℤ → ℕ
-refusal p cells functions heights = first (λ n. n) (planRefusal p ∷ check p cells functions ∷ heightsRefusal p functions heights ∷ [])
+refusal p cells functions heights =
+    cond (eqb (meshRefusal p cells functions) 0) (heightsRefusal p functions heights) (meshRefusal p cells functions)
 
 -- ---- the call
 
@@ -79,10 +84,10 @@ refused n out = record { answer = record { number = n; corners = 0 }; out = out 
 -- "They fill lent floats .. the answer is a number and how many corners were written", "where the lent output is too short for all corners,
 -- 10, last"; the floats past them keep their values
 unfoldable pub filled : List Corner → List Float → CornersOutcome
-filled cs out =
-    let floats = floatsOf cs in
+filled all out =
+    let floats = floatsOf all in
     cond (ltb (length out) (length floats)) (refused 10 out)
-    (record { answer = record { number = 0; corners = length cs }; out = floats ++ drop (length floats) out })
+    (record { answer = record { number = 0; corners = length all }; out = floats ++ drop (length floats) out })
 
 -- plan, tables, heights and lent floats to number, corners and floats
 unfoldable pub project : Plan → List ℕ → List ℕ → List ℤ → List Float → CornersOutcome

@@ -1,28 +1,22 @@
 -- What the contracts of the parts cite. Definitions only.
-use mathlib.Core.List.{List, [], _∷_}
+use mathlib.Core.List.{List}
 use Prim.Native.Nat.{ℕ, _≤_}
 use lib.Dec.{T}
 use lib.IntN.{ℤ}
 use lib.Ieee.{Float}
-use Rattle.facts.specs.Numbers.{first}
 use Rattle.grid.specs.declared.Plan.{Plan}
 use Rattle.grid.specs.Plan.{cellTotal}
 use Rattle.grid.specs.Range.{InRange}
-use Rattle.mesh.specs.Mesh.{check}
 use Rattle.heights.specs.Heights.{onMesh}
 use Rattle.heights.specs.Steps.{OnSurface}
 use Rattle.projector.specs.declared.CornersAnswer.{CornersAnswer}
-use Rattle.projector.specs.Projector.{mostProjected, planRefusal, CornersOutcome}
+use Rattle.projector.specs.Projector.{mostProjected, CornersOutcome}
 use denote.Ref.{RefT}
 use denote.Triple.Both.{Both}
 
 -- an answer, and what the lent floats hold at exit
 abbrev pub leftByCorners : CornersAnswer → Both (RefT (List Float)) (RefT (List Float)) → CornersOutcome
 leftByCorners r out = record { answer = r; out = out .exit .now }
-
--- refusals 1, 2, 16 and 3 to 6
-unfoldable pub meshRefusal : Plan → List ℕ → List ℕ → ℕ
-meshRefusal p cells functions = first (λ n. n) (planRefusal p ∷ check p cells functions ∷ [])
 
 -- what the refusals but 10 leave: a small plan, and heights that are taken at every point of the mesh
 pub record Ready (p : Plan) (functions : List ℕ) (heights : List ℤ) : Type 0 where

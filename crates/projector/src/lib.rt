@@ -8,8 +8,8 @@ ghost use lib.ListN.{length};
 ghost use Rattle.facts.specs.Writing.{Writes};
 ghost use Rattle.grid.specs.Plan.{cellTotal, CellInside};
 ghost use Rattle.grid.specs.Range.{InRange};
-ghost use Rattle.projector.specs.Projector.{lineAt, cornerOf, cornersOf, corners, threeFloats, floatsOf, filled, project};
-ghost use Rattle.projector.specs.Steps.{leftByCorners, meshRefusal, Ready};
+ghost use Rattle.projector.specs.Projector.{lineAt, cornerOf, cornersOf, corners, threeFloats, floatsOf, meshRefusal, filled, project};
+ghost use Rattle.projector.specs.Steps.{leftByCorners, Ready};
 
 // The most cells that a mesh may have here, of all levels together.
 const MOST_PROJECTED: u32 = 1024;

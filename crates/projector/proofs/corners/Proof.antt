@@ -1,7 +1,7 @@
 -- `corners` meets its contract: the plan and the mesh, the heights, the floats. Assumes nothing.
 use mathlib.Core.Path.{_≡_, sym, _∙_}
 use Rattle.heights.specs.Heights.{heightsRefusal}
-use Rattle.projector.specs.Steps.{meshRefusal}
+use Rattle.projector.specs.Projector.{meshRefusal}
 use Rattle.projector.proofs.Refusals.{passed, ready, refused-mesh, refused-heights, accepted}
 use borrow.Author.Needs.{needs}
 use Rattle.projector.proofs.corners.Statement.{statement}
