@@ -1,15 +1,15 @@
 -- Products and sums of exact values are exact. Assumes nothing.
 use mathlib.Core.Path.{_≡_, refl, sym, ap, _∙_, subst}
-use mathlib.Core.Bool.{Bool, true, false, _&&_, cond}
+use mathlib.Core.Bool.{Bool, true, false, not, _&&_, cond}
 use Prim.Native.Nat.{ℕ, zero, suc, _+_, _-_, _*_, _/_, _^_, _≤_, _<_, zero-le}
 use native.Mathlib.Nat.{lt-irrefl, le-trans, le-of-lt, lt-of-lt-of-le, lt-of-le-of-lt, zero-lt-suc, mul-one, mul-comm, mul-assoc, mul-right-comm, add-mul, mul-pos, mul-zero, zero-mul, le-add-right, le-mul-of-pos-right, mul-sub, mul-mul-mul-comm, mul-lt-mul-of-pos-right, mul-le-mul-right, lt-of-mul-lt-mul-right, le-of-mul-le-mul-right}
 use native.Mathlib.Omega.{arith}
-use lib.IntN.{ℤ, pos, negsuc, negℤ, natAbs, _+ℤ_, _*ℤ_, pos-ne-negsuc}
+use lib.IntN.{ℤ, pos, negsuc, negℤ, natAbs, _+ℤ_, _-ℤ_, _*ℤ_, pos-ne-negsuc}
 use lib.Dec.{T, ltb, leb, leb→le, nleb→lt, ltb→lt, nltb→le}
 use lib.Count.{trailingZeros}
 use borrow.Author.Tests.{le-leb, lt-leb, lt-ltb, le-ltb}
 use lib.Pow.{pow-add, pow-pos, pow-mono, shl-lt}
-use lib.Ieee.{Float, nan, inf, fin, Format, binary64, prec, low, up, down, minus, size, unlike, odd, round, sum, add, mul, ofInt, fits, toBits, ofBits, hid, top}
+use lib.Ieee.{Float, nan, inf, fin, Format, binary64, prec, low, up, down, minus, size, unlike, odd, round, sum, neg, add, sub, mul, ofInt, fits, toBits, ofBits, hid, top}
 use lib.Ieee.Fits.{down-pos, round-fits, odd-fits}
 use lib.Ieee.Exact.{HasValue, odd-sign, round-exact}
 use lib.Ieee.Nearest.{div-same}
@@ -17,6 +17,7 @@ use lib.Ieee.Scale.{round-same}
 use lib.Ieee.Bits.{ofBits-toBits}
 use Rattle.exact.specs.Dyadic.{over, negative, dyadic, signed, Exact}
 use Rattle.exact.specs.Sums.{sumℤ}
+use Rattle.exact.proofs.Integers.{abs-neg, times-one}
 
 -- ---- a number is written in one way: two values that fit and are the same fraction have the same bits
 bits-of : (f : Format) (s : Bool) (n : ℕ) → ℕ
@@ -228,14 +229,32 @@ plus s y z {x} h g e =
     ∙ ap (λ (w : ℤ). rounded (y +ℤ w) (2 ^ s)) (e .agrees)
     ∙ rounded-dyadic s (y +ℤ z) h g
 
-abs-neg : (n : ℕ) → natAbs (negℤ (pos n)) ≡ n
-abs-neg zero = refl
-abs-neg (suc n) = refl
+-- one less another
+neg-over : (s : ℕ) (t : Bool) (n : ℕ) → neg (over s t n) ≡ over s (not t) n
+unfolding neg over odd
+neg-over s t zero = refl
+neg-over s t (suc n) = refl
+
+neg-exact : (s : ℕ) (z : ℤ) → Exact s (negℤ z) (neg (dyadic s z))
+unfolding dyadic
+neg-exact s z = record {
+  sign = not (negative z);
+  is = neg-over s (negative z) (natAbs z) ∙ ap (over s (not (negative z))) (sym (abs-neg z));
+  agrees = ap (signed (not (negative z))) (abs-neg z) ∙ back z;
+}
+  where
+    back : (z : ℤ) → signed (not (negative z)) (natAbs z) ≡ negℤ z
+    back (pos n) = refl
+    back (negsuc n) = refl
+
+pub subtract : (s : ℕ) (y z : ℤ) → s ≤ 1021 → natAbs (y -ℤ z) < 2 ^ 53 → sub binary64 (dyadic s y) (dyadic s z) ≡ dyadic s (y -ℤ z)
+unfolding sub
+subtract s y z h g = plus s y (negℤ z) h g (neg-exact s z)
 
 pub abs-mul : (y z : ℤ) → natAbs (y *ℤ z) ≡ natAbs y * natAbs z
 abs-mul (pos a) (pos b) = refl
-abs-mul (pos a) (negsuc b) = abs-neg (a * suc b)
-abs-mul (negsuc a) (pos b) = abs-neg (suc a * b)
+abs-mul (pos a) (negsuc b) = abs-neg (pos (a * suc b))
+abs-mul (negsuc a) (pos b) = abs-neg (pos (suc a * b))
 abs-mul (negsuc a) (negsuc b) = refl
 
 signed-mul : (s t : Bool) (a b : ℕ) → signed (unlike s t) (a * b) ≡ signed s a *ℤ signed t b
@@ -283,12 +302,8 @@ widen {s} {z} {x} k h g e = record {
 -- times 2 ^ -j: the same whole number, with j more places after the point
 pub scale : {i : ℕ} {y : ℤ} {x : Float} (j : ℕ) → i + j ≤ 1021 → natAbs y < 2 ^ 53 → Exact i y x → Exact (i + j) y (mul binary64 x (dyadic j (pos 1)))
 scale {i} {y} {x} j h g e =
-    subst (λ (z : ℤ). Exact (i + j) z (mul binary64 x (dyadic j (pos 1)))) (one y)
+    subst (λ (z : ℤ). Exact (i + j) z (mul binary64 x (dyadic j (pos 1)))) (times-one y)
     (times {y = y} h (subst (λ (n : ℕ). n < 2 ^ 53) (sym (mul-one (natAbs y))) g) e (dyadic-exact j (pos 1)))
-  where
-    one : (y : ℤ) → y *ℤ pos 1 ≡ y
-    one (pos n) = ap pos (mul-one n)
-    one (negsuc n) = ap (λ (m : ℕ). negℤ (pos m)) (mul-one (suc n))
 
 -- ---- running sums
 -- one term more: while the sum's size is below 2 ^ 53, no bit of it is rounded away

@@ -1,14 +1,17 @@
 -- Sums of integers: their sizes, their parts, and sums of which only a stretch is not zero. Assumes nothing.
-use mathlib.Core.Path.{_≡_, refl, sym, ap, _∙_}
+use mathlib.Core.Path.{_≡_, refl, sym, ap, ap₂, subst, _∙_}
+use mathlib.Core.Logic.{_≢_}
 use mathlib.Core.Bool.{Bool, true, false, cond}
 use Prim.Native.Nat.{ℕ, zero, suc, _+_, _-_, _*_, _≤_, _<_, zero-le}
-use native.Mathlib.Nat.{le-refl, add-comm, add-zero, add-suc, add-sub-of-le, suc-mul, zero-mul, mul-add}
+use native.Mathlib.Nat.{le-refl, add-comm, add-zero, add-suc, add-sub-of-le, suc-mul, zero-mul}
 use native.Mathlib.Numerals.{add-one}
 use native.Mathlib.Omega.{arith}
-use lib.Dec.{ltb, ltb→lt}
-use lib.IntN.{ℤ, pos, negsuc, negℤ, natAbs, _+ℤ_, _*ℤ_, subℕ, +ℤ-idl, +ℤ-idr, +ℤ-assoc, negℤ-+ℤ, *ℤ-zero}
+use lib.Dec.{eqb, ltb, eqb→eq, ltb→lt}
+use lib.IntN.{ℤ, pos, negsuc, negℤ, natAbs, _+ℤ_, _-ℤ_, _*ℤ_, subℕ, +ℤ-idl, +ℤ-idr, +ℤ-assoc, +ℤ-comm, negℤ-+ℤ, *ℤ-zero}
 use Rattle.facts.specs.Bounded.{sum}
+use Rattle.facts.proofs.Tests.{cases, differ}
 use Rattle.exact.specs.Sums.{sumℤ}
+use Rattle.exact.proofs.Integers.{swap, times-add}
 
 -- ---- sizes
 
@@ -41,6 +44,16 @@ sum-bound zero b f h = zero-le
 sum-bound (suc n) b f h =
     omega (arith, abs-add (sumℤ n f) (f n), sum-bound n b f (λ k l. h k (omega arith)), h n (le-refl (suc n)))
 
+-- two sums are apart by no more than their numbers
+less-add : (a b c d : ℤ) → a +ℤ b -ℤ (c +ℤ d) ≡ a -ℤ c +ℤ (b -ℤ d)
+less-add a b c d = ap (λ z. a +ℤ b +ℤ z) (negℤ-+ℤ c d) ∙ swap a b (negℤ c) (negℤ d)
+
+pub sum-apart : (n : ℕ) (f g : ℕ → ℤ) → natAbs (sumℤ n f -ℤ sumℤ n g) ≤ sum n (λ k. natAbs (f k -ℤ g k))
+unfolding sumℤ sum
+sum-apart zero f g = zero-le
+sum-apart (suc n) f g =
+    rw (less-add (sumℤ n f) (f n) (sumℤ n g) (g n)) (omega (arith, abs-add (sumℤ n f -ℤ sumℤ n g) (f n -ℤ g n), sum-apart n f g))
+
 -- ---- parts
 
 -- one number more, as code counts
@@ -58,6 +71,21 @@ unfolding sumℤ
 sum-zero zero f h = refl
 sum-zero (suc n) f h = rw (sum-zero n f (λ k l. h k (omega arith)), h n (le-refl (suc n)))
 
+-- f is g, and more by e at i alone
+pub sum-one : (n i : ℕ) (f g : ℕ → ℤ) (e : ℤ) → i < n → ((k : ℕ) → k < n → k ≢ i → f k ≡ g k) → f i ≡ g i +ℤ e → sumℤ n f ≡ sumℤ n g +ℤ e
+unfolding sumℤ
+sum-one zero i f g e l others here = absurd (omega arith)
+sum-one (suc n) i f g e l others here =
+    cases (eqb n i)
+    (λ y. let q = eqb→eq n i y in
+    ap₂ _+ℤ_ (sum-same n f g (λ k m. others k (omega arith) (omega arith))) (subst (λ z. f z ≡ g z +ℤ e) (sym q) here)
+    ∙ sym (+ℤ-assoc (sumℤ n g) (g n) e))
+    (λ y. let q = differ n i y in
+    ap₂ _+ℤ_ (sum-one n i f g e (omega arith) (λ k m. others k (omega arith)) here) (others n (le-refl (suc n)) q)
+    ∙ +ℤ-assoc (sumℤ n g) e (g n)
+    ∙ ap (λ z. sumℤ n g +ℤ z) (+ℤ-comm e (g n))
+    ∙ sym (+ℤ-assoc (sumℤ n g) (g n) e))
+
 -- the numbers below a, and then the n from there on
 pub sum-split : (a n : ℕ) (f : ℕ → ℤ) → sumℤ (a + n) f ≡ sumℤ a f +ℤ sumℤ n (λ k. f (a + k))
 unfolding sumℤ
@@ -65,10 +93,6 @@ sum-split a zero f = rw (add-zero, +ℤ-idr)
 sum-split a (suc n) f = rw (add-suc a n) (rw (sum-split a n f) (+ℤ-assoc (sumℤ a f) (sumℤ n (λ k. f (a + k))) (f (a + n))))
 
 -- a number times each of f, and times their sum
-times-add : (z : ℤ) (a b : ℕ) → z *ℤ pos (a + b) ≡ z *ℤ pos a +ℤ z *ℤ pos b
-times-add (pos n) a b = ap pos (mul-add n a b)
-times-add (negsuc n) a b = ap (λ m. negℤ (pos m)) (mul-add (suc n) a b) ∙ negℤ-+ℤ (pos (suc n * a)) (pos (suc n * b))
-
 pub sum-times : (n : ℕ) (z : ℤ) (f : ℕ → ℕ) → sumℤ n (λ k. z *ℤ pos (f k)) ≡ z *ℤ pos (sum n f)
 unfolding sumℤ sum
 sum-times zero z f = sym (*ℤ-zero z)

@@ -1,5 +1,6 @@
 -- Lists of numbers: what `elem`, `all`, `listed`, `tabulate` and `first` say. Assumes nothing.
 use mathlib.Core.Path.{_≡_, refl, sym, ap, _∙_}
+use mathlib.Core.Logic.{_≢_}
 use mathlib.Core.Bool.{Bool, true, false, _&&_, _||_, cond, or-assoc, or-false, and-true, and-false}
 use mathlib.Core.List.{List, [], _∷_, _++_, append-nil}
 use Prim.Native.Nat.{ℕ, zero, suc, _≤_, _<_}
@@ -111,6 +112,10 @@ pub listed-same : (n : ℕ) (p q : ℕ → Bool) → ((i : ℕ) → i < n → p 
 unfolding listed
 listed-same zero p q h = refl
 listed-same (suc n) p q h = rw (h n (le-refl (suc n)), listed-same n p q (λ i l. h i (omega arith)))
+
+-- what is not 0 stands in the list
+pub getD-some : (xs : List ℕ) (i : ℕ) → getD xs i 0 ≢ 0 → i < length xs
+getD-some xs i n = cases (ltb i (length xs)) (ltb→lt i (length xs)) (λ h. absurd (n (List·getD-eq-default xs 0 (nltb→le i (length xs) h))))
 
 -- ---- stored
 

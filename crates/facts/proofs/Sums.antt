@@ -1,6 +1,6 @@
 -- Sums over a range, over a rectangle counted row by row, and over digits. Assumes nothing.
 use mathlib.Core.Path.{_≡_, refl, ap, _∙_}
-use Prim.Native.Nat.{ℕ, zero, suc, _+_, _*_, _/_, _<_}
+use Prim.Native.Nat.{ℕ, zero, suc, _+_, _*_, _/_, _≤_, _<_, zero-le}
 use native.Mathlib.Nat.{le-refl, zero-mul, suc-mul}
 use native.Mathlib.Numerals.{unary-clauses}
 use native.Mathlib.Omega.{arith}
@@ -11,6 +11,11 @@ pub sum-same : (n : ℕ) (f g : ℕ → ℕ) → ((k : ℕ) → k < n → f k �
 unfolding sum
 sum-same zero f g h = refl
 sum-same (suc n) f g h = rw (h n (le-refl (suc n)), sum-same n f g (λ k l. h k (omega arith)))
+
+pub sum-le : (n : ℕ) (f g : ℕ → ℕ) → ((k : ℕ) → k < n → f k ≤ g k) → sum n f ≤ sum n g
+unfolding sum
+sum-le zero f g h = zero-le
+sum-le (suc n) f g h = omega (arith, h n (le-refl (suc n)), sum-le n f g (λ k l. h k (omega arith)))
 
 pub sum-zero : (n : ℕ) (f : ℕ → ℕ) → ((k : ℕ) → k < n → f k ≡ 0) → sum n f ≡ 0
 unfolding sum

@@ -69,6 +69,11 @@ pub positive : (n : ℕ) → T (not (eqb n 0)) → 1 ≤ n
 positive zero t = absurd t
 positive (suc n) t = omega arith
 
+-- a number is 0 or not
+pub zero-or : {C : Type 0} (n : ℕ) → (n ≡ 0 → C) → (1 ≤ n → C) → C
+zero-or zero f g = f refl
+zero-or (suc n) f g = g (omega arith)
+
 pub eqb-of : (a b : ℕ) → a ≡ b → T (eqb a b)
 eqb-of a b e = rw e (eqb-refl b)
 
