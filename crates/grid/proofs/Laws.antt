@@ -23,11 +23,11 @@ use Rattle.grid.proofs.SideLaws.{together-up}
 
 -- ---- the ranges
 
-between-low : (lo hi x : ℕ) → T (between lo hi x) → lo ≤ x
+pub between-low : (lo hi x : ℕ) → T (between lo hi x) → lo ≤ x
 unfolding between
 between-low lo hi x t = leb→le lo x (and-l (leb lo x) (leb x hi) t)
 
-between-high : (lo hi x : ℕ) → T (between lo hi x) → x ≤ hi
+pub between-high : (lo hi x : ℕ) → T (between lo hi x) → x ≤ hi
 unfolding between
 between-high lo hi x t = leb→le x hi (and-r (leb lo x) (leb x hi) t)
 

@@ -1,11 +1,12 @@
 -- Knots and values computed from their definitions; the values were worked out in fractions. Assumes nothing.
 use mathlib.Core.List.{List, [], _∷_}
 use mathlib.Core.Path.{_≡_, refl}
+use mathlib.Core.Bool.{cond}
 use Prim.Native.Nat.{ℕ, _*_}
 use Rattle.facts.specs.Numbers.{tabulate}
 use Rattle.grid.specs.declared.Side.{Side}
 use Rattle.grid.specs.Knots.{isSet, isCorner, cornersTo, times, knotFrom, knot, knotOn, beyond, functions}
-use Rattle.splines.specs.Values.{rise, fall, box, basis, scale, cellOf, value, valueIn, valueOn}
+use Rattle.splines.specs.Values.{rise, fall, box, basis, scale, cellOf, value, valueIn, valueOn, isInside}
 
 -- the cell of a point of 3 cells, with 8 parts to a cell: on a line the one behind it, on the far edge the last
 pub cells : cellOf 8 3 0 ∷ cellOf 8 3 7 ∷ cellOf 8 3 8 ∷ cellOf 8 3 23 ∷ cellOf 8 3 24 ∷ [] ≡ 0 ∷ 0 ∷ 1 ∷ 2 ∷ 2 ∷ []
@@ -100,3 +101,34 @@ pub worked-corners :
     ∷ []
 unfolding tabulate isSet isCorner cornersTo times knotFrom knot beyond functions rise fall box basis scale cellOf value valueIn valueOn
 worked-corners = refl
+
+-- the functions that have a point inside their supports: one on each end of the side and on a corner; on another line those that end or begin
+-- there do not
+abbrev pub insideOf : Side → ℕ → ℕ → List ℕ
+insideOf s h x = tabulate (functions s) (λ i. cond (isInside s h i x) 1 0)
+
+pub insides :
+    insideOf (side 3 1 2 0) 8 0
+    ∷ insideOf (side 3 1 2 0) 8 1
+    ∷ insideOf (side 3 1 2 0) 8 8
+    ∷ insideOf (side 3 1 2 0) 8 12
+    ∷ insideOf (side 3 1 2 0) 8 24
+    ∷ insideOf (side 3 1 2 2) 8 7
+    ∷ insideOf (side 3 1 2 2) 8 8
+    ∷ insideOf (side 3 1 2 2) 8 9
+    ∷ insideOf (side 3 1 1 2) 8 8
+    ∷ insideOf (side 3 1 1 2) 8 9
+    ∷ []
+    ≡ (1 ∷ 0 ∷ 0 ∷ 0 ∷ 0 ∷ [])
+    ∷ (1 ∷ 1 ∷ 1 ∷ 0 ∷ 0 ∷ [])
+    ∷ (0 ∷ 1 ∷ 1 ∷ 0 ∷ 0 ∷ [])
+    ∷ (0 ∷ 1 ∷ 1 ∷ 1 ∷ 0 ∷ [])
+    ∷ (0 ∷ 0 ∷ 0 ∷ 0 ∷ 1 ∷ [])
+    ∷ (1 ∷ 1 ∷ 1 ∷ 0 ∷ 0 ∷ 0 ∷ [])
+    ∷ (0 ∷ 0 ∷ 1 ∷ 0 ∷ 0 ∷ 0 ∷ [])
+    ∷ (0 ∷ 0 ∷ 1 ∷ 1 ∷ 1 ∷ 0 ∷ [])
+    ∷ (0 ∷ 1 ∷ 0 ∷ 0 ∷ [])
+    ∷ (0 ∷ 1 ∷ 1 ∷ 0 ∷ [])
+    ∷ []
+unfolding tabulate isSet isCorner cornersTo times knotFrom knot beyond functions isInside
+insides = refl

@@ -9,3 +9,4 @@ pub mod Values
 pub mod Lines
 pub mod Sides
 pub mod Located
+pub mod Inside

@@ -26,11 +26,14 @@ module _ {s : Side} {h x c : ℕ} (on : OnSide s h x) (e : c ≡ cellOf h (s .ce
   pub inside : c < s .cells
   inside = rw e (cell-inside h (s .cells) x (some-cells s (on .sized)))
 
-  point : Point h c x (x - c * h) (suc c * h - x)
+  pub point : Point h c x (x - c * h) (suc c * h - x)
   point = rw e (cell-point h (s .cells) x (on .parts≥) (some-cells s (on .sized)) (on .point≤))
 
   pub starts : c * h ≤ x
   starts = omega (arith, point .place)
+
+  pub ends : x ≤ suc c * h
+  ends = omega (arith, point .place, point .parts)
 
   pub before-le : x - c * h ≤ h
   before-le = omega (arith, point .parts)

@@ -9,11 +9,11 @@ use Rattle.facts.specs.Bounded.{sum}
 use Rattle.facts.proofs.Sums.{sum-same}
 use Rattle.facts.proofs.Tests.{cases, not-e, T-true, T-false, eqb-of, differ}
 use Rattle.grid.specs.declared.Side.{Side}
-use Rattle.grid.specs.Knots.{times, knotOn, functions, covers, firstOver}
-use Rattle.grid.proofs.Knots.{knot-next, some-cells, knots-to, knots-all, first-lt, covers-test}
+use Rattle.grid.specs.Knots.{times, knotOn, functions, firstOver}
+use Rattle.grid.proofs.Knots.{knot-next, some-cells, knots-to, knots-all, first-lt}
 use Rattle.splines.specs.Values.{basis, scale, cellOf, from, value, valueOn}
 use Rattle.splines.specs.Local.{full, outer, localOf, pieceOf}
-use Rattle.splines.specs.Claims.{OnSide, WholeFactors, Values}
+use Rattle.splines.specs.Claims.{OnSide, WholeFactors}
 use Rattle.splines.proofs.Recursion.{whole-factors}
 use Rattle.splines.proofs.Three.{three, three-0, three-1, three-2, three-off, places, three-most, three-sum}
 use Rattle.splines.proofs.Local.{Open}
@@ -75,7 +75,7 @@ module _ (s : Side) (h x : ℕ) (on : OnSide s h x) where
   cells≥ : 1 ≤ s .cells
   cells≥ = some-cells s (on .sized)
 
-  opened : Open p (s .cells) (times s)
+  pub opened : Open p (s .cells) (times s)
   opened = open-times s (on .sized)
 
   pub within : c < s .cells
@@ -127,10 +127,10 @@ module _ (s : Side) (h x : ℕ) (on : OnSide s h x) where
       (λ y. absurd (off (omega arith) (omega (arith, on .sized .degree≥, differ p 1 y)))))
       (λ a b d. three-off f _ _ _ i a b d)
 
-  value-most : (i : ℕ) → i < functions s → valueOn s h i x ≤ 2 * h * h
+  pub value-most : (i : ℕ) → i < functions s → valueOn s h i x ≤ 2 * h * h
   value-most i k = omega (arith, value-three i k, make, three-most f (outer p l h v) (second p l r h u v) (third p l r h u v) i)
 
-  value-one : sum (functions s) (λ i. valueOn s h i x) ≡ 2 * h * h
+  pub value-one : sum (functions s) (λ i. valueOn s h i x) ≡ 2 * h * h
   value-one =
       sum-same (functions s) _ _ value-three
       ∙ three-sum (functions s) f _ _ _ (omega (arith, over-last, on .sized .degree≥)) (λ e. third-0 (omega (arith, over-last, on .sized .degree≥)))
@@ -142,26 +142,16 @@ module _ (s : Side) (h x : ℕ) (on : OnSide s h x) where
       let e : i + suc d ≡ suc (i + d) = omega arith in
       rw e (omega (arith, knot-next (times s) (s .cells) (opened .least) (i + d) (omega (arith, all)), near-knots d i (omega arith)))
 
-  value-factors : (d i : ℕ) → 1 ≤ d → d ≤ p → i + d < functions s + (p + 1) → knotOn s i < knotOn s (i + d) → WholeFactors h d (knotOn s i) (knotOn s (i + d)) x
+  pub value-factors : (d i : ℕ) → 1 ≤ d → d ≤ p → i + d < functions s + (p + 1) → knotOn s i < knotOn s (i + d) → WholeFactors h d (knotOn s i) (knotOn s (i + d)) x
   value-factors d i g l b m = whole-factors h d (knotOn s i) (knotOn s (i + d)) x m (omega (arith, near-knots d i b)) (omega (arith, on .degree≤))
 
-  value-whole : (i : ℕ) → valueOn s h i x * scale h p ≡ value h (s .cells) p (knotOn s) i x * (2 * h * h)
+  pub value-whole : (i : ℕ) → valueOn s h i x * scale h p ≡ value h (s .cells) p (knotOn s) i x * (2 * h * h)
   unfolding valueOn
   value-whole i = whole p (on .sized .degree≥) (on .degree≤) h (s .cells) (knotOn s) i x (on .parts≥)
 
-  value-continuous : (c i : ℕ) → suc c < s .cells → x ≡ suc c * h → i < functions s
+  pub value-continuous : (c i : ℕ) → suc c < s .cells → x ≡ suc c * h → i < functions s
       → basis h c (λ d. x) p (from (knotOn s) i) ≡ value h (s .cells) p (knotOn s) i x
   unfolding value
   value-continuous c i l e k =
       rw (e, cell-line h (s .cells) (suc c) (on .parts≥) l)
       (lines.continuous p (on .sized .degree≥) (on .degree≤) (s .cells) (times s) opened h c (firstOver s c) i l (over-first c (omega arith)) (omega (arith, all)))
-
-  pub values : Values s h x
-  values = record {
-    factors = value-factors;
-    whole = value-whole;
-    most = value-most;
-    one = value-one;
-    outside = λ i k y. value-outside i k (λ a b. not-e (covers s i c) y (covers-test s (on .sized) i c within a b));
-    continuous = value-continuous;
-  }

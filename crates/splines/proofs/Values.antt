@@ -66,7 +66,7 @@ unfolding outer
 outer-2 true h v = omega arith
 outer-2 false h v = omega arith
 
-between-2 : (l r : Bool) (h u v : ℕ) → u + v ≡ h → between 2 l r h u v ≡ middle2 l r u v u v
+pub between-2 : (l r : Bool) (h u v : ℕ) → u + v ≡ h → between 2 l r h u v ≡ middle2 l r u v u v
 between-2 l r h u v e = rw (outer-2 l h v, outer-2 r h u, ← e) (omega (arith, unity2 l r u v))
 
 abbrev Makes : ℕ → Type 0

@@ -1,10 +1,10 @@
 -- Values of B-splines of one direction, by the recursion of Cox and de Boor, in whole numbers. A point is a whole number of parts, h of
 -- which make a cell, so that line a is the point a * h. Definitions only.
-use mathlib.Core.Bool.{_&&_, cond}
+use mathlib.Core.Bool.{Bool, _&&_, _||_, cond}
 use Prim.Native.Nat.{ℕ, zero, suc, min, _+_, _-_, _*_, _/_}
-use lib.Dec.{leb, ltb}
+use lib.Dec.{eqb, leb, ltb}
 use Rattle.grid.specs.declared.Side.{Side}
-use Rattle.grid.specs.Knots.{knotOn}
+use Rattle.grid.specs.Knots.{knotOn, functions}
 
 -- the recursion's two factors at step d, (x - a) / (b - a) and (b - x) / (b - a) between the lines a and b, of which d * h make 1; 0 where
 -- b is a. Nothing is lost where b - a divides d, as it does up to degree 2
@@ -50,3 +50,10 @@ valueIn h n p t i x = value h n p t i x * (2 * h * h) / scale h p
 -- a side's function i at x
 unfoldable pub valueOn : Side → ℕ → ℕ → ℕ → ℕ
 valueOn s h i x = valueIn h (s .cells) (s .degree) (knotOn s) i x
+
+-- the point x of the side lies inside the support of function i: behind its first knot and before its last. The support's edges do not, but
+-- for the side's own ends: these lie inside the supports of the first function and of the last
+unfoldable pub isInside : Side → ℕ → ℕ → ℕ → Bool
+isInside s h i x =
+    (eqb i 0 || ltb (knotOn s i * h) x)
+    && (eqb (i + 1) (functions s) || ltb x (knotOn s (i + s .degree + 1) * h))
