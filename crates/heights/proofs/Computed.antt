@@ -19,6 +19,7 @@ use Rattle.splines.specs.Values.{rise, fall, box, basis, scale, cellOf, value, 
 use Rattle.heights.specs.declared.Height.{Height}
 use Rattle.heights.specs.declared.Height.the-variants.{At, Refused}
 use Rattle.heights.specs.Heights.{eighths, onMesh, valueAt, productOf, heightSum, places, inexact, low, allLow, heightsRefusal, refusal, answer, lowOn}
+use Rattle.heights.specs.Demands.{touches}
 
 -- a list of n heights
 unfoldable pub heightsOf : ℕ → (ℕ → ℤ) → List ℤ
@@ -51,6 +52,25 @@ pub ignored :
     ≡ 0 ∷ 15 ∷ 0 ∷ 16384 ∷ []
 unfolding every heightsOf sumℤ offset number levelOf placeOn place ratio grown active isSet isCorner cornersTo times knotFrom knot beyond rise fall box basis scale cellOf value valueIn valueOn eighths valueAt productOf heightSum inexact low allLow heightsRefusal lowOn
 ignored = refl
+
+-- the cells that a point touches, of two columns and two rows and of the finer level: one, two on an edge, four where four meet; one on the
+-- far corner
+abbrev pub touched : ℕ → ℕ → List ℕ
+touched x y = tabulate 20 (λ c. cond (touches (planOf (2 ∷ 2 ∷ 2 ∷ 1 ∷ 1 ∷ 0 ∷ [])) x y c) 1 0)
+
+pub touching :
+    touched 3 4
+    ∷ touched 16 4
+    ∷ touched 16 16
+    ∷ touched 32 32
+    ∷ []
+    ≡ (1 ∷ 0 ∷ 0 ∷ 0 ∷ 1 ∷ 0 ∷ 0 ∷ 0 ∷ 0 ∷ 0 ∷ 0 ∷ 0 ∷ 0 ∷ 0 ∷ 0 ∷ 0 ∷ 0 ∷ 0 ∷ 0 ∷ 0 ∷ [])
+    ∷ (1 ∷ 1 ∷ 0 ∷ 0 ∷ 0 ∷ 1 ∷ 1 ∷ 0 ∷ 0 ∷ 0 ∷ 0 ∷ 0 ∷ 0 ∷ 0 ∷ 0 ∷ 0 ∷ 0 ∷ 0 ∷ 0 ∷ 0 ∷ [])
+    ∷ (1 ∷ 1 ∷ 1 ∷ 1 ∷ 0 ∷ 0 ∷ 0 ∷ 0 ∷ 0 ∷ 1 ∷ 1 ∷ 0 ∷ 0 ∷ 1 ∷ 1 ∷ 0 ∷ 0 ∷ 0 ∷ 0 ∷ 0 ∷ [])
+    ∷ (0 ∷ 0 ∷ 0 ∷ 1 ∷ 0 ∷ 0 ∷ 0 ∷ 0 ∷ 0 ∷ 0 ∷ 0 ∷ 0 ∷ 0 ∷ 0 ∷ 0 ∷ 0 ∷ 0 ∷ 0 ∷ 0 ∷ 1 ∷ [])
+    ∷ []
+unfolding tabulate offset number levelOf placeOn place between ratio grown eighths touches
+touching = refl
 
 -- with a degree of 3 and heights that are too large 14 is given, with too few of them 3
 abbrev pub cubic : Plan

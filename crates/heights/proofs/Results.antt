@@ -1,22 +1,29 @@
 -- What is claimed of heights holds. Assumes nothing.
-use mathlib.Core.Path.{_≡_, refl}
+use mathlib.Core.Path.{_≡_, refl, sym, ap, _∙_}
 use mathlib.Core.Bool.{Bool, true, false, not, cond}
 use mathlib.Core.List.{List}
-use Prim.Native.Nat.{ℕ, zero, suc, _*_, _≤_}
-use native.Mathlib.Nat.{le-refl, lt-of-le-of-lt, mul-le-mul-right}
+use Prim.Native.Nat.{ℕ, zero, suc, _*_, _^_, _≤_}
+use native.Mathlib.Nat.{le-refl, le-trans, lt-of-le-of-lt, mul-le-mul-right}
 use native.Mathlib.Omega.{arith}
-use lib.Dec.{eqb, eqb·suc-zero, lit<}
-use lib.IntN.{ℤ}
+use lib.Dec.{T, eqb, eqb·suc-zero, lit<}
+use lib.IntN.{ℤ, pos, negℤ, natAbs, _-ℤ_, _*ℤ_}
 use lib.Ieee.{Float}
+use lib.Ieee.Exact.{HasValue}
+use lib.ListN.{length, getD}
+use Rattle.facts.specs.Bounded.{implies}
+use Rattle.facts.proofs.Bounded.{every-same}
 use Rattle.facts.proofs.Tests.{true-T}
-use Rattle.exact.specs.Dyadic.{dyadic}
-use Rattle.exact.proofs.Dyadic.{dyadic-value}
+use Rattle.exact.specs.Dyadic.{negative, dyadic}
+use Rattle.exact.proofs.Integers.{abs-neg}
+use Rattle.exact.proofs.Dyadic.{dyadic-value, subtract}
+use Rattle.exact.proofs.Sums.{abs-add, sum-same}
 use Rattle.grid.specs.declared.Plan.{Plan}
+use Rattle.grid.specs.Plan.{functionTotal, functionPlace, functionLevel}
 use Rattle.grid.proofs.Laws.{in-range}
-use Rattle.mesh.specs.Mesh.{check}
+use Rattle.mesh.specs.Mesh.{active, check}
 use Rattle.heights.specs.declared.Height.the-variants.{At, Refused}
-use Rattle.heights.specs.Heights.{onMesh, heightSum, places, heightsRefusal, refusal, answer, numberOf}
-use Rattle.heights.specs.Demands.{Answered, Demands}
+use Rattle.heights.specs.Heights.{onMesh, valueAt, productOf, heightSum, places, low, lowOn, allLow, heightsRefusal, refusal, answer, numberOf, heightOf}
+use Rattle.heights.specs.Demands.{Answered, Subtracted, Demands}
 use Rattle.heights.specs.Steps.{OnSurface, most}
 use Rattle.heights.proofs.Turns.{up-size, up-all}
 use Rattle.heights.proofs.Refusals.{few, point, on-surface}
@@ -39,31 +46,87 @@ number-of zero h = refl
 number-of (suc n) h = rw (eqb·suc-zero n)
 
 module _ (p : Plan) (cells functions : List ℕ) (heights : List ℤ) (x y : ℕ) where
-  answer-is : refusal p cells functions heights x y ≡ 0 → answer p cells functions heights x y ≡ At (dyadic (places (p .levels)) (heightSum p functions heights x y))
+  pub answer-is : refusal p cells functions heights x y ≡ 0 → answer p cells functions heights x y ≡ At (dyadic (places (p .levels)) (heightSum p functions heights x y))
   unfolding answer
   answer-is e = rw e
 
   -- what an accepted call had to pass
-  accepted : refusal p cells functions heights x y ≡ 0 → OnSurface p functions heights x y
+  pub accepted : refusal p cells functions heights x y ≡ 0 → OnSurface p functions heights x y
   unfolding refusal
   accepted e =
       let (c, r) = skip (check p cells functions) _ e in
       let (h, o) = skip (heightsRefusal p functions heights) _ r in
       on-surface p cells functions heights x y c h (last (onMesh p x y) o)
 
-  answered : Answered p cells functions heights x y
+  -- in the parts of the sum
+  pub small : OnSurface p functions heights x y → natAbs (heightSum p functions heights x y) ≤ 36 * most
+  small s = le-trans (rw (up-all s) at (up-size s (p .levels) (le-refl _))) (mul-le-mul-right (9 * most) (s .point .levels≤))
+
+  pub answered : Answered p cells functions heights x y
   answered = record {
     number = unfold answer in number-of (refusal p cells functions heights x y) _;
     value = λ e. rw (answer-is e) (dyadic-value (places (p .levels)) (heightSum p functions heights x y));
-    bits = λ e. let s = accepted e in
-        lt-of-le-of-lt (rw (up-all s) at (up-size s (p .levels) (le-refl _))) (lt-of-le-of-lt (mul-le-mul-right (9 * most) (s .point .levels≤)) (lit< tt));
+    bits = λ e. lt-of-le-of-lt (small (accepted e)) (lit< tt);
   }
+
+-- ---- what an answer says
+
+module _ (p : Plan) (cells functions : List ℕ) (heights : List ℤ) (x y : ℕ) (h : Float) (is : answer p cells functions heights x y ≡ At h) where
+  none : refusal p cells functions heights x y ≡ 0
+  none = sym (answered p cells functions heights x y .number) ∙ ap numberOf is
+
+  pub surface : OnSurface p functions heights x y
+  surface = accepted p cells functions heights x y none
+
+  pub float : h ≡ dyadic (places (p .levels)) (heightSum p functions heights x y)
+  float = ap heightOf (sym is ∙ answer-is p cells functions heights x y none)
+
+  pub exact-value : HasValue h (negative (heightSum p functions heights x y)) (natAbs (heightSum p functions heights x y)) (2 ^ places (p .levels))
+  exact-value = rw float (dyadic-value (places (p .levels)) (heightSum p functions heights x y))
+
+-- one less another
+pub differences : Subtracted
+differences p cells functions heights x y cells′ functions′ heights′ x′ y′ h h′ old new =
+    let a = heightSum p functions heights x y in
+    let b = heightSum p functions′ heights′ x′ y′ in
+    let s = surface p cells functions heights x y h old in
+    let s′ = surface p cells′ functions′ heights′ x′ y′ h′ new in
+    let m : natAbs (b -ℤ a) ≤ 72 * most = omega (arith, abs-add b (negℤ a), abs-neg a, small p cells functions heights x y s, small p cells′ functions′ heights′ x′ y′ s′) in
+    rw (float p cells functions heights x y h old, float p cells′ functions′ heights′ x′ y′ h′ new)
+    (subtract (places (p .levels)) b a (omega (arith, s .point .levels≤)) (lt-of-le-of-lt m (lit< tt)))
+
+-- ---- heights that are ignored
+
+module _ (p : Plan) (cells functions : List ℕ) (heights others : List ℤ) (x y : ℕ) (sized : length others ≡ length heights)
+    (agree : (f : ℕ) → T (active functions f) → getD others f (pos 0) ≡ getD heights f (pos 0)) where
+  -- what depends on a height only where the function is active
+  same-where : {A : Type 0} (f : ℕ) (g : Bool → ℤ → A) → ((h h′ : ℤ) → g false h ≡ g false h′)
+      → g (active functions f) (getD others f (pos 0)) ≡ g (active functions f) (getD heights f (pos 0))
+  same-where {A} f g rest = go (active functions f) (agree f)
+    where
+      go : (b : Bool) → (T b → getD others f (pos 0) ≡ getD heights f (pos 0)) → g b (getD others f (pos 0)) ≡ g b (getD heights f (pos 0))
+      go true e = ap (g true) (e tt)
+      go false e = rest (getD others f (pos 0)) (getD heights f (pos 0))
+
+  same-low : allLow p functions others ≡ allLow p functions heights
+  unfolding allLow lowOn
+  same-low = every-same (functionTotal p) _ _ (λ f l. same-where f (λ b h. implies b (low (functionLevel p f) h)) (λ h h′. refl))
+
+  same-sum : heightSum p functions others x y ≡ heightSum p functions heights x y
+  unfolding heightSum productOf
+  same-sum = sum-same (functionTotal p) _ _ (λ f l. same-where f (λ b h. cond b (h *ℤ pos (valueAt p x y (functionPlace p f))) (pos 0)) (λ h h′. refl))
+
+  ignored : answer p cells functions others x y ≡ answer p cells functions heights x y
+  unfolding answer refusal heightsRefusal
+  ignored = rw (sized, same-low, same-sum) refl
 
 -- ---- all of it
 
 pub demands : Demands
 demands = record {
   answered = answered;
+  ignored = ignored;
+  subtracted = differences;
   valued = λ p r e x y t. valued p x y (point p (in-range p (true-T _ r)) (few p e) x y t);
   flat = flat;
 }

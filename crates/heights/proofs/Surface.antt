@@ -27,7 +27,8 @@ use Rattle.splines.specs.declared.LocalValues.{LocalValues}
 use Rattle.splines.specs.Values.{cellOf, valueOn}
 use Rattle.splines.specs.Local.{localOf, pieceOf}
 use Rattle.splines.specs.Claims.{OnSide}
-use Rattle.splines.proofs.Sides.{within, value-over, value-outside, values, over-last}
+use Rattle.splines.proofs.Sides.{within, value-over, value-outside, over-last}
+use Rattle.splines.proofs.Inside.{values}
 use Rattle.heights.specs.Heights.{eighths, valueAt, oneAt, productOf, places, low, allLow, lowOn, productAt}
 use Rattle.heights.specs.Steps.{OnSurface, levelPart, rowSum, levelSum, most, Row, Rows}
 use Rattle.heights.proofs.Points.{eighths-small, on-across, on-up, at, number-at, at-inside, place-at, millimetre}
