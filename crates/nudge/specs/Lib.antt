@@ -1,0 +1,2 @@
+pub mod Nudge
+pub mod Demands
