@@ -3,7 +3,7 @@
 use model::{Cell, Function, Mesh, Plan};
 use std::collections::BTreeSet;
 use std::fmt::Debug;
-use wallmirror::{ffi, MAX_FILE_BYTES};
+use wallmirror::{ffi, Refusal, MAX_FILE_BYTES};
 
 pub mod scenario;
 pub mod surface;
@@ -479,13 +479,18 @@ impl Tables {
         expected.map(|_| corners)
     }
 
-    /// The library answers the heights of these corners at their points. Without the model, which
-    /// takes its time for each.
-    fn expect_heights_at(&self, corners: &[[f64; 3]], heights: &[i32], said: &dyn Fn() -> String) {
+    /// The height at a point as the library alone answers it, without the model, which takes its time
+    /// for each.
+    pub fn answered_height(&self, heights: &[i32], across: u32, up: u32) -> Result<f64, u32> {
         let plan = of_wrapper(self.plan);
+        wallmirror::height(plan, &self.cells, &self.functions, heights, across, up)
+            .map_err(Refusal::number)
+    }
+
+    /// The library answers the heights of these corners at their points.
+    fn expect_heights_at(&self, corners: &[[f64; 3]], heights: &[i32], said: &dyn Fn() -> String) {
         for &[across, up, height] in corners {
-            let (x, y) = (8 * across as u32, 8 * up as u32);
-            let at = wallmirror::height(plan, &self.cells, &self.functions, heights, x, y);
+            let at = self.answered_height(heights, 8 * across as u32, 8 * up as u32);
             assert_eq!(at.map(f64::to_bits), Ok(height.to_bits()), "{across}, {up}: {}", said());
         }
     }

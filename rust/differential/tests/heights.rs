@@ -3,8 +3,10 @@
 //! and random meshes with heights of many kinds, against the model and in every bit.
 
 use differential::scenario;
-use differential::surface::{damage, heights_with, labelled, most, random_heights, with_heights};
-use differential::surface::{Fill, DAMAGES, DEGREES};
+use differential::surface::{
+    damage, heights_with, labelled, mesh, most, points_in_steps, random_heights, random_points,
+    with_heights, worked_heights, worked_mesh, worked_points, Fill, Kinds, DAMAGES, DEGREES,
+};
 use differential::{
     all_corners, every_corners, has_corners, of_wrapper, plan, random_corners, random_plan,
     random_refined, random_step, Random, Tables,
@@ -13,8 +15,6 @@ use model::height::{b_spline, far_edges, places, value, Fraction};
 use model::knots::{Direction, Knots};
 use model::{Cell, Plan, ACTIVE, DEACTIVATED, PASSIVE};
 use std::collections::{BTreeMap, BTreeSet};
-use std::fmt::Debug;
-use std::str::FromStr;
 use wallmirror::{ffi, Mesh, Refusal};
 
 const W0: [u32; 6] = [3, 1, 3, 1, 1, 0];
@@ -22,18 +22,6 @@ const W2: [u32; 6] = [3, 1, 3, 1, 1, 2];
 
 /// The numbers that are answered.
 const OF_HEIGHT: [usize; 9] = [0, 1, 2, 3, 4, 5, 6, 14, 15];
-
-/// The mesh of the plan in which these cells are refined.
-fn mesh<const N: usize>(numbers: [u32; N], refined: &[u32]) -> Tables {
-    mesh_of(plan(numbers), refined)
-}
-
-fn mesh_of(plan: Plan, refined: &[u32]) -> Tables {
-    let refined = refined.iter().map(|&cell| plan.cell_at(cell as usize)).collect();
-    let tables = Tables::with_refined(plan, &refined);
-    assert_eq!(tables.check(), 0, "{plan:?}");
-    tables
-}
 
 /// A mesh with active functions of all levels: the first cell of each but the last is refined.
 fn towards_the_first_cell<const N: usize>(numbers: [u32; N]) -> Tables {
@@ -175,25 +163,11 @@ const WORKED: [[&str; 4]; 24] = [
     ],
 ];
 
-/// Numbers with spaces between them, in groups with commas between these.
-fn groups<T: FromStr<Err: Debug>>(text: &str) -> Vec<Vec<T>> {
-    let numbers = |group: &str| group.split_whitespace().map(|n| n.parse().expect(n)).collect();
-    text.split(", ").map(numbers).collect()
-}
-
 /// The mesh and the heights of a worked row, and its points.
 fn worked([numbers, refined, some, points]: [&str; 4]) -> (Tables, Vec<i32>, Vec<(u32, u32, f64)>) {
-    let numbers: Vec<u32> = groups(numbers).concat();
-    let plan = match numbers.first_chunk::<8>() {
-        Some(&eight) => plan(eight),
-        None => plan(*numbers.first_chunk::<6>().expect("six numbers")),
-    };
-    let tables = mesh_of(plan, &groups(refined).concat());
-    let some: Vec<(usize, i32)> =
-        groups::<i32>(some).iter().map(|pair| (pair[0] as usize, pair[1])).collect();
-    let point = |group: &Vec<f64>| (group[0] as u32, group[1] as u32, group[2]);
-    let heights = heights_with(&tables, &some);
-    (tables, heights, groups(points).iter().map(point).collect())
+    let tables = worked_mesh(numbers, refined);
+    let heights = heights_with(&tables, &worked_heights(some));
+    (tables, heights, worked_points(points))
 }
 
 #[test]
@@ -362,45 +336,6 @@ fn kinks_at_corners_alone() {
 
 // ---- Heights and points of every kind ----
 
-/// The points that are so many eighths apart, and those of the far edges.
-fn points_in_steps(plan: Plan, step: u32) -> Vec<(u32, u32)> {
-    let (far_across, far_up) = far_edges(plan);
-    let places = |far: u32| (0..=far).filter(move |place| place % step == 0 || *place == far);
-    places(far_up).flat_map(|up| places(far_across).map(move |across| (across, up))).collect()
-}
-
-/// The ends of both directions, then points of edges, of grid lines, of the finest active cell, on
-/// corners and next to them, and others.
-fn random_points(random: &mut Random, tables: &Tables, many: usize) -> Vec<(u32, u32)> {
-    let plan = tables.plan;
-    let (far_across, far_up) = far_edges(plan);
-    let finest = tables.cells.iter().rposition(|&byte| byte == ACTIVE).expect("an active cell");
-    let finest = plan.cell_at(finest);
-    let mut points = vec![(0, 0), (far_across, 0), (0, far_up), (far_across, far_up)];
-    while points.len() < many {
-        let kind = random.below(5);
-        let mut place = |far: u32, of_finest: u32, corners: u32| {
-            // A cell of the finest level that has an active one, and one of any level.
-            let (cell, line) = (8 << (plan.levels - 1 - finest.level), 8 << random.below(4));
-            let place = match kind {
-                0 => random.pick(&[0, far, far - 1, far]),
-                1 => (random.below(far as usize + 1) as u32 + line / 2) / line * line,
-                2 => of_finest * cell + random.below(cell as usize + 1) as u32,
-                3 if corners != 0 => {
-                    let bits: Vec<u32> = (1..16).filter(|bit| corners >> bit & 1 == 1).collect();
-                    let corner = (8 << (plan.levels - 1)) * random.pick(&bits);
-                    random.pick(&[corner - 1, corner, corner, corner + 1])
-                }
-                _ => random.below(far as usize + 1) as u32,
-            };
-            place.min(far)
-        };
-        let across = place(far_across, finest.column, plan.corners_across);
-        points.push((across, place(far_up, finest.row, plan.corners_up)));
-    }
-    points
-}
-
 /// A point that lies beyond the mesh, by little or by much, one way or both.
 fn random_beyond(random: &mut Random, plan: Plan) -> (u32, u32) {
     let (far_across, far_up) = far_edges(plan);
@@ -414,69 +349,60 @@ fn random_beyond(random: &mut Random, plan: Plan) -> (u32, u32) {
     }
 }
 
-/// How often what came up among the accepted answers.
-#[derive(Default, Debug)]
-struct Kinds(BTreeMap<&'static str, u32>);
-
-impl Kinds {
-    fn count(&mut self, tables: &Tables, heights: &[i32], (across, up): (u32, u32), height: f64) {
-        let plan = tables.plan;
-        let (far_across, far_up) = far_edges(plan);
-        let (edge_across, edge_up) = (across == far_across, up == far_up);
-        let (line_across, line_up) = (across % 8 == 0, up % 8 == 0);
-        // How far behind the point before a corner of degree 2, across and up.
-        let at_corner = |place: u32, degree: u32, corners: u32| {
-            let apart = 8 << (plan.levels - 1);
-            (0..3).find(|after| {
-                let line = (place + 1).saturating_sub(*after);
-                degree == 2 && line % apart == 0 && corners >> (line / apart) & 1 == 1
-            })
-        };
-        let corner = [
-            at_corner(across, plan.degree_across, plan.corners_across),
-            at_corner(up, plan.degree_up, plan.corners_up),
-        ];
-        let (mut ignored, mut minus_zero, mut levels) = (false, false, BTreeSet::new());
-        for ((function, &label), &height) in plan.functions().zip(&tables.functions).zip(heights) {
-            if label != ACTIVE {
-                ignored |= height.unsigned_abs() > most(function.level).unsigned_abs();
-            } else if value(plan, function, across, up) == Fraction::ZERO {
-                minus_zero |= height < 0;
-            } else {
-                levels.insert(function.level);
-            }
-        }
-        for (name, holds) in [
-            ("zero", height == 0.0),
-            ("below zero", height < 0.0),
-            ("above zero", height > 0.0),
-            ("beyond the limit of one function", height.abs() > 65_536.0),
-            ("at both far edges", edge_across && edge_up),
-            ("at one far edge", edge_across != edge_up),
-            ("where lines cross", line_across && line_up && !edge_across && !edge_up),
-            ("on no line", !line_across && !line_up),
-            ("just before a corner", corner.contains(&Some(0))),
-            ("on a corner", corner.contains(&Some(1))),
-            ("just behind a corner", corner.contains(&Some(2))),
-            ("where corners cross", corner == [Some(1), Some(1)]),
-            ("with a height that is beyond its limit and ignored", ignored),
-            ("with a function below zero whose value is zero", minus_zero),
-            ("of no level", levels.is_empty()),
-            ("of one level", levels.len() == 1),
-            ("of two levels", levels.len() == 2),
-            ("of three levels", levels.len() == 3),
-            ("of four levels", levels.len() == 4),
-        ] {
-            *self.0.entry(name).or_default() += u32::from(holds);
+/// What is to be counted of an accepted answer.
+fn kinds_of(
+    tables: &Tables,
+    heights: &[i32],
+    (across, up): (u32, u32),
+    height: f64,
+) -> Vec<(&'static str, bool)> {
+    let plan = tables.plan;
+    let (far_across, far_up) = far_edges(plan);
+    let (edge_across, edge_up) = (across == far_across, up == far_up);
+    let (line_across, line_up) = (across % 8 == 0, up % 8 == 0);
+    // How far behind the point before a corner of degree 2, across and up.
+    let at_corner = |place: u32, degree: u32, corners: u32| {
+        let apart = 8 << (plan.levels - 1);
+        (0..3).find(|after| {
+            let line = (place + 1).saturating_sub(*after);
+            degree == 2 && line % apart == 0 && corners >> (line / apart) & 1 == 1
+        })
+    };
+    let corner = [
+        at_corner(across, plan.degree_across, plan.corners_across),
+        at_corner(up, plan.degree_up, plan.corners_up),
+    ];
+    let (mut ignored, mut minus_zero, mut levels) = (false, false, BTreeSet::new());
+    for ((function, &label), &height) in plan.functions().zip(&tables.functions).zip(heights) {
+        if label != ACTIVE {
+            ignored |= height.unsigned_abs() > most(function.level).unsigned_abs();
+        } else if value(plan, function, across, up) == Fraction::ZERO {
+            minus_zero |= height < 0;
+        } else {
+            levels.insert(function.level);
         }
     }
-
-    /// All occurred, but one that cannot.
-    fn expect_all(&self) {
-        for (&name, &often) in &self.0 {
-            assert_eq!(often > 5, name != "of no level", "{name}: {self:?}");
-        }
-    }
+    vec![
+        ("zero", height == 0.0),
+        ("below zero", height < 0.0),
+        ("above zero", height > 0.0),
+        ("beyond the limit of one function", height.abs() > 65_536.0),
+        ("at both far edges", edge_across && edge_up),
+        ("at one far edge", edge_across != edge_up),
+        ("where lines cross", line_across && line_up && !edge_across && !edge_up),
+        ("on no line", !line_across && !line_up),
+        ("just before a corner", corner.contains(&Some(0))),
+        ("on a corner", corner.contains(&Some(1))),
+        ("just behind a corner", corner.contains(&Some(2))),
+        ("where corners cross", corner == [Some(1), Some(1)]),
+        ("with a height that is beyond its limit and ignored", ignored),
+        ("with a function below zero whose value is zero", minus_zero),
+        ("of no level", levels.is_empty()),
+        ("of one level", levels.len() == 1),
+        ("of two levels", levels.len() == 2),
+        ("of three levels", levels.len() == 3),
+        ("of four levels", levels.len() == 4),
+    ]
 }
 
 // ---- Every point ----
@@ -785,14 +711,14 @@ fn meshes_of_random_runs() {
                 seen.count(answered);
                 let height = answered.expect("a height");
                 assert!(fill != Fill::Zero || height.to_bits() == 0);
-                kinds.count(&tables, &heights, point, height);
+                kinds.count(&kinds_of(&tables, &heights, point, height));
             }
             let (across, up) = random_beyond(&mut random, plan);
             seen.count(tables.height(&heights, across, up));
         }
     }
     seen.expect(&[0, 15]);
-    kinds.expect_all();
+    kinds.expect_all_but(&["of no level"]);
     assert!(fills.iter().all(|&often| often > 10), "{fills:?}");
     assert!(cornered > 20, "{cornered}");
 }

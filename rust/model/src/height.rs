@@ -33,6 +33,10 @@ impl Fraction {
         Fraction { numerator: numerator / divisor, denominator: denominator / divisor }
     }
 
+    pub fn abs(self) -> Fraction {
+        Fraction { numerator: self.numerator.abs(), ..self }
+    }
+
     /// The f64 that is just this fraction. That there is one is seen here: the fraction is an odd
     /// number, or 0, times a power of two, and 53 bits hold the odd number.
     pub fn to_f64(self) -> f64 {

@@ -245,6 +245,31 @@
 //! # Ok::<(), wallmirror::Refusal>(())
 //! ```
 //!
+//! Where the height of one active function is changed by d units of its level, up or down, a point
+//! that is answered before and after moves by d times the function's value there: the same way, and
+//! by at most d / 16^k mm. It moves by nothing outside the function's support, nor on its edge,
+//! unless that is the edge of the mesh; everywhere else it moves, but for points on an edge of the
+//! mesh where another function is the outermost. Where several heights are changed, no point moves
+//! by more than the largest changes of active heights, one of each level, together. The two answers
+//! may be subtracted: the difference is exact.
+//!
+//! ```
+//! # use wallmirror::{height, open, Plan};
+//! let plan = Plan { columns: 3, levels: 3, ..Plan::default() };
+//! # let (mut cells, mut functions) = (vec![0; 63], vec![0; 94]);
+//! # open(plan, &mut cells, &mut functions)?;
+//! let before = vec![7; functions.len()];
+//! let mut after = before.clone();
+//! after[1] -= 4; // of level 0, over the points 0 to 64 across
+//! for across in 0..=96 {
+//!     let at = |heights| height(plan, &cells, &functions, heights, across, 0);
+//!     let by = at(&after)? - at(&before)?;
+//!     assert!((-4.0..=0.0).contains(&by));
+//!     assert_eq!(by == 0.0, across == 0 || across >= 64);
+//! }
+//! # Ok::<(), wallmirror::Refusal>(())
+//! ```
+//!
 //! # Projector
 //!
 //! [`Mesh::corners`] gives the surface as a grid that can be thrown or drawn: of each active cell,
@@ -1117,6 +1142,7 @@ mod tests {
         assert_eq!(blocks[0], include_str!("../../../examples/c/refine.c"));
         assert!(include_str!("../../../examples/c/file.c").contains(blocks[1]));
         assert!(documentation.contains(include_str!("../examples/file.rs")));
+        assert!(documentation.contains(include_str!("../examples/nudge.expected")));
     }
 
     #[test]
