@@ -27,6 +27,7 @@ pictures:
 	docs/heights.sh > docs/heights.svg
 	docs/corner.sh > docs/corner.svg
 	docs/projector.sh > docs/projector.svg
+	docs/nudge.sh > docs/nudge.svg
 
 install: all
 	install -d "$(DESTDIR)$(PREFIX)/include" "$(DESTDIR)$(PREFIX)/lib"

@@ -105,6 +105,16 @@
  * With heights 10 and 8 for these, and 0 for the others, the surface is 5 + 8/16 = 5.5 mm high
  * there.
  *
+ * Where the height of one active function is changed by d units of its level, up or down, a point
+ * that is answered before and after moves by d times the function's value there: the same way, and
+ * by at most d / 16^k mm. It moves by nothing outside the function's support, nor on its edge,
+ * unless that is the edge of the mesh; everywhere else it moves, but for points on an edge of the
+ * mesh where another function is the outermost. Where several heights are changed, no point moves
+ * by more than the largest changes of active heights, one of each level, together. The two answers
+ * may be subtracted: the difference as a double is exact. In the example above, with a height of 11
+ * for function 9 in place of 8, the point 16, 0 rises by 3/16 mm to 5.6875, and the points from 32
+ * on across stay.
+ *
  * Projector. wallmirror_corners gives the surface as a grid that can be thrown or drawn: of each
  * active cell, in rising order of the numbers, its four corners, lower left, lower right, upper
  * left, upper right, where row 0 is the lowest. These are points and have nothing to do with the
