@@ -3,11 +3,12 @@ use mathlib.Core.Path.{_≡_, sym, ap, subst, _∙_}
 use mathlib.Core.Bool.{Bool, not, _&&_, _||_}
 use mathlib.Core.Logic.{_≢_}
 use mathlib.Core.List.{List}
-use Prim.Native.Nat.{ℕ, _+_, _≤_, _<_}
+use Prim.Native.Nat.{ℕ, _+_, _<_}
 use native.Mathlib.Omega.{arith}
-use lib.Dec.{T, eqb, eqb→eq, ltb, ltb→lt, nltb→le}
-use lib.ListN.{length, List·getD-eq-default}
-use Rattle.facts.proofs.Tests.{and-i, and-l, and-r, cases, not-i, not-e, eqb-of}
+use lib.Dec.{T, eqb, eqb→eq}
+use lib.ListN.{length}
+use Rattle.facts.proofs.Numbers.{getD-some}
+use Rattle.facts.proofs.Tests.{and-i, and-l, and-r, not-i, not-e, eqb-of}
 use Rattle.hierarchy.specs.Hierarchy.{Cells}
 use Rattle.grid.specs.declared.Plan.{Plan}
 use Rattle.grid.specs.Plan.{cellTotal, cellLevel, lastLevel, hierarchy}
@@ -86,9 +87,7 @@ good-ready d p cs flags G s may = record {
   flagsSize = s;
   mesh = is-mesh p cs G;
   admissible = is-admissible p cs G;
-  may = λ c t. cases (ltb c (cellTotal p))
-      (λ h. let i = ltb→lt c (cellTotal p) h in may-test p cs flags G c i d (may c i t))
-      (λ h. let l : length flags ≤ c = omega (arith, nltb→le c (cellTotal p) h) in absurd (rw (List·getD-eq-default flags 0 l) at t));
+  may = λ c t. let i : c < cellTotal p = omega (arith, getD-some flags c (λ e. absurd (rw e at t))) in may-test p cs flags G c i d (may c i t);
 }
 
 base-same : (d : Direction) (cs : List ℕ) (X Y : Cells) (c : ℕ) → X c ≡ Y c → base d cs X c ≡ base d cs Y c

@@ -28,6 +28,16 @@ pub worked :
 unfolding odd ofBits over dyadic
 worked = refl
 
+-- 9/4 less 3/2, over 8, and 3/2 less 9/4
+pub differences :
+    difference (dyadic 1 (pos 3)) (dyadic 2 (pos 9))
+    ∷ difference (dyadic 2 (pos 9)) (dyadic 1 (pos 3))
+    ∷ pos (shared (dyadic 1 (pos 3)) (dyadic 2 (pos 9)))
+    ∷ []
+    ≡ pos 6 ∷ negsuc 5 ∷ pos 8 ∷ []
+unfolding odd over dyadic numerator denominator shared difference
+differences = refl
+
 -- how far floats are apart: 3/2 and 9/4 by 3/4 and no less, in both orders; -3/8 and 5/8 by 1; 2^-26 and 0; what is no number by nothing
 pub distances :
     within (dyadic 1 (pos 3)) (dyadic 2 (pos 9)) 3 4

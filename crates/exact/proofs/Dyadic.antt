@@ -17,7 +17,7 @@ use lib.Ieee.Scale.{round-same}
 use lib.Ieee.Bits.{ofBits-toBits}
 use Rattle.exact.specs.Dyadic.{over, negative, dyadic, signed, Exact}
 use Rattle.exact.specs.Sums.{sumℤ}
-use Rattle.exact.proofs.Integers.{abs-neg, times-one}
+use Rattle.exact.proofs.Integers.{abs-neg, neg-times, times-one}
 
 -- ---- a number is written in one way: two values that fit and are the same fraction have the same bits
 bits-of : (f : Format) (s : Bool) (n : ℕ) → ℕ
@@ -261,8 +261,7 @@ signed-mul : (s t : Bool) (a b : ℕ) → signed (unlike s t) (a * b) ≡ signed
 signed-mul false false a b = refl
 signed-mul false true a zero = rw mul-zero
 signed-mul false true a (suc b) = refl
-signed-mul true false zero b = rw zero-mul
-signed-mul true false (suc a) b = refl
+signed-mul true false a b = sym (neg-times a b)
 signed-mul true true zero zero = refl
 signed-mul true true zero (suc b) = rw zero-mul
 signed-mul true true (suc a) zero = rw mul-zero
@@ -297,7 +296,7 @@ widen {s} {z} {x} k h g e = record {
   where
     scaled : (t : Bool) (n m : ℕ) → signed t (n * m) ≡ signed t n *ℤ pos m
     scaled false n m = refl
-    scaled true n m = signed-mul true false n m
+    scaled true n m = sym (neg-times n m)
 
 -- times 2 ^ -j: the same whole number, with j more places after the point
 pub scale : {i : ℕ} {y : ℤ} {x : Float} (j : ℕ) → i + j ≤ 1021 → natAbs y < 2 ^ 53 → Exact i y x → Exact (i + j) y (mul binary64 x (dyadic j (pos 1)))

@@ -3,7 +3,7 @@ use mathlib.Core.Path.{_≡_, refl, sym, ap, _∙_}
 use mathlib.Core.Logic.{_≢_}
 use mathlib.Core.Bool.{Bool, true, false, _&&_, _||_, cond, or-assoc, or-false, and-true, and-false}
 use mathlib.Core.List.{List, [], _∷_, _++_, append-nil}
-use Prim.Native.Nat.{ℕ, zero, suc, _≤_, _<_}
+use Prim.Native.Nat.{ℕ, zero, suc, _<_}
 use native.Mathlib.Nat.{not-suc-le-zero, le-refl}
 use native.Mathlib.Omega.{arith}
 use lib.Dec.{T, eqb, eqb→eq, eqb-refl, ltb, ltb→lt, lt→ltb, nltb→le}
@@ -129,9 +129,9 @@ stored-is n X c h = rw (getD-tabulate n (λ c. cond (X c) 1 0) c 0 h) (bit (X c)
 
 pub stored-inside : (n : ℕ) (X : ℕ → Bool) (c : ℕ) → T (stored n X c) → c < n
 unfolding stored
-stored-inside n X c t = cases (ltb c n) (ltb→lt c n) (λ h.
-    let l : length (tabulate n (λ c. cond (X c) 1 0)) ≤ c = omega (arith, nltb→le c n h, length-tabulate n (λ c. cond (X c) 1 0)) in
-    absurd (rw (List·getD-eq-default (tabulate n (λ c. cond (X c) 1 0)) 0 l) at t))
+stored-inside n X c t =
+    let xs = tabulate n (λ c. cond (X c) 1 0) in
+    omega (arith, getD-some xs c (λ e. absurd (rw e at t)), length-tabulate n (λ c. cond (X c) 1 0))
 
 -- ---- first
 

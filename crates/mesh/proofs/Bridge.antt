@@ -10,7 +10,7 @@ use lib.ListN.{length, getD, List·getD-eq-default}
 use Rattle.facts.specs.Bounded.{implies, some, every}
 use Rattle.facts.proofs.Tests.{and-i, and-l, and-r, or-l, or-r, or-e, not-i, not-e, cases, same, positive, differ, eqb-of, T-true, T-false, implies-i, implies-e}
 use Rattle.facts.proofs.Bounded.{every-i, every-e, some-i, some-e}
-use Rattle.facts.proofs.Numbers.{length-tabulate, getD-tabulate, tabulate-is}
+use Rattle.facts.proofs.Numbers.{length-tabulate, getD-tabulate, tabulate-is, getD-some}
 use Rattle.hierarchy.specs.Hierarchy.{Cells}
 use Rattle.hierarchy.proofs.Sets as sets
 use Rattle.hierarchy.proofs.Sets.{Inside, MeshSet, Admissible}
@@ -209,9 +209,7 @@ module _ (p : Plan) (cs : List ℕ) (G : Good p cs) where
 
   pub good-inside : Inside (hierarchy p) (refined cs)
   unfolding refined
-  good-inside c s = cases (ltb c (cellTotal p)) (ltb→lt c (cellTotal p)) (λ h.
-      let l : length cs ≤ c = omega (arith, nltb→le c (cellTotal p) h, G .sized) in
-      absurd (rw (List·getD-eq-default cs 0 l) at s))
+  good-inside c s = omega (arith, getD-some cs c (λ e. absurd (rw e at s)), G .sized)
 
   pub rooted-of : (c : ℕ) → c < cellTotal p → T (refined cs c) → T (rooted p (refined cs) c)
   rooted-of c i s = cases (eqb (cellLevel p c) 0)

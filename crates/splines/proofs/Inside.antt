@@ -93,15 +93,12 @@ module _ (s : Side) (h x : ℕ) (on : OnSide s h x) where
     abbrev f : ℕ
     f = firstOver s c
 
-    up-to : sum (suc c) (times s) ≡ f + p + 1
-    up-to = knots-to s (on .sized) c l
-
     -- the knots on its first line or before it, and behind it
     knot-low : (j : ℕ) → j ≤ f + p → knotOn s j * h ≤ x
-    knot-low j k = omega (arith, mul-le-mul-right h (knot-le (times s) (s .cells) j c (omega (arith, up-to)) (omega (arith, all, first-lt s (on .sized) c l))))
+    knot-low j k = omega (arith, mul-le-mul-right h (knot-le (times s) (s .cells) j c (omega (arith, knots-to s (on .sized) c l)) (omega (arith, all, first-lt s (on .sized) c l))))
 
     knot-high : (j : ℕ) → f + p < j → j ≤ functions s + p → x ≤ knotOn s j * h
-    knot-high j k m = omega (arith, mul-le-mul-right h (knot-gt (times s) (s .cells) j c (omega (arith, up-to)) (omega (arith, all))))
+    knot-high j k m = omega (arith, mul-le-mul-right h (knot-gt (times s) (s .cells) j c (omega (arith, knots-to s (on .sized) c l)) (omega (arith, all))))
 
     -- a function that does not cover it
     off : (i : ℕ) → i < functions s → (f ≤ i → i ≤ f + p → ⊥) → T (not (isInside s h i x))
