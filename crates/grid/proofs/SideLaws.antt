@@ -1,22 +1,22 @@
 -- The laws of one direction of a level, over any corners: what supports and neighbourhoods rest on. Assumes nothing.
-use Prim.Native.Nat.{ℕ, min, _+_, _-_, _*_, _/_, _≤_, _<_}
+use Prim.Native.Nat.{ℕ, suc, min, _+_, _-_, _*_, _/_, _≤_, _<_}
 use native.Mathlib.Nat.{le-refl, lt-div-mul-add, mul-le-mul-right, div-lt-iff-lt-mul}
 use native.Mathlib.Omega.{arith}
 use mathlib.Core.Bool.{_&&_}
 use mathlib.Core.Logic.{_↔_}
 use mathlib.Core.Path.{_≡_, refl, ap, sym, subst, _∙_}
-use lib.Dec.{T, eqb, eqb→eq, leb, ltb, leb→le, le→leb, ltb→lt, lt→ltb}
-use Rattle.facts.specs.Bounded.{some}
-use Rattle.facts.proofs.Tests.{cases, not-e, T-true, T-false, and-i, and-l, and-r, same}
+use lib.Dec.{T, eqb, eqb→eq, leb, ltb, leb→le, le→leb, ltb→lt, nltb→le, lt→ltb}
+use Rattle.facts.specs.Bounded.{some, sum}
+use Rattle.facts.proofs.Tests.{cases, not-i, not-e, T-true, T-false, and-i, and-l, and-r, same}
 use Rattle.facts.proofs.Bounded.{some-i, some-e}
 use Rattle.grid.specs.declared.Side.{Side}
 use Rattle.grid.specs.declared.Span.{Span}
-use Rattle.grid.specs.Knots.{covers, apart, together, cornersTo, functions, firstOver}
+use Rattle.grid.specs.Knots.{times, knotOn, covers, apart, together, cornersTo, functions, firstOver}
 use Rattle.grid.specs.Side.{columnsBefore, supportSpan, aroundSpan, Sized, Run}
 use Rattle.grid.specs.Spans.{inSpan}
 use Rattle.grid.proofs.Rising.{Rises, Apart, Covers, In, columns-apart, apart-common, span-covers, span-some, span-together, Tied}
 use Rattle.grid.proofs.Corners.{divided, first, first-rises, first-tied}
-use Rattle.grid.proofs.Knots.{some-cells, functions-last, covers-fact, covers-test, plain-first}
+use Rattle.grid.proofs.Knots.{knot-le, knot-gt, some-cells, knots-to, knots-all, functions-last, covers-fact, covers-test, plain-first}
 use Rattle.grid.proofs.Before.{corners-count, upTo, capped-count, before-is}
 
 -- ---- tests as facts
@@ -74,6 +74,34 @@ module _ (s : Side) (sized : Sized s) where
 
   inverse : (j x : ℕ) → (x < columnsBefore s j) ↔ (G x < j)
   inverse = before-is (s .corners) e u (sized .unit≥) (s .base - 1)
+
+  -- ---- knots
+
+  -- the line of a knot, by the columns with a first function before it
+  pub knot-is : (i : ℕ) → i ≤ functions s + d → knotOn s i ≡ min n (columnsBefore s (i - d))
+  knot-is i l =
+      cases (ltb t (min n b))
+      (λ y. let k = ltb→lt t (min n b) y in
+      let z : G t < i - d = inverse (i - d) t .0 (omega arith) in
+      absurd (omega (arith, knot-gt (times s) n i t (omega (arith, knots-to s sized t (omega arith), first-is t (omega arith))) known)))
+      (λ y. cases (ltb (min n b) t)
+      (λ w. let k = ltb→lt (min n b) t w in
+      let z : i - d ≤ G b = nltb→le (G b) (i - d) (not-i (ltb (G b) (i - d)) (λ q. let r : b < b = inverse (i - d) b .1 (ltb→lt (G b) (i - d) q) in absurd (omega arith))) in
+      let c : b < n = omega (arith, most) in
+      absurd (omega (arith, knot-le (times s) n i b (omega (arith, knots-to s sized b c, first-is b c)) known)))
+      (λ w. omega (arith, nltb→le t (min n b) y, nltb→le (min n b) t w)))
+    where
+      t : ℕ
+      t = knotOn s i
+
+      b : ℕ
+      b = columnsBefore s (i - d)
+
+      known : i < sum (suc n) (times s)
+      known = omega (arith, knots-all s sized)
+
+      most : t ≤ n
+      most = knot-le (times s) n i n known known
 
   -- ---- supports
 

@@ -43,7 +43,7 @@ cell-total p = sym (div-eq-of-eq-mul-right (lit≤ tt) (rw mul-sub (omega (arith
 
 -- ---- the largest F by the largest T: F grows with the degrees and the corners, and with the most of both each shape is tried
 
-offset-le : (w h u v : ℕ → ℕ) → ((k : ℕ) → w k ≤ u k) → ((k : ℕ) → h k ≤ v k) → (k : ℕ) → offset w h k ≤ offset u v k
+pub offset-le : (w h u v : ℕ → ℕ) → ((k : ℕ) → w k ≤ u k) → ((k : ℕ) → h k ≤ v k) → (k : ℕ) → offset w h k ≤ offset u v k
 unfolding offset
 offset-le w h u v f g zero = omega arith
 offset-le w h u v f g (suc k) = omega (arith, offset-le w h u v f g k, mul-le-mul (g k) (f k))

@@ -1,6 +1,6 @@
 -- What the loops over level 0 columns do in a turn, and that their numbers stay small. Assumes nothing.
 use Prim.Native.Nat.{ℕ, zero, suc, _+_, _-_, _*_, _/_, _%_, _^_, _≤_, _<_}
-use native.Mathlib.Nat.{mod-eq-of-lt, le-of-suc-le-suc, mod-lt, mod-one, div-add-mod', div-div-eq-div-mul, mul-comm, mul-le-mul-right, one-le-pow, pow-suc}
+use native.Mathlib.Nat.{mod-eq-of-lt, le-of-suc-le-suc, mod-lt, mod-one, div-add-mod', div-div-eq-div-mul, mul-comm, mul-le-mul-right, one-le-pow, pow-suc, zero-div}
 use native.Mathlib.Numerals.{add-one}
 use lib.Arith.{digits-mod}
 use lib.Pow.{pow-mono}
@@ -19,6 +19,12 @@ before-none bits e u j = refl
 pub before-more : (bits e u c j : ℕ) → passed e ((c + 1) * u) (eqb (bits / 2 ^ (c + 1) % 2) 1) (before bits e u c j) ≡ before bits e u (c + 1) j
 unfolding before isSet
 before-more bits e u c j = rw (add-one c) refl
+
+-- without corners nothing is passed
+pub before-plain : (e u c j : ℕ) → j ≡ before 0 e u c j
+unfolding before isSet passed
+before-plain e u zero j = refl
+before-plain e u (suc c) j = rw (zero-div (2 ^ suc c)) (before-plain e u c j)
 
 -- the cases of `passed`
 module _ (e z : ℕ) (b : Bool) (l : ℕ) where

@@ -5,7 +5,7 @@ ghost use lib.ListN.{getD};
 ghost use Rattle.grid.specs.Numbering.{Inside, offset, number, place};
 ghost use Rattle.grid.specs.Range.{InRange, Beyond, HasNeighbourhood};
 ghost use Rattle.grid.specs.Spans.{supportOf, childrenOf, around, ancestorOf, neighbourhood};
-ghost use Rattle.grid.specs.Knots.{isCorner, cornersTo, beyond, functions, firstOver};
+ghost use Rattle.grid.specs.Knots.{isCorner, cornersTo, knotOn, beyond, functions, firstOver};
 ghost use Rattle.grid.specs.Side.{SideIn, Run, firsts, passed, columnsBefore, supportSpan, aroundSpan};
 ghost use Rattle.grid.specs.Plan.{planOf, between, numbersInRange, cornersInRange, inRange, ratio, grown, widened, columnsAt, rowsAt, acrossAt, upAt, beyondAcross, beyondUp, functionColumnsAt, functionRowsAt, cellOffset, functionOffset, cellTotal, functionTotal, tooLarge, cellPlace, cellNumber, functionPlace, functionNumber, CellInside, FunctionInside, cellLevel, above, parent, ancestor};
 
@@ -210,6 +210,9 @@ impl Side {
         let unit = self.unit;
         let more = self.degree - 1;
         let corners = self.corners;
+        if corners == 0 {
+            return j;
+        }
         let mut line = j;
         let mut c = 0;
         while c < last {
@@ -217,6 +220,18 @@ impl Side {
             line = passed(more, c * unit, (corners >> c) % 2 == 1, line);
         }
         line
+    }
+
+    // The line of knot i.
+    pub fn knot(self, i: u32) -> u32
+        requires { ⌜ SideIn self ⌝ }
+        requires { ⌜ i ≤ functions self + self .degree ⌝ }
+        ensures { λ r. ⌜ r ≡ knotOn self i ⌝ }
+    {
+        let degree = self.degree;
+        let cells = self.cells;
+        let line = self.columns_before(less(i, degree));
+        smaller(cells, line)
     }
 
     // The columns that function i covers.

@@ -71,11 +71,11 @@ module _ (h c x u v : ℕ) (p : Point h c x u v) where
 
 -- f is the first of the two functions over cell c
 module _ (n : ℕ) (m : ℕ → ℕ) (o : Open 1 n m) (c f : ℕ) (inside : c < n) (first : sum (suc c) m ≡ f + 2) where
-  one-here : (i : ℕ) → i ≡ f + 1 → knot m n i ≡ c
+  pub one-here : (i : ℕ) → i ≡ f + 1 → knot m n i ≡ c
   unfolding sum
   one-here i e = knot-at m n c i (omega arith) (omega (arith, o .least c (omega arith))) (omega arith)
 
-  one-next : (i : ℕ) → i ≡ f + 2 → knot m n i ≡ suc c
+  pub one-next : (i : ℕ) → i ≡ f + 2 → knot m n i ≡ suc c
   unfolding sum
   one-next i e = knot-at m n (suc c) i (omega arith) (omega arith) (omega (arith, o .least (suc c) (omega arith)))
 

@@ -24,14 +24,14 @@ degrees P a b p g l =
 -- ---- the divisions leave no rest
 
 module _ (h n : ℕ) (t : ℕ → ℕ) (i x : ℕ) (some : 1 ≤ h) where
-  in-1 : valueIn h n 1 t i x ≡ value h n 1 t i x * (2 * h)
+  pub in-1 : valueIn h n 1 t i x ≡ value h n 1 t i x * (2 * h)
   unfolding valueIn scale
   in-1 =
       let s : 1 * h * 1 ≡ h = omega arith in
       let e : value h n 1 t i x * (2 * h * h) ≡ value h n 1 t i x * (2 * h) * h = omega arith in
       rw (s, e) (mul-div-cancel (value h n 1 t i x * (2 * h)) {n = h} some)
 
-  in-2 : valueIn h n 2 t i x ≡ value h n 2 t i x
+  pub in-2 : valueIn h n 2 t i x ≡ value h n 2 t i x
   unfolding valueIn scale
   in-2 =
       let s : 2 * h * (1 * h * 1) ≡ 2 * h * h = omega arith in
