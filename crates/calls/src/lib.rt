@@ -142,7 +142,7 @@ fn flag_functions(
 }
 
 // Judges the marks, and flags the cells that they mean.
-fn flag_marks(
+pub fn flag_marks(
     call: Call,
     plan: Plan,
     cells: &[u8],
@@ -164,7 +164,7 @@ fn flag_marks(
 }
 
 // The smallest admissible mesh with the flagged cells refined, or without them.
-fn renew(direction: Direction, plan: Plan, cells: &mut [u8], flags: &[u8])
+pub fn renew(direction: Direction, plan: Plan, cells: &mut [u8], flags: &[u8])
     requires { ⌜ Ready (directionOf direction) plan (now cells) (now flags) ⌝ }
     ensures { λ _. ⌜ now (cells .exit) ≡ renewed (directionOf direction) plan (now (cells .entry)) (now (flags .entry)) ⌝ }
 {

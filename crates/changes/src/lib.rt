@@ -186,7 +186,7 @@ fn is_short_for_labels(
 }
 
 // Refusals 10 and 11, or 0: the cells and the functions are only read.
-fn room_refusal(
+pub fn room_refusal(
     plan: Plan,
     cells: &[u8],
     functions: &[u8],
@@ -210,7 +210,7 @@ fn room_refusal(
 }
 
 // The list gets the numbers that changed, and the table the new bytes. Answers how many changed.
-fn take_over(table: &mut [u8], list: &mut [u32], new: &[u8]) -> u32
+pub fn take_over(table: &mut [u8], list: &mut [u32], new: &[u8]) -> u32
     requires { ⌜ ListRoom (now table) (now new) (now list) ⌝ }
     ensures { λ r. ⌜ Taken table list (now (new .entry)) r ⌝ }
 {

@@ -136,7 +136,7 @@ fn inexact(plan: Plan) -> bool
 }
 
 // Whether no active height is above 65,536 mm either way.
-fn all_low(plan: Plan, functions: &[u8], heights: &[i32]) -> bool
+pub fn all_low(plan: Plan, functions: &[u8], heights: &[i32]) -> bool
     requires { ⌜ (InRange plan) × (plan .levels ≤ 4) ⌝ }
     requires { ⌜ (length (now functions) ≡ functionTotal plan) × (length (now heights) ≡ functionTotal plan) ⌝ }
     ensures { λ r. ⌜ r ≡ allLow plan (now (functions .entry)) (now (heights .entry)) ⌝ }

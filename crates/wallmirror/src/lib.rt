@@ -16,6 +16,8 @@ ghost use Rattle.outcomes.specs.Contracts.{Meets};
 ghost use Rattle.files.specs.File.{readMesh, writeMesh};
 ghost use Rattle.files.specs.Steps.{leftByRead, leftByWrite};
 ghost use Rattle.heights.specs.Heights.{answer, flattened};
+ghost use Rattle.refining.specs.Refining.{refineCellsWithHeights, refineFunctionsWithHeights};
+ghost use Rattle.refining.specs.Steps.{MeetsWithHeights};
 ghost use Rattle.projector.specs.Projector.{project};
 ghost use Rattle.projector.specs.Steps.{leftByCorners};
 
@@ -182,4 +184,54 @@ pub extern "C" fn wallmirror_corners(
     ensures { λ r. ⌜ leftByCorners r out ≡ project plan (now (cells .entry)) (now (functions .entry)) (now (heights .entry)) (now (out .entry)) ⌝ }
 {
     projector::corners(plan, cells, functions, heights, out)
+}
+
+#[no_mangle]
+pub extern "C" fn wallmirror_refine_cells_with_heights(
+    plan: Plan,
+    cells: &mut [u8],
+    functions: &mut [u8],
+    heights: &mut [i32],
+    marks: &[u32],
+    cell_list: &mut [u32],
+    function_list: &mut [u32],
+) -> Answer
+    ensures { λ r. ⌜ MeetsWithHeights (refineCellsWithHeights plan) r cells functions heights marks «cell_list» «function_list» ⌝ }
+{
+    let checked = refining::tables_refusal(plan, cells, functions, heights);
+    refining::refine_cells(
+        checked,
+        plan,
+        cells,
+        functions,
+        heights,
+        marks,
+        cell_list,
+        function_list,
+    )
+}
+
+#[no_mangle]
+pub extern "C" fn wallmirror_refine_functions_with_heights(
+    plan: Plan,
+    cells: &mut [u8],
+    functions: &mut [u8],
+    heights: &mut [i32],
+    marks: &[u32],
+    cell_list: &mut [u32],
+    function_list: &mut [u32],
+) -> Answer
+    ensures { λ r. ⌜ MeetsWithHeights (refineFunctionsWithHeights plan) r cells functions heights marks «cell_list» «function_list» ⌝ }
+{
+    let checked = refining::tables_refusal(plan, cells, functions, heights);
+    refining::refine_functions(
+        checked,
+        plan,
+        cells,
+        functions,
+        heights,
+        marks,
+        cell_list,
+        function_list,
+    )
 }

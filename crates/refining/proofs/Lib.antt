@@ -1,0 +1,9 @@
+pub mod Computed
+pub mod Started
+pub mod Outcomes
+pub mod Making
+pub mod Finishing
+pub mod Whole
+pub mod Shape
+pub mod Seasons
+pub mod Results

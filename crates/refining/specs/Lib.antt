@@ -1,0 +1,4 @@
+pub mod Refining
+pub mod Steps
+pub mod Seasons
+pub mod Demands

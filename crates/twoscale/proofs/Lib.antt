@@ -1,0 +1,17 @@
+pub mod Computed
+pub mod Steps
+pub mod Finer
+pub mod Lines
+pub mod Rows
+pub mod Rows1
+pub mod Rows2
+pub mod Found
+pub mod Points
+pub mod HalfCells
+pub mod Formula
+pub mod Shifts
+pub mod Refined
+pub mod Hats
+pub mod Parabolas
+pub mod Patterns
+pub mod Results

@@ -1,0 +1,3 @@
+pub mod TwoScale
+pub mod Passing
+pub mod Claims

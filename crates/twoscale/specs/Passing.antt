@@ -1,0 +1,33 @@
+-- The children of a function in one direction, the functions of the next level that it is the sum of, by its own knots alone: what code
+-- computes. That these are the coefficients of formula 2 is a law (Claims.antt, `children`). Definitions only.
+use mathlib.Core.Bool.{_&&_, cond}
+use Prim.Native.Nat.{ℕ, _+_, _-_, _/_, _^_}
+use lib.Dec.{eqb, leb}
+use Rattle.grid.specs.declared.Side.{Side}
+use Rattle.grid.specs.Knots.{knotOn}
+use Rattle.twoscale.specs.declared.Children.{Children}
+
+-- function i has the knots t 0 to t (p + 1), and a child for each half between them and one more. Each of the first and the last child gets
+-- 1 / 2 ^ d, where the inner knots beside it are d lines from the function's end; a child between them gets 1 where all inner knots lie on one
+-- line, else 3/4
+unfoldable pub childrenOf : Side → ℕ → Children
+childrenOf s i =
+    let p = s .degree in
+    let first = knotOn s i in
+    let second = knotOn s (i + 1) in
+    let third = knotOn s (i + p) in
+    let last = knotOn s (i + p + 1) in
+    record {
+      first = i + first;
+      last = i + last;
+      low = 4 / 2 ^ (third - first);
+      middle = cond (eqb second third) 4 3;
+      high = 4 / 2 ^ (last - second);
+    }
+
+-- the quarters of function j of the next level
+unfoldable pub quartersOf : Children → ℕ → ℕ
+quartersOf a j =
+    cond (leb (a .first) j && leb j (a .last))
+    (cond (eqb j (a .first)) (a .low) (cond (eqb j (a .last)) (a .high) (a .middle)))
+    0
