@@ -60,12 +60,12 @@
  *
  * Undo. Keep the lists of each call, cut to the answered lengths. To take a run of calls back, give
  * the kept cell lists from the last call to the first, as marks, each to the opposite call by
- * cells: wallmirror_coarsen_cells for either refining call, wallmirror_refine_cells for either
- * coarsening one, with output lists at least as long as the kept ones. Every one of these is
- * accepted and names the same cells and functions as the call it takes back, and both tables end as
- * they began. A refused call has changed nothing and has lengths 0: its list is no marks at all,
- * which is accepted and changes nothing. What is asked is that the first mesh passes
- * wallmirror_check and that nothing else writes the tables. In class 0 a run of
+ * cells: wallmirror_coarsen_cells for a refining call, with heights or without,
+ * wallmirror_refine_cells for either coarsening one, with output lists at least as long as the kept
+ * ones. Every one of these is accepted and names the same cells and functions as the call it takes
+ * back, and both tables end as they began. A refused call has changed nothing and has lengths 0:
+ * its list is no marks at all, which is accepted and changes nothing. What is asked is that the
+ * first mesh passes wallmirror_check and that nothing else writes the tables. In class 0 a run of
  * wallmirror_refine_functions alone may also be taken back by its function lists, from the last to
  * the first, each given to wallmirror_coarsen_functions. This holds where on the first mesh each
  * refined cell lies in the support of a deactivated function of its own level, as on a mesh just
@@ -115,6 +115,32 @@
  * for function 9 in place of 8, the point 16, 0 rises by 3/16 mm to 5.6875, and the points from 32
  * on across stay.
  *
+ * Heights that are kept. wallmirror_refine_cells and wallmirror_refine_functions change which
+ * functions are active, and so the surface, if the heights stay as they are. The same calls with
+ * heights (wallmirror_refine_cells_with_heights, wallmirror_refine_functions_with_heights) keep the
+ * surface: every point that wallmirror_height answers before has the same height after, in every
+ * bit. A function that becomes deactivated passes its height to its children, those of the next
+ * level of which it is made, level by level, the coarsest first, through children that are
+ * deactivated already or by the same call. What it passes are the coefficients of knot insertion:
+ * across, a function of degree 2 away from ends and corners is 1/4, 3/4, 3/4, 1/4 of four children
+ * in a row, one of degree 1 is 1/2, 1, 1/2 of three, and up it is the same. So sixteenths of a
+ * height of level k are passed, and these are whole heights of level k + 1: nothing is rounded. A
+ * function that was not active before starts from 0, whatever stands there, and one that is not
+ * active after gets 0. In the example above, with the heights above, let cell 1 be refined too.
+ * Functions 1 and 5 become deactivated. Function 1 is 1/2 of functions 9 and 11 and 1 of function
+ * 10 in row 0 of level 1, and half of that in row 1. With 10 mm it passes 80, 160 and 80 sixteenths
+ * to 9, 10 and 11 and 40, 80 and 40 to 16, 17 and 18; function 9 has 88 then, and the surface is
+ * still 5.5 mm high at 16, 0.
+ *
+ * These calls change both tables, write both lists and refuse as those without heights do. Besides,
+ * they refuse directly after 6 what wallmirror_height refuses of heights: 3, 14, and 15 for the
+ * height of an active function. And last, after 7 to 11, 17 where a carried height of a function
+ * that is active then is more than WALLMIRROR_MAX_HEIGHT_MM either way; a deactivated function may
+ * have more than that on the way. After a refusal the heights too are what they were.
+ *
+ * Coarsening carries no heights, and the undo concerns the two tables and the two lists alone. To
+ * have the old heights back, keep them with the lists.
+ *
  * Projector. wallmirror_corners gives the surface as a grid that can be thrown or drawn: of each
  * active cell, in rising order of the numbers, its four corners, lower left, lower right, upper
  * left, upper right, where row 0 is the lowest. These are points and have nothing to do with the
@@ -133,9 +159,9 @@
  * Pointers. Each table, file, list of heights, mark list, output list and output of doubles is a
  * pointer and its number of entries. A null pointer with length 0 is taken as an empty slice. With
  * any other length the pointer must be aligned for its type and lead to that many entries,
- * readable, and writable where it is not const. The tables, lists, file and output of one call must
- * not overlap each other. So the cell list of an earlier call may serve as marks, but not as the
- * cell list of the same call too.
+ * readable, and writable where it is not const. The tables, heights, lists, file and output of one
+ * call must not overlap each other. So the cell list of an earlier call may serve as marks, but not
+ * as the cell list of the same call too.
  *
  * Limits.
  *   columns, rows                 1 to 16
@@ -147,8 +173,9 @@
  *   functions of such a plan      at most WALLMIRROR_MAX_FUNCTIONS
  *   marks of a call               any number; their values are 32 bits
  *   file of a mesh                at most WALLMIRROR_MAX_FILE_BYTES bytes
- *   plan of wallmirror_height     degrees 1 and 2, at most four levels
- *   height of an active function  at most WALLMIRROR_MAX_HEIGHT_MM mm either way
+ *   plan of wallmirror_height     degrees 1 and 2, at most four levels; the same of refining with
+ *                                 heights
+ *   height of an active function  at most WALLMIRROR_MAX_HEIGHT_MM mm either way, before and after
  *   plan of wallmirror_corners    the same, and at most WALLMIRROR_MAX_PROJECTED_CELLS cells
  *   stack of a call               at most WALLMIRROR_STACK_BYTES
  */
@@ -164,9 +191,9 @@ extern "C" {
 
 /* Of this header. */
 #define WALLMIRROR_VERSION_MAJOR 0
-#define WALLMIRROR_VERSION_MINOR 6
+#define WALLMIRROR_VERSION_MINOR 7
 #define WALLMIRROR_VERSION_PATCH 0
-#define WALLMIRROR_VERSION "0.6.0"
+#define WALLMIRROR_VERSION "0.7.0"
 
 /* The most cells a mesh may have on all levels together, and the most functions such a mesh has:
  * buffers of these sizes serve every plan. */
@@ -219,7 +246,7 @@ enum WallmirrorFunction {
 
 /* The number that every call answers. Where several apply, the first of this order is given:
  * 12; 1, 2; then 16, of wallmirror_corners alone; 3 to 6; then 3 of the heights, 14, 15; then the
- * marks in list order, each tried for 7, 8, 9; then 10, 11; then 13. */
+ * marks in list order, each tried for 7, 8, 9; then 10, 11; then 13, or 17. */
 enum WallmirrorRefusal {
     WALLMIRROR_ACCEPTED = 0,
     /* a number of the plan is out of range, or a bit of its corners marks no line between two
@@ -227,8 +254,8 @@ enum WallmirrorRefusal {
     WALLMIRROR_PLAN_OUT_OF_RANGE = 1,
     /* all levels together have more than WALLMIRROR_MAX_CELLS cells */
     WALLMIRROR_TOO_MANY_CELLS = 2,
-    /* a table has not the length that the plan gives it; of wallmirror_height and of
-     * wallmirror_corners also, after 6: the heights are not as many as the functions */
+    /* a table has not the length that the plan gives it; of the calls with heights also, after 6:
+     * the heights are not as many as the functions */
     WALLMIRROR_TABLE_LENGTH = 3,
     /* the cell bytes are not a mesh: another byte than 0, 1, 2, an absent cell of level 0, a refined
      * cell with an absent child, any other cell with a child that is not absent, or a refined cell
@@ -262,7 +289,10 @@ enum WallmirrorRefusal {
     WALLMIRROR_POINT_OR_HEIGHT_OUT_OF_RANGE = 15,
     /* of wallmirror_corners: all levels together have more than WALLMIRROR_MAX_PROJECTED_CELLS
      * cells */
-    WALLMIRROR_TOO_MANY_CELLS_TO_PROJECT = 16
+    WALLMIRROR_TOO_MANY_CELLS_TO_PROJECT = 16,
+    /* of refining with heights: a carried height of an active function is more than
+     * WALLMIRROR_MAX_HEIGHT_MM either way */
+    WALLMIRROR_CARRIED_HEIGHT_OUT_OF_RANGE = 17
 };
 
 /* What wallmirror_count answers. After a refusal all but the number are 0. */
@@ -448,6 +478,33 @@ WallmirrorAnswer wallmirror_coarsen_functions(WallmirrorPlan plan,
                                               const uint32_t *marks, size_t marks_len,
                                               uint32_t *cell_list, size_t cell_list_len,
                                               uint32_t *function_list, size_t function_list_len);
+
+/*
+ * The two refining calls with heights, which are carried so that the surface keeps its shape; how
+ * is said at the top. Tables, lists and answer are those of the call without heights; functions
+ * that are not active then have a height of 0. They refuse 1 to 6; then 3 where there is not one
+ * height for each function; then 14; then 15, for the heights; then 7 to 11; then 17.
+ */
+
+/* As wallmirror_refine_cells. */
+WallmirrorAnswer wallmirror_refine_cells_with_heights(
+    WallmirrorPlan plan,
+    uint8_t *cells, size_t cells_len,
+    uint8_t *functions, size_t functions_len,
+    int32_t *heights, size_t heights_len,
+    const uint32_t *marks, size_t marks_len,
+    uint32_t *cell_list, size_t cell_list_len,
+    uint32_t *function_list, size_t function_list_len);
+
+/* As wallmirror_refine_functions. */
+WallmirrorAnswer wallmirror_refine_functions_with_heights(
+    WallmirrorPlan plan,
+    uint8_t *cells, size_t cells_len,
+    uint8_t *functions, size_t functions_len,
+    int32_t *heights, size_t heights_len,
+    const uint32_t *marks, size_t marks_len,
+    uint32_t *cell_list, size_t cell_list_len,
+    uint32_t *function_list, size_t function_list_len);
 
 /* Makes both tables the mesh of the file; what they held does not matter. Refuses 12, judged over
  * all numbers of the file; then 1 to 5, where 3 is said of the lent tables, 4 also of a listed cell

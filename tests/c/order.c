@@ -1,9 +1,10 @@
 /*
  * The order in which a call writes, watched by the machine: in an accepted call no cell byte and no
  * entry of the cell list is written after the first function byte, and a refused call writes not a
- * byte. Tables and lists lie on pages of their own. While a call runs, the functions and their list
- * may only be read; at its first write to them they are opened, and the cells and their list are
- * shut. The output is to be that of order.expected.
+ * byte, also none of the heights. Tables, lists and heights lie on pages of their own. While a call
+ * runs, the functions and their list may only be read; at its first write to them they are opened,
+ * and the cells and their list are shut. The heights are open where the call is to be accepted and
+ * has them. The output is to be that of order.expected.
  */
 #ifndef _GNU_SOURCE
 #define _GNU_SOURCE
@@ -22,22 +23,47 @@
 typedef WallmirrorAnswer (*Call)(WallmirrorPlan, uint8_t *, size_t, uint8_t *, size_t,
                                  const uint32_t *, size_t, uint32_t *, size_t, uint32_t *, size_t);
 
-static const Call calls[] = {wallmirror_refine_cells, wallmirror_refine_functions,
-                             wallmirror_coarsen_cells, wallmirror_coarsen_functions};
-
-/* both tables and both lists; a list has an entry for each number of its table */
+/* both tables and both lists; a list has an entry for each number of its table, and so have the
+ * heights */
 struct lent {
     uint8_t *cells, *functions;
     uint32_t *cell_list, *function_list;
+    int32_t *heights;
 };
 
 static uint8_t cells[WALLMIRROR_MAX_CELLS], functions[WALLMIRROR_MAX_FUNCTIONS];
 static uint32_t cell_list[WALLMIRROR_MAX_CELLS], function_list[WALLMIRROR_MAX_FUNCTIONS];
+static int32_t heights[WALLMIRROR_MAX_FUNCTIONS];
 static struct lent watched;                   /* on pages of their own */
-static size_t cell_pages, function_pages;     /* bytes of one table's pages, and of its list's */
+static size_t cell_pages, function_pages;     /* bytes of one table's pages; its list has more */
 static size_t cell_entries, function_entries; /* T, F */
+static int32_t *lent_heights;                 /* of the call that runs */
 static volatile sig_atomic_t opened, late;
-static unsigned long accepted, refused, tens, elevens, wrong;
+static unsigned long accepted, with_heights, refused, tens, elevens, seventeens, wrong;
+
+static WallmirrorAnswer refine_cells(WallmirrorPlan plan, uint8_t *c, size_t cl, uint8_t *f,
+                                     size_t fl, const uint32_t *marks, size_t n, uint32_t *list,
+                                     size_t room, uint32_t *other, size_t other_room)
+{
+    return wallmirror_refine_cells_with_heights(plan, c, cl, f, fl, lent_heights, fl, marks, n,
+                                                list, room, other, other_room);
+}
+
+static WallmirrorAnswer refine_functions(WallmirrorPlan plan, uint8_t *c, size_t cl, uint8_t *f,
+                                         size_t fl, const uint32_t *marks, size_t n,
+                                         uint32_t *list, size_t room, uint32_t *other,
+                                         size_t other_room)
+{
+    return wallmirror_refine_functions_with_heights(plan, c, cl, f, fl, lent_heights, fl, marks, n,
+                                                    list, room, other, other_room);
+}
+
+/* those by cells have even numbers; the last two are with heights */
+enum { COARSEN = 2, WITH_HEIGHTS = 4, KINDS = 6 };
+
+static const Call calls[KINDS] = {wallmirror_refine_cells, wallmirror_refine_functions,
+                                  wallmirror_coarsen_cells, wallmirror_coarsen_functions,
+                                  refine_cells, refine_functions};
 
 /* the same numbers on every machine */
 static uint32_t random_below(uint32_t n)
@@ -66,6 +92,13 @@ static void allow_functions(int access)
         _exit(3);
 }
 
+/* They have as many pages as the list of functions. */
+static void allow_heights(int access)
+{
+    if (mprotect(watched.heights, 5 * function_pages, access) != 0)
+        _exit(3);
+}
+
 /* A write to what may only be read. */
 static void on_write(int number, siginfo_t *info, void *context)
 {
@@ -79,6 +112,10 @@ static void on_write(int number, siginfo_t *info, void *context)
     } else if (at >= watched.cells && at < watched.cells + 5 * cell_pages) {
         late = late + 1;
         allow_cells(PROT_READ | PROT_WRITE);
+    } else if (at >= (uint8_t *)watched.heights &&
+               at < (uint8_t *)watched.heights + 5 * function_pages) {
+        late = late + 1;
+        allow_heights(PROT_READ | PROT_WRITE);
     } else {
         _exit(4);
     }
@@ -87,6 +124,7 @@ static void on_write(int number, siginfo_t *info, void *context)
 static WallmirrorAnswer run(Call call, WallmirrorPlan plan, const struct lent *lent,
                             const uint32_t *marks, size_t n, size_t cell_room, size_t function_room)
 {
+    lent_heights = lent->heights;
     return call(plan, lent->cells, cell_entries, lent->functions, function_entries, marks, n,
                 lent->cell_list, cell_room, lent->function_list, function_room);
 }
@@ -99,33 +137,42 @@ static void try_refused(Call call, WallmirrorPlan plan, const uint32_t *marks, s
     opened = late = 0;
     allow_cells(PROT_READ);
     allow_functions(PROT_READ);
+    allow_heights(PROT_READ);
     answer = run(call, plan, &watched, marks, n, cell_room, function_room);
     if (answer.number != number || answer.cells != 0 || answer.functions != 0 || opened || late)
         wrong++;
     refused++;
     tens += number == WALLMIRROR_CELL_LIST_TOO_SHORT;
     elevens += number == WALLMIRROR_FUNCTION_LIST_TOO_SHORT;
+    seventeens += number == WALLMIRROR_CARRIED_HEIGHT_OUT_OF_RANGE;
     allow_cells(PROT_READ | PROT_WRITE);
     allow_functions(PROT_READ | PROT_WRITE);
+    allow_heights(PROT_READ | PROT_WRITE);
 }
 
 /* Runs a call that is to be accepted, and watches where it writes. */
 static void try_accepted(Call call, WallmirrorPlan plan, const uint32_t *marks, size_t n,
                          size_t cell_room, size_t function_room)
 {
+    int has_heights = call == calls[WITH_HEIGHTS] || call == calls[WITH_HEIGHTS + 1];
     WallmirrorAnswer answer;
     opened = late = 0;
     allow_functions(PROT_READ);
+    if (!has_heights)
+        allow_heights(PROT_READ);
     answer = run(call, plan, &watched, marks, n, cell_room, function_room);
     allow_cells(PROT_READ | PROT_WRITE);
     allow_functions(PROT_READ | PROT_WRITE);
+    allow_heights(PROT_READ | PROT_WRITE);
     if (answer.number != WALLMIRROR_ACCEPTED || opened != 1 || late != 0 ||
         memcmp(cells, watched.cells, cell_entries) != 0 ||
         memcmp(functions, watched.functions, function_entries) != 0 ||
         memcmp(cell_list, watched.cell_list, answer.cells * sizeof *cell_list) != 0 ||
-        memcmp(function_list, watched.function_list, answer.functions * sizeof *cell_list) != 0)
+        memcmp(function_list, watched.function_list, answer.functions * sizeof *cell_list) != 0 ||
+        memcmp(heights, watched.heights, function_entries * sizeof *heights) != 0)
         wrong++;
     accepted++;
+    with_heights += has_heights;
 }
 
 /* Numbers of the table with the byte, or now and then any number. */
@@ -140,15 +187,34 @@ static size_t choose(const uint8_t *table, size_t entries, uint8_t byte, uint32_
     return n;
 }
 
+/* Small heights, or all as great as they may be, of which some that are carried are refused. */
+static void choose_heights(WallmirrorPlan plan)
+{
+    int greatest = random_below(3) == 0;
+    uint32_t level;
+    size_t i = 0, end = 0;
+    for (level = 0; level < plan.levels && level < 4; level++) {
+        end += wallmirror_functions_across(plan, level) * wallmirror_functions_up(plan, level);
+        for (; i < end; i++)
+            watched.heights[i] = greatest ? WALLMIRROR_MAX_HEIGHT_MM << 4 * level
+                                          : (int32_t)random_below(2000) - 1000;
+    }
+}
+
+static int takes_heights(WallmirrorPlan plan)
+{
+    return plan.levels <= 4 && plan.degree_across <= 2 && plan.degree_up <= 2;
+}
+
 /* One call on plain copies, to know what it answers; then watched, with lists that are too short
  * and with lists that are just long enough, or as long as the tables. */
 static void step(WallmirrorPlan plan)
 {
     struct lent copies;
     uint32_t marks[MARKS];
-    unsigned kind = (unsigned)random_below(4);
+    unsigned kind = (unsigned)random_below(takes_heights(plan) ? KINDS : WITH_HEIGHTS);
     Call call = calls[kind];
-    uint8_t byte = kind < 2 ? 1 : 2;
+    uint8_t byte = kind < COARSEN || kind >= WITH_HEIGHTS ? 1 : 2;
     size_t n = kind % 2 == 0 ? choose(watched.cells, cell_entries, byte, marks)
                              : choose(watched.functions, function_entries, byte, marks);
     WallmirrorAnswer answer;
@@ -157,8 +223,11 @@ static void step(WallmirrorPlan plan)
     copies.functions = functions;
     copies.cell_list = cell_list;
     copies.function_list = function_list;
+    copies.heights = heights;
+    choose_heights(plan);
     memcpy(cells, watched.cells, cell_entries);
     memcpy(functions, watched.functions, function_entries);
+    memcpy(heights, watched.heights, function_entries * sizeof *heights);
     answer = run(call, plan, &copies, marks, n, cell_entries, function_entries);
     if (answer.number != WALLMIRROR_ACCEPTED) {
         try_refused(call, plan, marks, n, cell_entries, function_entries, answer.number);
@@ -183,7 +252,8 @@ static int season(WallmirrorPlan plan)
     function_pages = (function_entries + page - 1) / page * page;
     watched.cells = pages(cell_pages);
     watched.functions = pages(function_pages);
-    if (!watched.cells || !watched.functions)
+    watched.heights = (int32_t *)(void *)pages(function_pages);
+    if (!watched.cells || !watched.functions || !watched.heights)
         return 0;
     watched.cell_list = (uint32_t *)(void *)(watched.cells + cell_pages);
     watched.function_list = (uint32_t *)(void *)(watched.functions + function_pages);
@@ -193,17 +263,21 @@ static int season(WallmirrorPlan plan)
         step(plan);
     munmap(watched.cells, 5 * cell_pages);
     munmap(watched.functions, 5 * function_pages);
+    munmap(watched.heights, 5 * function_pages);
     return 1;
 }
 
 int main(void)
 {
-    /* the last two with corners, one of them with as many functions as there can be */
+    /* the last four with corners, two of them with as many functions as there can be, and as there
+     * can be with heights */
     static const WallmirrorPlan plans[] = {{3, 1, 3, 1, 1, 0, 0, 0},
                                            {2, 3, 4, 2, 1, 2, 0, 0},
                                            {4, 4, 5, 3, 3, 3, 0, 0},
                                            {3, 4, 4, 2, 3, 2, 2, 12},
-                                           {16, 16, 4, 4, 4, 2, 65534, 65534}};
+                                           {3, 4, 4, 2, 2, 2, 2, 12},
+                                           {16, 16, 4, 4, 4, 2, 65534, 65534},
+                                           {16, 16, 4, 2, 2, 2, 65534, 65534}};
     struct sigaction action;
     size_t i;
     memset(&action, 0, sizeof action);
@@ -220,8 +294,9 @@ int main(void)
     }
     printf("%lu calls accepted, each with its cells settled before the first function byte\n",
            accepted);
-    printf("%lu calls refused, %lu with 10 and %lu with 11, and not a byte written\n", refused,
-           tens, elevens);
+    printf("%lu of them with heights\n", with_heights);
+    printf("%lu calls refused, %lu with 10, %lu with 11, %lu with 17, and not a byte written\n",
+           refused, tens, elevens, seventeens);
     printf("%lu wrong\n", wrong);
     return wrong != 0;
 }

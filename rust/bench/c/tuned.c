@@ -657,6 +657,50 @@ static uint32_t flag_marks(const struct layout *at, enum direction direction, en
     return 0;
 }
 
+/* The tables after a change, beside the old ones, and how many entries differ. */
+struct made {
+    uint8_t cells[ROOM], functions[ROOM];
+    size_t changed_cells, changed_functions;
+};
+
+/* Makes them of tables that are checked, or refuses the marks or the lists' lengths. */
+static uint32_t make(const struct layout *at, enum direction direction, enum by by,
+                     const uint8_t *cells, const uint8_t *functions, const uint32_t *marks,
+                     size_t marks_len, size_t cell_room, size_t function_room, struct made *made)
+{
+    uint8_t flags[ROOM];
+    size_t t = at->cells_at[at->levels], f = at->functions_at[at->levels];
+    uint32_t number = flag_marks(at, direction, by, cells, functions, marks, marks_len, flags);
+    if (number != 0)
+        return number;
+    if (direction == REFINE)
+        flag_needed(at, cells, flags);
+    else
+        unflag_needed(at, cells, flags);
+    memcpy(made->cells, cells, t);
+    shift_flagged(at, flags, made->cells, direction == REFINE ? 1 : -1);
+    over_supports(at, made->cells, made->functions);
+    made->changed_cells = count_changed(cells, made->cells, t);
+    made->changed_functions = count_changed(functions, made->functions, f);
+    if (made->changed_cells > cell_room)
+        return WALLMIRROR_CELL_LIST_TOO_SHORT;
+    return made->changed_functions > function_room ? WALLMIRROR_FUNCTION_LIST_TOO_SHORT : 0;
+}
+
+static WallmirrorAnswer settle(const struct layout *at, const struct made *made, uint8_t *cells,
+                               uint8_t *functions, uint32_t *cell_list, uint32_t *function_list)
+{
+    WallmirrorAnswer answer = nothing;
+    size_t t = at->cells_at[at->levels], f = at->functions_at[at->levels];
+    list_changed(cells, made->cells, t, cell_list);
+    list_changed(functions, made->functions, f, function_list);
+    memcpy(cells, made->cells, t);
+    memcpy(functions, made->functions, f);
+    answer.cells = (uint32_t)made->changed_cells;
+    answer.functions = (uint32_t)made->changed_functions;
+    return answer;
+}
+
 static WallmirrorAnswer change(enum direction direction, enum by by, WallmirrorPlan plan,
                                uint8_t *cells, size_t cells_len,
                                uint8_t *functions, size_t functions_len,
@@ -664,37 +708,16 @@ static WallmirrorAnswer change(enum direction direction, enum by by, WallmirrorP
                                uint32_t *cell_list, size_t cell_list_len,
                                uint32_t *function_list, size_t function_list_len)
 {
-    uint8_t flags[ROOM], new_cells[ROOM], new_functions[ROOM];
+    struct made made;
     WallmirrorAnswer answer = nothing;
     struct layout at;
-    size_t changed_cells, changed_functions;
     answer.number = check(&at, plan, cells, cells_len, functions, functions_len);
     if (answer.number == 0)
-        answer.number = flag_marks(&at, direction, by, cells, functions, marks, marks_len, flags);
+        answer.number = make(&at, direction, by, cells, functions, marks, marks_len,
+                             cell_list_len, function_list_len, &made);
     if (answer.number != 0)
         return answer;
-    if (direction == REFINE)
-        flag_needed(&at, cells, flags);
-    else
-        unflag_needed(&at, cells, flags);
-    memcpy(new_cells, cells, cells_len);
-    shift_flagged(&at, flags, new_cells, direction == REFINE ? 1 : -1);
-    over_supports(&at, new_cells, new_functions);
-    changed_cells = count_changed(cells, new_cells, cells_len);
-    changed_functions = count_changed(functions, new_functions, functions_len);
-    if (changed_cells > cell_list_len)
-        answer.number = WALLMIRROR_CELL_LIST_TOO_SHORT;
-    else if (changed_functions > function_list_len)
-        answer.number = WALLMIRROR_FUNCTION_LIST_TOO_SHORT;
-    if (answer.number != 0)
-        return answer;
-    list_changed(cells, new_cells, cells_len, cell_list);
-    list_changed(functions, new_functions, functions_len, function_list);
-    memcpy(cells, new_cells, cells_len);
-    memcpy(functions, new_functions, functions_len);
-    answer.cells = (uint32_t)changed_cells;
-    answer.functions = (uint32_t)changed_functions;
-    return answer;
+    return settle(&at, &made, cells, functions, cell_list, function_list);
 }
 
 #define TUNED_CALL(name, direction, by)                                                    \
@@ -981,6 +1004,140 @@ WallmirrorHeight tuned_height(WallmirrorPlan plan, const uint8_t *cells, size_t 
         answer.height += sum / (1 << 4 * level);
     }
     return answer;
+}
+
+/* ---- Refining with heights ---- */
+
+/* The most functions of a plan with heights, and the most in a row of a level but the last. */
+enum { MOST_HEIGHTS = 31076, MOST_PARENTS = 64 + 2 + 15 };
+
+/* The children of a function in one direction, in a row, with their coefficients. */
+struct family {
+    uint32_t first, count;
+    int32_t quarters[4];
+};
+
+/* Those of all functions of a direction, and how many these are. */
+static size_t lay_families(struct family *families, size_t n, uint32_t level, uint32_t degree,
+                           uint32_t corners)
+{
+    size_t knots[MOST_PARENTS + 3], many = 0, line, i;
+    for (line = 0; line <= n; line++) {
+        size_t times = 1;
+        if (line == 0 || line == n)
+            times = degree + 1;
+        else if (is_corner(corners, level, line))
+            times = degree;
+        while (times-- > 0)
+            knots[many++] = line;
+    }
+    for (i = 0; i + degree + 1 < many; i++) {
+        const size_t *at = knots + i;
+        struct family family = {(uint32_t)(i + at[0]), 0, {0, 0, 0, 0}};
+        int32_t *quarter = family.quarters;
+        /* before the middle of the function, in it where knots meet there, and behind it */
+        int meet = degree == 1 || at[1] == at[2];
+        if (at[0] < at[1]) {
+            *quarter++ = meet ? 2 : 1;
+            if (!meet)
+                *quarter++ = 3;
+        } else if (!meet) {
+            *quarter++ = 2;
+        }
+        if (meet)
+            *quarter++ = 4;
+        if (at[degree] < at[degree + 1]) {
+            if (!meet)
+                *quarter++ = 3;
+            *quarter++ = meet ? 2 : 1;
+        } else if (!meet) {
+            *quarter++ = 2;
+        }
+        family.count = (uint32_t)(quarter - family.quarters);
+        families[i] = family;
+    }
+    return many - degree - 1;
+}
+
+/* A height to the children of a function, of which `out` is the first and a row has `width`. */
+static void pass_on(int32_t height, const struct family *across, const struct family *up,
+                    int32_t *out, size_t width)
+{
+    uint32_t i, j;
+    for (j = 0; j < up->count; j++, out += width) {
+        int32_t of_row = height * up->quarters[j];
+        for (i = 0; i < across->count; i++)
+            out[i] += of_row * across->quarters[i];
+    }
+}
+
+/* Level by level, the functions that are deactivated pass their heights to their children. */
+static void carry(const struct layout *at, const uint8_t *functions, int32_t *heights)
+{
+    struct family across[MOST_PARENTS], up[MOST_PARENTS];
+    uint32_t level;
+    for (level = 0; level + 1 < at->levels; level++) {
+        size_t width = at->functions_across[level + 1], row, column, f = at->functions_at[level];
+        size_t columns =
+            lay_families(across, at->columns[level], level, at->across, at->corners_across);
+        size_t rows = lay_families(up, at->rows[level], level, at->up, at->corners_up);
+        for (row = 0; row < rows; row++)
+            for (column = 0; column < columns; column++, f++) {
+                size_t child = at->functions_at[level + 1] + up[row].first * width;
+                int32_t height = heights[f];
+                if (functions[f] != 2 || height == 0)
+                    continue;
+                heights[f] = 0;
+                pass_on(height, &across[column], &up[row],
+                        heights + child + across[column].first, width);
+            }
+    }
+}
+
+static WallmirrorAnswer refine_with_heights(enum by by, WallmirrorPlan plan,
+                                            uint8_t *cells, size_t cells_len,
+                                            uint8_t *functions, size_t functions_len,
+                                            int32_t *heights, size_t heights_len,
+                                            const uint32_t *marks, size_t marks_len,
+                                            uint32_t *cell_list, size_t cell_list_len,
+                                            uint32_t *function_list, size_t function_list_len)
+{
+    struct made made;
+    int32_t carried[MOST_HEIGHTS];
+    WallmirrorAnswer answer = nothing;
+    struct layout at;
+    size_t i;
+    answer.number = check_heights(&at, plan, cells, cells_len, functions, functions_len, heights,
+                                  heights_len);
+    if (answer.number == 0)
+        answer.number = make(&at, REFINE, by, cells, functions, marks, marks_len, cell_list_len,
+                             function_list_len, &made);
+    if (answer.number != 0)
+        return answer;
+    for (i = 0; i < heights_len; i++)
+        carried[i] = functions[i] == 1 ? heights[i] : 0;
+    carry(&at, made.functions, carried);
+    if (is_too_high(&at, made.functions, carried)) {
+        answer.number = WALLMIRROR_CARRIED_HEIGHT_OUT_OF_RANGE;
+        return answer;
+    }
+    for (i = 0; i < heights_len; i++)
+        heights[i] = made.functions[i] == 1 ? carried[i] : 0;
+    return settle(&at, &made, cells, functions, cell_list, function_list);
+}
+
+TUNED_CHANGE_WITH_HEIGHTS(tuned_refine_cells_with_heights)
+{
+    return refine_with_heights(CELLS, plan, cells, cells_len, functions, functions_len, heights,
+                               heights_len, marks, marks_len, cell_list, cell_list_len,
+                               function_list, function_list_len);
+}
+
+TUNED_CHANGE_WITH_HEIGHTS(tuned_refine_functions_with_heights)
+{
+    return refine_with_heights(FUNCTIONS, plan, cells, cells_len, functions, functions_len,
+                               heights, heights_len, marks, marks_len, cell_list, cell_list_len,
+                               function_list, function_list_len);
 }
 
 /* ---- Corners of cells ---- */

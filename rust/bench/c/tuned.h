@@ -45,4 +45,15 @@ WallmirrorCorners tuned_corners(WallmirrorPlan plan, const uint8_t *cells, size_
                                 const int32_t *heights, size_t heights_len,
                                 double *out, size_t out_len);
 
+#define TUNED_CHANGE_WITH_HEIGHTS(name)                                                    \
+    WallmirrorAnswer name(WallmirrorPlan plan, uint8_t *cells, size_t cells_len,           \
+                          uint8_t *functions, size_t functions_len,                        \
+                          int32_t *heights, size_t heights_len,                            \
+                          const uint32_t *marks, size_t marks_len,                         \
+                          uint32_t *cell_list, size_t cell_list_len,                       \
+                          uint32_t *function_list, size_t function_list_len)
+
+TUNED_CHANGE_WITH_HEIGHTS(tuned_refine_cells_with_heights);
+TUNED_CHANGE_WITH_HEIGHTS(tuned_refine_functions_with_heights);
+
 #endif

@@ -1,9 +1,9 @@
 //! Prints, for meshes near the largest, what each call takes: the library, the tuned C version
 //! beside it (`c/tuned.c`), the model, and how often both tables could be read meanwhile. Some
-//! calls follow on meshes with corners, for which there are no goals. Then, for the smallest
-//! meshes, what the height at one point takes, and for the largest that the projector takes, what
-//! the corners of their cells take. Run it in release mode:
-//! `cargo run --release --offline -p bench`.
+//! calls follow on meshes with corners, for which there are no goals, and on meshes with heights
+//! the height at a point, and refining with heights and without. Then, for the smallest meshes,
+//! what the height at one point takes, and for the largest that the projector takes, what the
+//! corners of their cells take. Run it in release mode: `cargo run --release --offline -p bench`.
 //!
 //! The times are the least of many rounds. Library, C and reading take turns, so that a ratio
 //! compares what ran under the same conditions.
@@ -11,8 +11,8 @@
 mod versions;
 
 use differential::scenario::{self, Scenario};
-use differential::{plan, Kind, Tables};
-use model::{projector::Corner, Plan};
+use differential::{has_corners, plan, Kind, Tables};
+use model::{projector::Corner, shape::refine_with_heights, Plan};
 use std::hint::black_box;
 use std::time::{Duration, Instant};
 use versions::{agree, Buffers, Call, LIBRARY, TUNED};
@@ -25,11 +25,22 @@ enum Goal {
     AllCells,
     Functions,
     Height,
+    OneCellWithHeights,
+    AllCellsWithHeights,
+    FunctionsWithHeights,
 }
 
 impl Goal {
-    const ALL: [Goal; 5] =
-        [Goal::Check, Goal::OneCell, Goal::AllCells, Goal::Functions, Goal::Height];
+    const ALL: [Goal; 8] = [
+        Goal::Check,
+        Goal::OneCell,
+        Goal::AllCells,
+        Goal::Functions,
+        Goal::Height,
+        Goal::OneCellWithHeights,
+        Goal::AllCellsWithHeights,
+        Goal::FunctionsWithHeights,
+    ];
 
     fn of(call: Call, marks: usize) -> Option<Goal> {
         match call {
@@ -40,6 +51,9 @@ impl Goal {
             Call::Change(kind) if kind.by_functions() => Some(Goal::Functions),
             Call::Change(_) if marks == 1 => Some(Goal::OneCell),
             Call::Change(_) => Some(Goal::AllCells),
+            Call::WithHeights(kind) if kind.by_functions() => Some(Goal::FunctionsWithHeights),
+            Call::WithHeights(_) if marks == 1 => Some(Goal::OneCellWithHeights),
+            Call::WithHeights(_) => Some(Goal::AllCellsWithHeights),
         }
     }
 
@@ -50,6 +64,9 @@ impl Goal {
             Goal::AllCells => "by cells, all marks",
             Goal::Functions => "by functions",
             Goal::Height => "height",
+            Goal::OneCellWithHeights => "by cells, one mark, with heights",
+            Goal::AllCellsWithHeights => "by cells, all marks, with heights",
+            Goal::FunctionsWithHeights => "by functions, with heights",
         }
     }
 
@@ -62,6 +79,11 @@ impl Goal {
             Goal::Functions => 35.0,
             // A check, and a look at every height: those have four bytes each.
             Goal::Height => 15.0,
+            // What the call without heights may take, and heights that are read twice, copied and
+            // written, of four bytes each.
+            Goal::OneCellWithHeights => 40.0,
+            Goal::AllCellsWithHeights => 80.0,
+            Goal::FunctionsWithHeights => 75.0,
         }
     }
 }
@@ -112,7 +134,7 @@ impl Row {
     fn print(&self) {
         let goal = self.goal().map_or(String::new(), |goal| format!("{:.0}", goal.most()));
         println!(
-            "{:<18} {:>6} {:>8} {:>11.1} {:>9.1} {:>11.1} {:>10.1} {:>13.1} {:>13.1} {:>5}{}",
+            "{:<25} {:>6} {:>8} {:>11.1} {:>9.1} {:>11.1} {:>10.1} {:>13.1} {:>13.1} {:>5}{}",
             self.call.name(),
             self.marks,
             self.changed,
@@ -134,8 +156,14 @@ fn main() {
     }
     println!("C: {}. Times in microseconds, the least of many rounds.\n", env!("TUNED_BY"));
     let mut rows: Vec<Row> = scenario::all().iter().flat_map(measure).collect();
-    let cornered: Vec<Row> = scenario::with_corners().iter().flat_map(measure_corners).collect();
-    rows.extend(scenario::with_heights().iter().flat_map(measure_height));
+    let mut cornered: Vec<Row> =
+        scenario::with_corners().iter().flat_map(measure_corners).collect();
+    let with_heights: Vec<Row> =
+        scenario::with_heights().iter().flat_map(measure_heights).collect();
+    print_carrying(&with_heights);
+    for row in with_heights {
+        if row.cornered { &mut cornered } else { &mut rows }.push(row);
+    }
     let points = measure_points();
     let projected = measure_projected(&points);
     print_summary(&rows, &points.map(|[.., four]| four.to_tuned()), &projected);
@@ -188,16 +216,44 @@ fn measure_corners(scenario: &Scenario) -> Vec<Row> {
     rows
 }
 
-/// Measures and prints the height at a point beside the check that it begins with.
-fn measure_height(scenario: &Scenario) -> Vec<Row> {
+/// Measures and prints the height at a point beside the check that it begins with, and refining with
+/// heights beside refining without.
+fn measure_heights(scenario: &Scenario) -> Vec<Row> {
     print_heading(scenario);
-    let rows = [Call::Check, Call::Height].map(|call| {
-        let row = time(call, &scenario.to_coarsen, &[], scenario.to_string());
-        row.print();
-        row
-    });
+    let has_corners = has_corners(scenario.plan());
+    let mut rows = vec![];
+    let mut add = |call, tables: &Tables, marks: &[u32]| {
+        let changes = matches!(call, Call::Change(_) | Call::WithHeights(_));
+        let row = time(call, tables, marks, scenario.to_string());
+        rows.push(Row { cornered: changes && has_corners, ..row });
+        rows[rows.len() - 1].print();
+    };
+    for call in [Call::Check, Call::Height] {
+        add(call, &scenario.to_coarsen, &[]);
+    }
+    let tables = &scenario.to_refine;
+    for kind in Kind::REFINING {
+        let markable = tables.markable(kind);
+        let one = &markable[markable.len() - 1..];
+        for marks in [one, &markable].into_iter().take(markable.len()) {
+            add(Call::Change(kind), tables, marks);
+            add(Call::WithHeights(kind), tables, marks);
+        }
+    }
     print_reading(scenario, &rows);
-    rows.into()
+    rows
+}
+
+/// How many times as long refining takes with heights as without.
+fn print_carrying(rows: &[Row]) {
+    let pairs = rows.windows(2).filter(|pair| matches!(pair[1].call, Call::WithHeights(_)));
+    let ratio = |pair: &&[Row]| pair[1].library.as_secs_f64() / pair[0].library.as_secs_f64();
+    let most = pairs.max_by(|a, b| ratio(a).total_cmp(&ratio(b))).expect("a pair");
+    println!(
+        "with heights at most {:.1} times as long as without: {}\n",
+        ratio(&most),
+        most[1].said()
+    );
 }
 
 fn print_heading(scenario: &Scenario) {
@@ -212,7 +268,7 @@ fn print_heading(scenario: &Scenario) {
         count.active_functions
     );
     println!(
-        "{:<18} {:>6} {:>8} {:>11} {:>9} {:>11} {:>10} {:>13} {:>13} {:>5}",
+        "{:<25} {:>6} {:>8} {:>11} {:>9} {:>11} {:>10} {:>13} {:>13} {:>5}",
         "call",
         "marks",
         "changed",
@@ -477,7 +533,7 @@ fn print_summary(rows: &[Row], points: &[f64], projected: &[Projected]) {
 
 /// The same for meshes with corners. The C version is not tuned for these.
 fn print_summary_of_corners(rows: &[Row]) {
-    for goal in [Goal::Check, Goal::OneCell, Goal::AllCells] {
+    for goal in Goal::ALL.into_iter().filter(|&goal| goal != Goal::Height) {
         let of_goal: Vec<&Row> =
             rows.iter().filter(|row| Goal::of(row.call, row.marks) == Some(goal)).collect();
         println!("{}, with corners:", goal.name());
@@ -509,11 +565,18 @@ fn time(call: Call, tables: &Tables, marks: &[u32], place: String) -> Row {
     let mut buffers = Buffers::with_room(tables);
     let (number, changed) = agree(call, &buffers, marks);
     assert_eq!(number, 0, "{} on {place}", call.name());
-    if let Call::Change(kind) = call {
-        tables.clone().call_with_room(kind, marks);
+    match call {
+        Call::Change(kind) => drop(tables.clone().call_with_room(kind, marks)),
+        Call::WithHeights(kind) => {
+            let Buffers { cell_list, function_list, mut heights, .. } = buffers.clone();
+            let mut tables = tables.clone();
+            tables.refine_with_heights(kind, &mut heights, marks, &cell_list, &function_list);
+        }
+        _ => {}
     }
+    let before = buffers.clone();
     let mut of_version = |version| {
-        buffers.restore(tables);
+        buffers.restore(&before);
         timed(|| buffers.run(version, call, marks))
     };
     let [mut library, mut tuned, mut read] = [Duration::MAX; 3];
@@ -527,7 +590,7 @@ fn time(call: Call, tables: &Tables, marks: &[u32], place: String) -> Row {
     });
     let mut model = Duration::MAX;
     repeat(Duration::from_millis(60), 50, || {
-        model = model.min(timed(|| run_model(call, tables, marks, &buffers)));
+        model = model.min(timed(|| run_model(call, tables, marks, &before)));
     });
     let counted = matches!(call, Call::Change(_)).then(|| time_counted(call, tables, marks));
     let (marks, cornered) = (marks.len(), false);
@@ -537,14 +600,15 @@ fn time(call: Call, tables: &Tables, marks: &[u32], place: String) -> Row {
 /// How many times as long a call takes with lists that are just long enough as with those of T and F
 /// entries.
 fn time_counted(call: Call, tables: &Tables, marks: &[u32]) -> f64 {
-    let mut ample = Buffers::with_room(tables);
+    let before = Buffers::with_room(tables);
+    let mut ample = before.clone();
     ample.run(&LIBRARY, call, marks);
     let [_, cells, functions, ..] = ample.answer;
     let mut close = Buffers::new(tables, cells as usize, functions as usize, vec![]);
     let mut least = [Duration::MAX; 2];
     repeat(Duration::from_millis(100), 300, || {
         for (buffers, least) in [&mut ample, &mut close].into_iter().zip(&mut least) {
-            buffers.restore(tables);
+            buffers.restore(&before);
             *least = timed(|| buffers.run(&LIBRARY, call, marks)).min(*least);
         }
     });
@@ -624,6 +688,11 @@ fn run_model(call: Call, tables: &Tables, marks: &[u32], buffers: &Buffers) {
         }
         Call::Change(kind) => {
             drop(black_box(kind.of_model()(*plan, cells, functions, marks, t, f)));
+        }
+        Call::WithHeights(kind) => {
+            let (call, tables) = (kind.of_model(), (&cells[..], &functions[..]));
+            let refined = refine_with_heights(call, *plan, tables, heights, marks, (t, f));
+            drop(black_box(refined));
         }
     }
 }

@@ -13,6 +13,7 @@ pub enum Call {
     Height,
     Corners,
     Change(Kind),
+    WithHeights(Kind),
 }
 
 impl Call {
@@ -26,6 +27,8 @@ impl Call {
             Call::Height => "height",
             Call::Corners => "corners",
             Call::Change(kind) => kind.name(),
+            Call::WithHeights(Kind::RefineCells) => "refine cells, heights",
+            Call::WithHeights(_) => "refine functions, heights",
         }
     }
 }
@@ -78,6 +81,7 @@ pub struct Version {
     height: Height,
     corners: Corners,
     change: fn(Kind) -> ffi::Change,
+    with_heights: fn(Kind) -> ffi::ChangeWithHeights,
 }
 
 pub const LIBRARY: Version = Version {
@@ -89,6 +93,7 @@ pub const LIBRARY: Version = Version {
     height: ffi::wallmirror_height,
     corners: ffi::wallmirror_corners,
     change: Kind::of_library,
+    with_heights: Kind::with_heights,
 };
 
 pub const TUNED: Version = Version {
@@ -104,6 +109,11 @@ pub const TUNED: Version = Version {
         Kind::RefineFunctions => tuned::tuned_refine_functions,
         Kind::CoarsenCells => tuned::tuned_coarsen_cells,
         Kind::CoarsenFunctions => tuned::tuned_coarsen_functions,
+    },
+    with_heights: |kind| match kind {
+        Kind::RefineCells => tuned::tuned_refine_cells_with_heights,
+        Kind::RefineFunctions => tuned::tuned_refine_functions_with_heights,
+        Kind::CoarsenCells | Kind::CoarsenFunctions => panic!("coarsening carries no heights"),
     },
 };
 
@@ -135,6 +145,33 @@ mod tuned {
         tuned_refine_functions
         tuned_coarsen_cells
         tuned_coarsen_functions
+    }
+
+    macro_rules! changes_with_heights {
+        ($($name:ident)*) => {
+            extern "C" {
+                $(pub fn $name(
+                    plan: ffi::Plan,
+                    cells: *mut u8,
+                    cells_len: usize,
+                    functions: *mut u8,
+                    functions_len: usize,
+                    heights: *mut i32,
+                    heights_len: usize,
+                    marks: *const u32,
+                    marks_len: usize,
+                    cell_list: *mut u32,
+                    cell_list_len: usize,
+                    function_list: *mut u32,
+                    function_list_len: usize,
+                ) -> ffi::Answer;)*
+            }
+        };
+    }
+
+    changes_with_heights! {
+        tuned_refine_cells_with_heights
+        tuned_refine_functions_with_heights
     }
 
     extern "C" {
@@ -240,10 +277,11 @@ impl Buffers {
         Buffers { heights, point, out, ..Buffers::new(tables, t, f, tables.file()) }
     }
 
-    /// Puts the tables back, which are to have the same lengths.
-    pub fn restore(&mut self, tables: &Tables) {
-        self.tables.cells.copy_from_slice(&tables.cells);
-        self.tables.functions.copy_from_slice(&tables.functions);
+    /// Puts tables and heights back, which are to have the same lengths.
+    pub fn restore(&mut self, before: &Buffers) {
+        self.tables.cells.copy_from_slice(&before.tables.cells);
+        self.tables.functions.copy_from_slice(&before.tables.functions);
+        self.heights.copy_from_slice(&before.heights);
     }
 
     pub fn run(&mut self, version: &Version, call: Call, marks: &[u32]) {
@@ -323,6 +361,24 @@ impl Buffers {
                     );
                     padded([answer.number, answer.cells, answer.functions])
                 }
+                Call::WithHeights(kind) => {
+                    let answer = (version.with_heights)(kind)(
+                        plan,
+                        cells.as_mut_ptr(),
+                        t,
+                        functions.as_mut_ptr(),
+                        f,
+                        self.heights.as_mut_ptr(),
+                        self.heights.len(),
+                        marks.as_ptr(),
+                        marks.len(),
+                        self.cell_list.as_mut_ptr(),
+                        self.cell_list.len(),
+                        self.function_list.as_mut_ptr(),
+                        self.function_list.len(),
+                    );
+                    padded([answer.number, answer.cells, answer.functions])
+                }
             }
         };
     }
@@ -345,42 +401,51 @@ pub fn agree(call: Call, before: &Buffers, marks: &[u32]) -> (u32, u32) {
     assert_eq!(library.answer, tuned.answer, "{name} {plan:?}, {} marks", marks.len());
     assert!(
         library == tuned,
-        "tables, lists, files or outputs differ: {name} {plan:?}, {} marks",
+        "tables, heights, lists, files or outputs differ: {name} {plan:?}, {} marks",
         marks.len()
     );
-    let changed = if matches!(call, Call::Change(_)) { library.answer[1] } else { 0 };
+    let changes = matches!(call, Call::Change(_) | Call::WithHeights(_));
+    let changed = if changes { library.answer[1] } else { 0 };
     (library.answer[0], changed)
 }
 
 #[cfg(test)]
 mod tests {
     use super::*;
+    use differential::surface::{most, with_heights, DEGREES};
     use differential::{has_corners, random_corners, random_plan, random_refined, Random};
     use model::Plan;
     use wallmirror::{MAX_CELLS, MAX_FUNCTIONS, MAX_PROJECTED_CELLS};
 
     /// Random meshes, some with a wrong byte or another class, random marks, some of them wrong,
-    /// files, some of them with a wrong byte, cut or longer, heights and points, some beyond, and
-    /// outputs for corners of cells, some too short.
+    /// files, some of them with a wrong byte, cut or longer, heights and points, some beyond, heights
+    /// that are carried, and outputs for corners of cells, some too short.
     #[test]
     fn tuned_is_as_the_library() {
         let mut random = Random::new(600);
-        let (mut seen, mut cornered, mut projected) = ([0; 17], 0, 0);
-        for turn in 0..5000 {
+        let (mut seen, mut cornered, mut projected, mut carried) = ([0; 18], 0, 0, 0);
+        for turn in 0..6000 {
             let degrees = (random.below(4) as u32 + 1, random.below(4) as u32 + 1);
             let class = random.pick(&[0, 2, 2, 3, 4, 5, 8]);
             let most = if turn % 100 == 0 { 21_845 } else { random.pick(&[500, 500, 1_300]) };
-            let plan = random_plan(&mut random, degrees, class, most);
-            cornered += u32::from(has_corners(plan));
-            let mut tables = Tables::with_refined(plan, &random_refined(&mut random, plan));
-            let call = match random.below(13) {
+            let call = match random.below(16) {
                 0 => random.pick(&[Call::Open, Call::Check, Call::Count]),
                 1 => Call::Read,
                 2 => Call::Write,
                 3 | 4 => Call::Height,
                 5 | 6 => Call::Corners,
+                7..=9 => Call::WithHeights(random.pick(&Kind::REFINING)),
                 _ => Call::Change(random.pick(&Kind::ALL)),
             };
+            let plan = match call {
+                Call::WithHeights(_) if !random.once_in(4) => {
+                    let degrees = random.pick(&DEGREES);
+                    with_heights(&mut random, degrees, class, most)
+                }
+                _ => random_plan(&mut random, degrees, class, most),
+            };
+            cornered += u32::from(has_corners(plan));
+            let mut tables = Tables::with_refined(plan, &random_refined(&mut random, plan));
             let marks = marks(&mut random, call, &tables);
             let (heights, point) = (heights(&mut random, &tables), point(&mut random, plan));
             let out = output(&mut random, &tables);
@@ -409,9 +474,12 @@ mod tests {
             let number = agree(call, &before, &marks).0;
             seen[number as usize] += 1;
             projected += u32::from(number == 0 && matches!(call, Call::Corners));
+            let some = number == 0 && !marks.is_empty();
+            carried += u32::from(some && matches!(call, Call::WithHeights(_)));
         }
         assert!(seen.iter().all(|&count| count > 0), "{seen:?}");
-        assert!(cornered > 1000 && projected > 40, "{cornered} {projected}");
+        let often = (cornered, projected, carried);
+        assert!(cornered > 1000 && projected > 40 && carried > 100, "{often:?}");
     }
 
     fn wrong_byte(random: &mut Random, table: &mut [u8]) {
@@ -422,7 +490,12 @@ mod tests {
     /// Heights within the limits, most often, and in the right number.
     fn heights(random: &mut Random, tables: &Tables) -> Vec<i32> {
         let f = tables.functions.len();
-        let mut heights: Vec<i32> = (0..f).map(|_| random.bits() as i32 % 65_537).collect();
+        let of_level = random.once_in(2); // up to the limit of its level, or of level 0
+        let mut heights: Vec<i32> = tables
+            .plan
+            .functions()
+            .map(|function| random.bits() as i32 % most(if of_level { function.level } else { 0 }))
+            .collect();
         match random.below(6) {
             0 => heights[random.below(f)] = random.pick(&[65_537, -65_537, i32::MAX, i32::MIN]),
             1 => heights.push(0),
@@ -450,7 +523,7 @@ mod tests {
     }
 
     fn marks(random: &mut Random, call: Call, tables: &Tables) -> Vec<u32> {
-        let Call::Change(kind) = call else {
+        let (Call::Change(kind) | Call::WithHeights(kind)) = call else {
             return vec![];
         };
         let markable = tables.markable(kind);

@@ -1,5 +1,6 @@
 //! Running a call of the compiled library on lent tables and holding everything it did to the model.
 
+use model::shape::refine_with_heights;
 use model::{Cell, Function, Mesh, Plan};
 use std::collections::BTreeSet;
 use std::fmt::Debug;
@@ -63,6 +64,9 @@ use Kind::*;
 impl Kind {
     pub const ALL: [Kind; 4] = [RefineCells, RefineFunctions, CoarsenCells, CoarsenFunctions];
 
+    /// Those that there are with heights too.
+    pub const REFINING: [Kind; 2] = [RefineCells, RefineFunctions];
+
     pub fn refines(self) -> bool {
         matches!(self, RefineCells | RefineFunctions)
     }
@@ -95,6 +99,15 @@ impl Kind {
             RefineFunctions => ffi::wallmirror_refine_functions,
             CoarsenCells => ffi::wallmirror_coarsen_cells,
             CoarsenFunctions => ffi::wallmirror_coarsen_functions,
+        }
+    }
+
+    /// The call with heights.
+    pub fn with_heights(self) -> ffi::ChangeWithHeights {
+        match self {
+            RefineCells => ffi::wallmirror_refine_cells_with_heights,
+            RefineFunctions => ffi::wallmirror_refine_functions_with_heights,
+            CoarsenCells | CoarsenFunctions => panic!("coarsening carries no heights"),
         }
     }
 
@@ -571,6 +584,75 @@ impl Tables {
         let cell_list = vec![0xdead_beef; self.cells.len()];
         let function_list = vec![0xfeed_f00d; self.functions.len()];
         self.call(kind, marks, &cell_list, &function_list)
+    }
+
+    /// Runs one of the two refining calls with heights, with the lists as lent. Tables and heights are
+    /// then as it left them.
+    pub fn refine_with_heights(
+        &mut self,
+        kind: Kind,
+        heights: &mut Vec<i32>,
+        marks: &[u32],
+        cell_list: &[u32],
+        function_list: &[u32],
+    ) -> Outcome {
+        let (mut cells, mut functions) = self.lend();
+        let mut lent_heights = Lent::new(heights, 0x2468_ace1);
+        let mut lent_marks = Lent::new(marks, 0x1234_5678);
+        let mut cell_lent = Lent::new(cell_list, 0x8765_4321);
+        let mut function_lent = Lent::new(function_list, 0x1357_9bdf);
+        let (plan, many) = (self.plan, heights.len());
+        let said = || {
+            let few = &marks[..marks.len().min(40)];
+            format!("{kind:?} with {many} heights {plan:?}, {} marks {few:?}", marks.len())
+        };
+        // SAFETY: separate buffers of these lengths.
+        let answer = unsafe {
+            kind.with_heights()(
+                raw(self.plan),
+                cells.pointer(),
+                cells.len(),
+                functions.pointer(),
+                functions.len(),
+                lent_heights.pointer(),
+                lent_heights.len(),
+                lent_marks.pointer(),
+                lent_marks.len(),
+                cell_lent.pointer(),
+                cell_lent.len(),
+                function_lent.pointer(),
+                function_lent.len(),
+            )
+        };
+        let (tables, rooms) =
+            ((&self.cells[..], &self.functions[..]), (cell_list.len(), function_list.len()));
+        let outcome =
+            match refine_with_heights(kind.of_model(), plan, tables, heights, marks, rooms) {
+                Err(number) => {
+                    let refused = ffi::Answer { number, cells: 0, functions: 0 };
+                    assert_eq!(answer, refused, "{}", said());
+                    Outcome { number, cells: vec![], functions: vec![] }
+                }
+                Ok((change, carried)) => {
+                    let accepted = ffi::Answer {
+                        number: 0,
+                        cells: change.cell_list.len() as u32,
+                        functions: change.function_list.len() as u32,
+                    };
+                    assert_eq!(answer, accepted, "{}", said());
+                    (self.cells, self.functions) = (change.cells, change.functions);
+                    *heights = carried;
+                    Outcome { number: 0, cells: change.cell_list, functions: change.function_list }
+                }
+            };
+        cells.expect(&self.cells, "cell table", &said);
+        functions.expect(&self.functions, "function table", &said);
+        lent_heights.expect(heights, "heights", &said);
+        lent_marks.expect(marks, "marks", &said);
+        cell_lent.expect(&overwritten(cell_list, &outcome.cells), "cell list", &said);
+        let functions_then = overwritten(function_list, &outcome.functions);
+        function_lent.expect(&functions_then, "function list", &said);
+        outcome
     }
 
     /// Over each active cell of level k, with a class m other than 0, the active functions have levels

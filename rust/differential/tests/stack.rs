@@ -3,6 +3,7 @@
 
 use differential::scenario::{self, Scenario};
 use differential::{raw, Kind, Tables};
+use model::Plan;
 use std::arch::asm;
 use std::collections::BTreeMap;
 use std::ffi::c_void;
@@ -28,9 +29,17 @@ fn each_call(scenarios: &[Scenario], mut visit: impl FnMut(&str, &str, Ready)) {
             for marks in [&markable[..0], &markable[last..], &markable[..]] {
                 let place = format!("{scenario}, {} marks", marks.len());
                 change(kind, tables, marks, |ready| visit(kind.name(), &place, ready));
+                if kind.refines() && has_heights(tables.plan) {
+                    let name = format!("{} with heights", kind.name());
+                    with_heights(kind, tables, marks, |ready| visit(&name, &place, ready));
+                }
             }
         }
     }
+}
+
+fn has_heights(plan: Plan) -> bool {
+    plan.levels <= 4 && plan.degree_across <= 2 && plan.degree_up <= 2
 }
 
 fn each_call_without_marks(
@@ -49,7 +58,7 @@ fn each_call_without_marks(
     visit("count", place, &mut || unsafe {
         ffi::wallmirror_count(raw(plan), cells.as_ptr(), t, functions.as_ptr(), f).number
     });
-    if plan.levels <= 4 && plan.degree_across <= 2 && plan.degree_up <= 2 {
+    if has_heights(plan) {
         let heights = vec![-65_536; f];
         let (across, up) = model::height::far_edges(plan);
         for (across, up) in [(0, 0), (across / 3, up / 3), (across, up)] {
@@ -95,6 +104,32 @@ fn change(kind: Kind, tables: &Tables, marks: &[u32], visit: impl FnOnce(Ready))
             cells.len(),
             functions.as_mut_ptr(),
             functions.len(),
+            marks.as_ptr(),
+            marks.len(),
+            cell_list.as_mut_ptr(),
+            cell_list.len(),
+            function_list.as_mut_ptr(),
+            function_list.len(),
+        )
+        .number
+    });
+}
+
+fn with_heights(kind: Kind, tables: &Tables, marks: &[u32], visit: impl FnOnce(Ready)) {
+    let Tables { plan, mut cells, mut functions } = tables.clone();
+    let (mut cell_list, mut function_list) = (vec![0; cells.len()], vec![0; functions.len()]);
+    // 4,096 mm on level 0 and less on the others, so that no carried height is beyond the limit.
+    let mut heights = vec![-4_096; functions.len()];
+    // SAFETY: separate vectors of these lengths.
+    visit(&mut || unsafe {
+        kind.with_heights()(
+            raw(plan),
+            cells.as_mut_ptr(),
+            cells.len(),
+            functions.as_mut_ptr(),
+            functions.len(),
+            heights.as_mut_ptr(),
+            heights.len(),
             marks.as_ptr(),
             marks.len(),
             cell_list.as_mut_ptr(),
@@ -216,7 +251,7 @@ fn measure(scenarios: &[Scenario]) {
         }
     });
     for (name, (used, place)) in &greatest {
-        println!("{name:<18} {used:>7} bytes of stack at most: {place}");
+        println!("{name:<29} {used:>7} bytes of stack at most: {place}");
     }
     for (name, (used, place)) in greatest {
         assert!(used <= STACK_BYTES, "{name} takes {used} bytes of stack: {place}");

@@ -37,6 +37,12 @@ impl Fraction {
         Fraction { numerator: self.numerator.abs(), ..self }
     }
 
+    /// The whole number that this fraction is. That it is one is seen here.
+    pub fn to_whole(self) -> i128 {
+        assert_eq!(self.denominator, 1, "{self:?} is not whole");
+        self.numerator
+    }
+
     /// The f64 that is just this fraction. That there is one is seen here: the fraction is an odd
     /// number, or 0, times a power of two, and 53 bits hold the odd number.
     pub fn to_f64(self) -> f64 {

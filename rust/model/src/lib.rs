@@ -18,6 +18,7 @@ pub mod height;
 pub mod knots;
 pub mod projector;
 pub mod session;
+pub mod shape;
 
 #[derive(Clone, Copy, Debug, PartialEq, Eq)]
 pub struct Plan {
@@ -87,14 +88,22 @@ impl Plan {
 
     /// The knots across on a level, and with them its functions across.
     pub fn across(self, level: u32) -> Rc<Knots> {
-        let (columns, degree, corners) = (self.columns, self.degree_across, self.corners_across);
-        Knots::of(Direction { columns, level, degree, corners })
+        Knots::of(self.direction_across(level))
     }
 
     /// The knots up on a level, and with them its functions up.
     pub fn up(self, level: u32) -> Rc<Knots> {
+        Knots::of(self.direction_up(level))
+    }
+
+    fn direction_across(self, level: u32) -> Direction {
+        let (columns, degree, corners) = (self.columns, self.degree_across, self.corners_across);
+        Direction { columns, level, degree, corners }
+    }
+
+    fn direction_up(self, level: u32) -> Direction {
         let (columns, degree, corners) = (self.rows, self.degree_up, self.corners_up);
-        Knots::of(Direction { columns, level, degree, corners })
+        Direction { columns, level, degree, corners }
     }
 
     /// All cells of all levels in the order of their numbers.

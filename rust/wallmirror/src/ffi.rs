@@ -120,11 +120,65 @@ macro_rules! changes {
     };
 }
 
+/// A refining call with heights.
+///
+/// # Safety
+///
+/// As [`Change`] says.
+pub type ChangeWithHeights = unsafe extern "C" fn(
+    plan: Plan,
+    cells: *mut u8,
+    cells_len: usize,
+    functions: *mut u8,
+    functions_len: usize,
+    heights: *mut i32,
+    heights_len: usize,
+    marks: *const u32,
+    marks_len: usize,
+    cell_list: *mut u32,
+    cell_list_len: usize,
+    function_list: *mut u32,
+    function_list_len: usize,
+) -> Answer;
+
+macro_rules! changes_with_heights {
+    ($($name:ident: $safe:ident)*) => {
+        unsafe extern "C" {
+            $(
+            #[doc = concat!("As [`crate::", stringify!($safe), "`].")]
+            ///
+            /// # Safety
+            ///
+            /// As [`Change`] says.
+            pub fn $name(
+                plan: Plan,
+                cells: *mut u8,
+                cells_len: usize,
+                functions: *mut u8,
+                functions_len: usize,
+                heights: *mut i32,
+                heights_len: usize,
+                marks: *const u32,
+                marks_len: usize,
+                cell_list: *mut u32,
+                cell_list_len: usize,
+                function_list: *mut u32,
+                function_list_len: usize,
+            ) -> Answer;)*
+        }
+    };
+}
+
 changes! {
     wallmirror_refine_cells: refine_cells
     wallmirror_refine_functions: refine_functions
     wallmirror_coarsen_cells: coarsen_cells
     wallmirror_coarsen_functions: coarsen_functions
+}
+
+changes_with_heights! {
+    wallmirror_refine_cells_with_heights: refine_cells_with_heights
+    wallmirror_refine_functions_with_heights: refine_functions_with_heights
 }
 
 unsafe extern "C" {

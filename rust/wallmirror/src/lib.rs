@@ -153,12 +153,12 @@
 //! # Undo
 //!
 //! A run of calls is undone by its own cell lists, given from the last to the first, each to the
-//! opposite call by cells ([`coarsen_cells`] for either refining call, [`refine_cells`] for either
-//! coarsening one), with output lists at least as long as the kept ones. Each is accepted and names
-//! the same cells and functions as the call it takes back, and both tables end as they began. A
-//! refused call has changed nothing and counts as one with empty lists: no marks at all, which is
-//! accepted. What is asked is that the first mesh passes [`check`] and that nothing else writes the
-//! tables.
+//! opposite call by cells ([`coarsen_cells`] for a refining call, with heights or without,
+//! [`refine_cells`] for either coarsening one), with output lists at least as long as the kept ones.
+//! Each is accepted and names the same cells and functions as the call it takes back, and both
+//! tables end as they began. A refused call has changed nothing and counts as one with empty lists:
+//! no marks at all, which is accepted. What is asked is that the first mesh passes [`check`] and that
+//! nothing else writes the tables.
 //!
 //! ```
 //! # use wallmirror::{coarsen_cells, open, refine_functions, Cell, Function, Plan};
@@ -270,6 +270,44 @@
 //! # Ok::<(), wallmirror::Refusal>(())
 //! ```
 //!
+//! # Heights that are kept
+//!
+//! [`refine_cells`] and [`refine_functions`] change which functions are active, and so the surface,
+//! if the heights stay as they are. [`refine_cells_with_heights`] and
+//! [`refine_functions_with_heights`] keep it: every point that [`height`] answers before has the same
+//! height after, in every bit. A function that becomes deactivated passes its height to its children,
+//! those of the next level of which it is made, level by level, the coarsest first, through children
+//! that are deactivated already or by the same call. What it passes are the coefficients of knot
+//! insertion: across, a function of degree 2 away from ends and corners is 1/4, 3/4, 3/4, 1/4 of four
+//! children in a row, one of degree 1 is 1/2, 1, 1/2 of three, and up it is the same. So sixteenths
+//! of a height of level k are passed, and these are whole heights of level k + 1: nothing is rounded.
+//! A function that was not active before starts from 0, whatever stands there, and one that is not
+//! active after gets 0.
+//!
+//! ```
+//! # use wallmirror::{height, open, refine_cells, refine_cells_with_heights, Cell, Function, Plan};
+//! let plan = Plan { columns: 3, levels: 3, class: 2, ..Plan::default() };
+//! # let (mut cells, mut functions) = (vec![0; 63], vec![0; 94]);
+//! # let (mut cell_list, mut function_list) = ([Cell(0); 63], [Function(0); 94]);
+//! # let (cell_list, function_list) = (&mut cell_list[..], &mut function_list[..]);
+//! # open(plan, &mut cells, &mut functions)?;
+//! refine_cells(plan, &mut cells, &mut functions, &[Cell(0)], cell_list, function_list)?;
+//! let mut heights = vec![0; functions.len()];
+//! (heights[1], heights[9]) = (10, 8); // 10 mm, and 8/16 mm
+//! assert_eq!(height(plan, &cells, &functions, &heights, 16, 0), Ok(5.5));
+//! let changed = refine_cells_with_heights(
+//!     plan, &mut cells, &mut functions, &mut heights, &[Cell(1)], cell_list, function_list,
+//! )?;
+//! // Function 1 is 1/2 of functions 9 and 11 and 1 of function 10, and half of that in the next row.
+//! assert_eq!(function_list[..changed.functions], [Function(1), Function(5)]);
+//! assert_eq!((heights[1], &heights[9..12], &heights[16..19]), (0, &[88, 160, 80][..], &[40, 80, 40][..]));
+//! assert_eq!(height(plan, &cells, &functions, &heights, 16, 0), Ok(5.5));
+//! # Ok::<(), wallmirror::Refusal>(())
+//! ```
+//!
+//! Coarsening carries no heights, and the undo concerns the two tables and the two lists alone. To
+//! have the old heights back, keep them with the lists.
+//!
 //! # Projector
 //!
 //! [`Mesh::corners`] gives the surface as a grid that can be thrown or drawn: of each active cell,
@@ -315,8 +353,8 @@
 //! | functions of such a plan | at most [`MAX_FUNCTIONS`] |
 //! | marks of a call | any number |
 //! | file of a mesh | at most [`MAX_FILE_BYTES`] |
-//! | plan of [`height`] | degrees 1 and 2, at most four levels |
-//! | height of an active function | at most [`MAX_HEIGHT_MM`] either way |
+//! | plan of [`height`] | degrees 1 and 2, at most four levels; the same of refining with heights |
+//! | height of an active function | at most [`MAX_HEIGHT_MM`] either way, before and after |
 //! | plan of [`corners`] | the same, and at most [`MAX_PROJECTED_CELLS`] on all levels together |
 //! | stack of a call | at most [`STACK_BYTES`] |
 
@@ -512,7 +550,7 @@ pub struct Function(pub u32);
 
 /// Why a call was refused. Where several apply, the first of this order is given: 12; 1, 2; then 16,
 /// of [`corners`] alone; 3 to 6; then 3 of the heights, 14, 15; then the marks in list order, each
-/// tried for 7, 8, 9; then 10, 11; then 13.
+/// tried for 7, 8, 9; then 10, 11; then 13, or 17.
 #[derive(Clone, Copy, Debug, PartialEq, Eq, Hash)]
 #[repr(u32)]
 pub enum Refusal {
@@ -522,7 +560,7 @@ pub enum Refusal {
     /// All levels together have more than [`MAX_CELLS`] cells.
     TooManyCells = 2,
     /// The cell table has not [`Plan::cells`] bytes, or the function table not [`Plan::functions`].
-    /// Of [`height`] and [`corners`] also, after 6: the heights are not as many as the functions.
+    /// Of the calls with heights also, after 6: the heights are not as many as the functions.
     TableLength = 3,
     /// The cell bytes are not a mesh: another byte than 0, 1, 2, an absent cell of level 0, a
     /// refined cell with an absent child, any other cell with a child that is not absent, or a
@@ -558,11 +596,14 @@ pub enum Refusal {
     PointOrHeightOutOfRange = 15,
     /// Of [`corners`]: all levels together have more than [`MAX_PROJECTED_CELLS`] cells.
     TooManyCellsToProject = 16,
+    /// Of refining with heights: a carried height of an active function is more than
+    /// [`MAX_HEIGHT_MM`] either way.
+    CarriedHeightOutOfRange = 17,
 }
 
 impl Refusal {
     /// All refusals in the order of their numbers.
-    pub const ALL: [Refusal; 16] = [
+    pub const ALL: [Refusal; 17] = [
         Refusal::PlanOutOfRange,
         Refusal::TooManyCells,
         Refusal::TableLength,
@@ -579,9 +620,10 @@ impl Refusal {
         Refusal::PlanWithoutHeights,
         Refusal::PointOrHeightOutOfRange,
         Refusal::TooManyCellsToProject,
+        Refusal::CarriedHeightOutOfRange,
     ];
 
-    /// The number that the library answers, 1 to 16.
+    /// The number that the library answers, 1 to 17.
     pub fn number(self) -> u32 {
         self as u32
     }
@@ -638,6 +680,9 @@ impl fmt::Display for Refusal {
             }
             Refusal::TooManyCellsToProject => {
                 "all levels together have more than 1024 cells, which is too many for the projector"
+            }
+            Refusal::CarriedHeightOutOfRange => {
+                "the height that is carried to an active function is more than 65536 mm either way"
             }
         };
         write!(f, "refusal {}: {message}", self.number())
@@ -942,6 +987,97 @@ fn change(
     Ok(Changed { cells: answer.cells as usize, functions: answer.functions as usize })
 }
 
+/// As [`refine_cells`], and the heights are carried, so that the surface keeps its shape: what is
+/// carried is said [above](crate#heights-that-are-kept). Tables, lists and answer are those of the
+/// call without heights; functions that are not active then have a height of 0. Refuses 1 to 6; then
+/// 3 where there is not one height for each function; then 14; then 15, for the heights; then 7 to
+/// 11; then 17. After a refusal the heights too are what they were.
+///
+/// ```
+/// # use wallmirror::{open, refine_cells_with_heights, Cell, Function, Plan, Refusal};
+/// let plan = Plan { columns: 2, levels: 2, ..Plan::default() };
+/// # let (t, f) = (plan.cells().unwrap(), plan.functions().unwrap());
+/// # let (mut cells, mut functions) = (vec![0; t], vec![0; f]);
+/// # let (mut cell_list, mut function_list) = (vec![Cell(0); t], vec![Function(0); f]);
+/// # let (cell_list, function_list) = (&mut cell_list[..], &mut function_list[..]);
+/// open(plan, &mut cells, &mut functions)?;
+/// let mut heights = vec![0; functions.len()];
+/// (heights[0], heights[1]) = (65_536, 65_536);
+/// let (cells, functions, heights) = (&mut cells[..], &mut functions[..], &mut heights[..]);
+/// let marks = [Cell(0)];
+/// refine_cells_with_heights(plan, cells, functions, heights, &marks, cell_list, function_list)?;
+/// // Function 0 is function 6 of level 1 and half of function 7. Function 1 is still active.
+/// assert_eq!((heights[0], heights[6], heights[7]), (0, 65_536 * 16, 32_768 * 16));
+/// // It is the other half of function 7, for which a unit more is then too much.
+/// heights[7] += 1;
+/// let before = heights.to_vec();
+/// let marks = [Cell(1)];
+/// let refused =
+///     refine_cells_with_heights(plan, cells, functions, heights, &marks, cell_list, function_list);
+/// assert_eq!(refused, Err(Refusal::CarriedHeightOutOfRange));
+/// assert_eq!(heights, before);
+/// # Ok::<(), Refusal>(())
+/// ```
+pub fn refine_cells_with_heights(
+    plan: Plan,
+    cells: &mut [u8],
+    functions: &mut [u8],
+    heights: &mut [i32],
+    marks: &[Cell],
+    cell_list: &mut [Cell],
+    function_list: &mut [Function],
+) -> Result<Changed, Refusal> {
+    let call = ffi::wallmirror_refine_cells_with_heights;
+    let (tables, lists) = ((cells, functions), (cell_list, function_list));
+    change_with_heights(call, plan, tables, heights, cell_numbers(marks), lists)
+}
+
+/// As [`refine_functions`], and the heights are carried, as [`refine_cells_with_heights`] says.
+pub fn refine_functions_with_heights(
+    plan: Plan,
+    cells: &mut [u8],
+    functions: &mut [u8],
+    heights: &mut [i32],
+    marks: &[Function],
+    cell_list: &mut [Cell],
+    function_list: &mut [Function],
+) -> Result<Changed, Refusal> {
+    let call = ffi::wallmirror_refine_functions_with_heights;
+    let (tables, lists) = ((cells, functions), (cell_list, function_list));
+    change_with_heights(call, plan, tables, heights, function_numbers(marks), lists)
+}
+
+fn change_with_heights(
+    call: ffi::ChangeWithHeights,
+    plan: Plan,
+    (cells, functions): (&mut [u8], &mut [u8]),
+    heights: &mut [i32],
+    marks: &[u32],
+    (cell_list, function_list): (&mut [Cell], &mut [Function]),
+) -> Result<Changed, Refusal> {
+    // SAFETY: pointers and lengths are those of slices; the mutable ones overlap no other. Cell and
+    // Function are transparent over u32.
+    let answer = unsafe {
+        call(
+            plan.raw(),
+            cells.as_mut_ptr(),
+            cells.len(),
+            functions.as_mut_ptr(),
+            functions.len(),
+            heights.as_mut_ptr(),
+            heights.len(),
+            marks.as_ptr(),
+            marks.len(),
+            cell_list.as_mut_ptr().cast(),
+            cell_list.len(),
+            function_list.as_mut_ptr().cast(),
+            function_list.len(),
+        )
+    };
+    accepted(answer.number)?;
+    Ok(Changed { cells: answer.cells as usize, functions: answer.functions as usize })
+}
+
 /// Makes both tables the mesh of the file, whatever they held, and answers its plan. Refuses 12,
 /// judged over all numbers of the file; then 1 to 5, where 3 is said of the lent tables, 4 also of a
 /// listed cell that is not below the number of cells, and 4 and 5 of the mesh with the listed cells
@@ -1143,6 +1279,7 @@ mod tests {
         assert!(include_str!("../../../examples/c/file.c").contains(blocks[1]));
         assert!(documentation.contains(include_str!("../examples/file.rs")));
         assert!(documentation.contains(include_str!("../examples/nudge.expected")));
+        assert!(documentation.contains(include_str!("../examples/refine.expected")));
     }
 
     #[test]
@@ -1170,7 +1307,7 @@ mod tests {
             assert!(refusal.to_string().starts_with(&format!("refusal {}: ", i + 1)));
         }
         assert_eq!(Refusal::from_number(0), None);
-        assert_eq!(Refusal::from_number(17), None);
+        assert_eq!(Refusal::from_number(18), None);
     }
 
     #[test]
