@@ -28,6 +28,7 @@ pictures:
 	docs/corner.sh > docs/corner.svg
 	docs/projector.sh > docs/projector.svg
 	docs/nudge.sh > docs/nudge.svg
+	docs/shape.sh > docs/shape.svg
 
 install: all
 	install -d "$(DESTDIR)$(PREFIX)/include" "$(DESTDIR)$(PREFIX)/lib"
