@@ -66,10 +66,10 @@
  * back, and both tables end as they began. A refused call has changed nothing and has lengths 0:
  * its list is no marks at all, which is accepted and changes nothing. What is asked is that the
  * first mesh passes wallmirror_check and that nothing else writes the tables. In class 0 a run of
- * wallmirror_refine_functions alone may also be taken back by its function lists, from the last to
- * the first, each given to wallmirror_coarsen_functions. This holds where on the first mesh each
- * refined cell lies in the support of a deactivated function of its own level, as on a mesh just
- * opened.
+ * refinements by functions alone, with heights or without, may also be taken back by its function
+ * lists, from the last to the first, each given to wallmirror_coarsen_functions. This holds where
+ * on the first mesh each refined cell lies in the support of a deactivated function of its own
+ * level, as on a mesh just opened.
  *
  * Files. The file of a mesh is bytes that the caller keeps where it likes: wallmirror_write makes
  * them of a mesh, wallmirror_read makes the mesh of them. They are a list of numbers: the first six

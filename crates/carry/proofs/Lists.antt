@@ -1,5 +1,5 @@
 -- Lists of heights: their lengths, their entries, and when two are the same. Assumes nothing.
-use mathlib.Core.Path.{_≡_, refl, sym, ap, ap₂, _∙_}
+use mathlib.Core.Path.{_≡_, refl, ap, ap₂, _∙_}
 use mathlib.Core.List.{List, [], _∷_}
 use Prim.Native.Nat.{ℕ, zero, suc, _≤_, _<_}
 use native.Mathlib.Nat.{le-of-suc-le-suc, zero-lt-suc}
@@ -39,6 +39,3 @@ heights-all (x ∷ xs) = ap (λ ys. x ∷ ys) (heights-all xs)
 
 pub heights-is : (n : ℕ) (h : ℕ → ℤ) (xs : List ℤ) → length xs ≡ n → ((i : ℕ) → i < n → at xs i ≡ h i) → xs ≡ heightsOf n h
 heights-is n h xs s e = heights-all xs ∙ ap (λ m. heightsOf m (at xs)) s ∙ heights-same n (at xs) h e
-
-pub list-same : (xs ys : List ℤ) → length xs ≡ length ys → ((i : ℕ) → i < length ys → at xs i ≡ at ys i) → xs ≡ ys
-list-same xs ys s e = heights-is (length ys) (at ys) xs s e ∙ sym (heights-all ys)

@@ -4,19 +4,24 @@ use mathlib.Core.List.{List, [], _∷_}
 use mathlib.Core.Path.{_≡_, refl}
 use Prim.Native.Nat.{ℕ}
 use lib.Dec.{eqb}
-use lib.IntN.{ℤ, pos}
+use lib.IntN.{ℤ, pos, negsuc}
+use lib.Ieee.{odd, ofBits, binary64}
 use lib.ListN.{getD}
 use Rattle.facts.specs.Bounded.{some, every}
 use Rattle.facts.specs.Numbers.{elem, listed, tabulate, stored, first}
 use Rattle.hierarchy.specs.Hierarchy.{reach, needs, closure}
+use Rattle.exact.specs.Dyadic.{over, dyadic}
+use Rattle.exact.specs.Sums.{sumℤ}
+use Rattle.grid.specs.declared.Plan.{Plan}
 use Rattle.grid.specs.Numbering.{offset, number, levelOf, placeOn, place}
 use Rattle.grid.specs.Knots.{isSet, isCorner, cornersTo, times, knotFrom, knot, beyond, functions as functionCount, covers, apart, together}
 use Rattle.grid.specs.Plan.{between, numbersInRange, cornersInRange, inRange, tooLarge, ratio, grown, above, below, parent, child, lastLevel, supportedAt, supported, ancestor, nearAt, near, planOf, functionTotal}
 use Rattle.mesh.specs.Mesh.{absent, active, refined, reactivable, children, cellFits, isMesh, isAdmissible, tableOf, labelOf, labels, isLabelled, refusal3, refusal6, check}
 use Rattle.outcomes.specs.Calls.{coarsen, cells as byCells, functions as byFunctions, underKept, eligible, isTooDeep, markRefusal, underMarked, selected, base, smallest, changed, written, refused, settle, newCells, refusal, outcome}
 use Rattle.outcomes.specs.Runs.{Tables, LentLists, Entry, result}
-use Rattle.splines.specs.Values.{rise, fall, box, basis, scale, cellOf}
-use Rattle.heights.specs.Heights.{inexact, low, lowOn, allLow, heightsRefusal}
+use Rattle.splines.specs.Values.{rise, fall, box, basis, scale, cellOf, value, valueIn, valueOn}
+use Rattle.heights.specs.declared.Height.the-variants.{At}
+use Rattle.heights.specs.Heights.{eighths, onMesh, valueAt, productOf, heightSum, inexact, low, lowOn, allLow, heightsRefusal, refusal as pointRefusal, answer}
 use Rattle.twoscale.specs.TwoScale.{coefficient, quarters}
 use Rattle.carry.specs.Carry.{sixteenths, heightsOf, passOn, carried, onlyActive, carry}
 use Rattle.refining.specs.Seasons.{SeasonCall, plain, carrying, directionOf, resultOf, afterIt, entryOf, finalOf, logOf}
@@ -119,6 +124,31 @@ pub became :
     ≡ 17 ∷ 0 ∷ []
 unfolding some every elem listed tabulate stored first reach needs closure offset number levelOf placeOn place between numbersInRange cornersInRange inRange ratio grown tooLarge lastLevel above below parent child isSet isCorner cornersTo times knotFrom knot beyond functionCount covers apart together supportedAt supported ancestor nearAt near absent active refined children cellFits isMesh isAdmissible tableOf labelOf labels isLabelled refusal3 refusal6 check eligible isTooDeep markRefusal underMarked selected base smallest changed written refused settle newCells refusal outcome rise fall box basis scale cellOf inexact low lowOn allLow heightsRefusal coefficient quarters sixteenths heightsOf passOn carried onlyActive carry tablesRefusal refusedWith carryInto outcomeWithHeights
 became = refl
+
+-- ---- the same height, to the bit: degrees 2 and 1, three columns with a corner before the second, all of which become refined. Functions 1 and
+-- 2 have -10 and 64 mm; at the point 12, 3 they have the values 3/8 and 9/16 across, and 13/16 up
+
+abbrev pub cornered : Plan
+cornered = planOf (3 ∷ 1 ∷ 2 ∷ 2 ∷ 1 ∷ 0 ∷ 2 ∷ 0 ∷ [])
+
+abbrev pub bumped : List ℤ
+bumped = heightsOf (functionTotal cornered) (two 1 (negsuc 9) 2 (pos 64))
+
+abbrev pub smooth : List ℕ
+smooth = tableOf cornered (λ c. elem c [])
+
+abbrev pub split : WithHeights
+split = refineCellsWithHeights cornered smooth (labels cornered smooth) bumped (0 ∷ 1 ∷ 2 ∷ []) (tabulate 3 (λ i. 77)) (tabulate 12 (λ i. 77))
+
+pub stays :
+    answer cornered smooth (labels cornered smooth) bumped 12 3
+    ∷ answer cornered (split .outcome .cells) (split .outcome .functions) (split .heights) 12 3
+    ∷ []
+    ≡ At (ofBits binary64 0x403a_3400_0000_0000)
+    ∷ At (ofBits binary64 0x403a_3400_0000_0000)
+    ∷ []
+unfolding some every elem listed tabulate stored first reach needs closure offset number levelOf placeOn place between numbersInRange cornersInRange inRange ratio grown tooLarge lastLevel above below parent child isSet isCorner cornersTo times knotFrom knot beyond functionCount covers apart together supportedAt supported ancestor nearAt near absent active refined children cellFits isMesh isAdmissible tableOf labelOf labels isLabelled refusal3 refusal6 check eligible isTooDeep markRefusal underMarked selected base smallest changed written refused settle newCells refusal outcome rise fall box basis scale cellOf inexact low lowOn allLow heightsRefusal coefficient quarters sixteenths heightsOf passOn carried onlyActive carry tablesRefusal refusedWith carryInto outcomeWithHeights value valueIn valueOn eighths onMesh valueAt productOf heightSum pointRefusal answer sumℤ over dyadic odd ofBits
+stays = refl
 
 -- ---- a season: a refinement with heights, one that is refused with 15, and a coarsening without heights
 

@@ -7,21 +7,22 @@ use Rattle.grid.specs.declared.Side.{Side}
 use Rattle.grid.specs.Knots.{knotOn}
 use Rattle.twoscale.specs.declared.Children.{Children}
 
--- function i has the knots t 0 to t (p + 1), and a child for each half between them and one more. Each of the first and the last child gets
--- 1 / 2 ^ d, where the inner knots beside it are d lines from the function's end; a child between them gets 1 where all inner knots lie on one
--- line, else 3/4
+-- function i has the knots i to i + p + 1. Its children are the functions i + t to i + t′ of the next level, where t and t′ are the lines of
+-- its first and its last knot: one more than the cells that it covers. The first child gets 1 / 2 ^ d, where d lines lie between the first
+-- knot and the last but one; the last child likewise, from the second knot to the last; one between them gets 1 where the second knot and the
+-- last but one lie on one line, else 3/4
 unfoldable pub childrenOf : Side → ℕ → Children
 childrenOf s i =
     let p = s .degree in
     let first = knotOn s i in
     let second = knotOn s (i + 1) in
-    let third = knotOn s (i + p) in
+    let lastButOne = knotOn s (i + p) in
     let last = knotOn s (i + p + 1) in
     record {
       first = i + first;
       last = i + last;
-      low = 4 / 2 ^ (third - first);
-      middle = cond (eqb second third) 4 3;
+      low = 4 / 2 ^ (lastButOne - first);
+      middle = cond (eqb second lastButOne) 4 3;
       high = 4 / 2 ^ (last - second);
     }
 

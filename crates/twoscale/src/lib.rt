@@ -42,11 +42,11 @@ fn end_quarters(lines: u32) -> u32
     4 >> lines
 }
 
-// Of a child between the first and the last: all four where the function's inner knots lie on one line, else three.
-fn middle_quarters(second: u32, third: u32) -> u32
-    ensures { λ r. ⌜ r ≡ cond (eqb second third) 4 3 ⌝ }
+// Of a child between the first and the last: all four where the function's second knot and its last but one lie on one line, else three.
+fn middle_quarters(second: u32, last_but_one: u32) -> u32
+    ensures { λ r. ⌜ r ≡ cond (eqb second «last_but_one») 4 3 ⌝ }
 {
-    if second == third { 4 } else { 3 }
+    if second == last_but_one { 4 } else { 3 }
 }
 
 // The children of function i.
@@ -58,13 +58,13 @@ pub fn children_of(side: Side, i: u32) -> Children
     let degree = side.degree;
     let first = side.knot(i);
     let second = side.knot(i + 1);
-    let third = side.knot(i + degree);
+    let last_but_one = side.knot(i + degree);
     let last = side.knot(i + degree + 1);
     Children {
         first: i + first,
         last: i + last,
-        low: end_quarters(third - first),
-        middle: middle_quarters(second, third),
+        low: end_quarters(last_but_one - first),
+        middle: middle_quarters(second, last_but_one),
         high: end_quarters(last - second),
     }
 }

@@ -179,10 +179,10 @@
 //! # Ok::<(), wallmirror::Refusal>(())
 //! ```
 //!
-//! In class 0 a run of [`refine_functions`] alone may also be undone by its function lists, from
-//! the last to the first, each given to [`coarsen_functions`]. This holds where on the first mesh
-//! each refined cell lies in the support of a deactivated function of its own level, as on a mesh
-//! just opened.
+//! In class 0 a run of refinements by functions alone, with heights or without, may also be undone
+//! by its function lists, from the last to the first, each given to [`coarsen_functions`]. This
+//! holds where on the first mesh each refined cell lies in the support of a deactivated function of
+//! its own level, as on a mesh just opened.
 //!
 //! # Files
 //!

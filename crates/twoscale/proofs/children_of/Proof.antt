@@ -17,8 +17,8 @@ first-is c = c .knot .ensures ∙ ap (knotOn (c .before .args .side)) (omega ari
 second-is : (c : tie.After-knot2) → c .knot2 .result ≡ knotOn (c .before .before .args .side) (c .before .before .args .i + 1)
 second-is c = c .knot2 .ensures ∙ ap (knotOn (c .before .before .args .side)) (omega arith)
 
-third-is : (c : tie.After-knot3) → c .knot3 .result ≡ knotOn (c .before .before .before .args .side) (c .before .before .before .args .i + c .before .before .before .args .side .degree)
-third-is c = c .knot3 .ensures ∙ ap (knotOn (c .before .before .before .args .side)) (omega arith)
+last-but-one-is : (c : tie.After-knot3) → c .knot3 .result ≡ knotOn (c .before .before .before .args .side) (c .before .before .before .args .i + c .before .before .before .args .side .degree)
+last-but-one-is c = c .knot3 .ensures ∙ ap (knotOn (c .before .before .before .args .side)) (omega arith)
 
 last-is : (c : tie.After-knot4) → c .knot4 .result ≡ knotOn (c .before .before .before .before .args .side) (c .before .before .before .before .args .i + c .before .before .before .before .args .side .degree + 1)
 last-is c = c .knot4 .ensures ∙ ap (knotOn (c .before .before .before .before .args .side)) (omega arith)
@@ -61,10 +61,10 @@ add-t9 : tie.Need-add-t9
 add-t9 c = omega (arith, small (c .before .before .before .before), last-is c, apart (c .before .before .before .before) .within, c .before .before .before .before .pre .0 .0 .cells≤)
 
 sub-end-quarters : tie.Need-sub-end-quarters
-sub-end-quarters c = omega (arith, first-is (c .before .before .before), third-is (c .before), apart (c .before .before .before .before) .low)
+sub-end-quarters c = omega (arith, first-is (c .before .before .before), last-but-one-is (c .before), apart (c .before .before .before .before) .low)
 
 end-quarters-requires : tie.Need-end-quarters-requires
-end-quarters-requires c κs = omega (arith, first-is (c .before .before .before), third-is (c .before), apart (c .before .before .before .before) .low≤)
+end-quarters-requires c κs = omega (arith, first-is (c .before .before .before), last-but-one-is (c .before), apart (c .before .before .before .before) .low≤)
 
 middle-quarters-requires : tie.Need-middle-quarters-requires
 middle-quarters-requires c κs = search needs
@@ -78,7 +78,7 @@ end-quarters-requires-2 c κs = omega (arith, second-is (c .before .before .befo
 returns : tie.Need-returns
 unfolding childrenOf
 returns c =
-    rw (c .end-quarters2 .ensures, c .before .middle-quarters .ensures, c .before .before .end-quarters .ensures, last-is (c .before .before .before), third-is (c .before .before .before .before), second-is (c .before .before .before .before .before), first-is (c .before .before .before .before .before .before)) refl
+    rw (c .end-quarters2 .ensures, c .before .middle-quarters .ensures, c .before .before .end-quarters .ensures, last-is (c .before .before .before), last-but-one-is (c .before .before .before .before), second-is (c .before .before .before .before .before), first-is (c .before .before .before .before .before .before)) refl
 
 pub children-of-spec : {M : Type 1} → statement M
 children-of-spec =
