@@ -1,9 +1,9 @@
 -- No height leaves 32 bits on its way: what a function gets is at most 16 sixteenths of the most of the level before. Assumes nothing.
-use mathlib.Core.Path.{_≡_, sym, ap, _∙_}
+use mathlib.Core.Path.{_≡_, refl, sym, ap, _∙_}
 use mathlib.Core.Bool.{Bool, true, false, cond}
 use mathlib.Core.List.{List}
 use Prim.Native.Nat.{ℕ, zero, suc, _+_, _-_, _*_, _^_, _≤_, _<_, zero-le}
-use native.Mathlib.Nat.{le-trans, add-sub-of-le, mul-le-mul-left, mul-le-mul-right, mul-zero}
+use native.Mathlib.Nat.{le-trans, le-of-eq, pow-suc, add-sub-of-le, mul-le-mul-left, mul-le-mul-right, mul-zero}
 use native.Mathlib.Omega.{arith}
 use lib.Dec.{eqb, eqb→eq, lit≤}
 use lib.IntN.{ℤ, pos, natAbs, _+ℤ_, _*ℤ_}
@@ -37,6 +37,11 @@ carried-length p fs (suc n) hs e = go (deactivated fs n) (carried-length p fs n 
 mostBefore : ℕ → ℕ
 mostBefore zero = 0
 mostBefore (suc k) = 65536 * 16 ^ k + mostBefore k * 16
+
+most-is : (k : ℕ) → mostBefore (suc k) ≡ suc k * (65536 * 16 ^ k)
+unfolding mostBefore
+most-is zero = refl
+most-is (suc k) = rw (pow-suc 16 k) (omega (arith, most-is k))
 
 four-levels : (k : ℕ) → k ≤ 4 → mostBefore k ≤ 1073741824
 unfolding mostBefore
@@ -97,9 +102,9 @@ module _ (p : Plan) (fs : List ℕ) (hs : List ℤ) (s : Started p hs) (scales :
       go true m = rw (passed-at p n before g b) (gets (eqb g n) m)
       go false m = omega arith
 
-  pub carried-small : (n g : ℕ) → n ≤ functionTotal p → g < functionTotal p → natAbs (at (carried p fs n hs) g) ≤ 2 ^ 30
-  carried-small n g l b =
-      le-trans (low n l g b) (le-trans (room-most n g l b) (four-levels (suc (functionLevel p g)) (omega (arith, function-inside p (s .allowed .range) g b .level<, s .allowed .levels≤))))
+  pub carried-small : (n g : ℕ) → n ≤ functionTotal p → g < functionTotal p
+      → natAbs (at (carried p fs n hs) g) ≤ suc (functionLevel p g) * (65536 * 16 ^ functionLevel p g)
+  carried-small n g l b = le-trans (low n l g b) (le-trans (room-most n g l b) (le-of-eq (most-is (functionLevel p g))))
 
   -- a level more has room for 16 times as much
   passes : (n : ℕ) → n < functionTotal p → suc (functionLevel p n) < p .levels → natAbs (at (carried p fs n hs) n) * 16 ≤ most

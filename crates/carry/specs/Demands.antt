@@ -17,6 +17,7 @@ pub record Demands : Type 0 where
       → valueAt p x y (functionPlace p f) ≡ sum (functionTotal p) (λ g. share p f g * valueAt p x y (functionPlace p g))
   -- all shares in a function make 1; on level 0 there are none
   pub one : (p : Plan) → Allowed p → (g : ℕ) → g < functionTotal p → 1 ≤ functionLevel p g → sum (functionTotal p) (λ f. share p f g) ≡ 16
-  -- heights that start from at most 65,536 mm have at most 2 ^ 30 units on their way, whichever functions pass theirs on
+  -- heights that start from at most 65,536 mm have on level k at most k + 1 times as much on their way, whichever functions pass theirs on:
+  -- on the last of four levels 2 ^ 30 units
   pub small : (p : Plan) (functions : List ℕ) (heights : List ℤ) → Started p heights
-      → (n g : ℕ) → n ≤ functionTotal p → g < functionTotal p → natAbs (at (carried p functions n heights) g) ≤ 2 ^ 30
+      → (n g : ℕ) → n ≤ functionTotal p → g < functionTotal p → natAbs (at (carried p functions n heights) g) ≤ suc (functionLevel p g) * (65536 * 16 ^ functionLevel p g)
