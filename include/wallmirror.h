@@ -191,9 +191,9 @@ extern "C" {
 
 /* Of this header. */
 #define WALLMIRROR_VERSION_MAJOR 0
-#define WALLMIRROR_VERSION_MINOR 7
+#define WALLMIRROR_VERSION_MINOR 8
 #define WALLMIRROR_VERSION_PATCH 0
-#define WALLMIRROR_VERSION "0.7.0"
+#define WALLMIRROR_VERSION "0.8.0"
 
 /* The most cells a mesh may have on all levels together, and the most functions such a mesh has:
  * buffers of these sizes serve every plan. */

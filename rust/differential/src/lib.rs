@@ -804,6 +804,25 @@ pub fn covered_part(plan: Plan, refined: BTreeSet<Cell>) -> BTreeSet<Cell> {
     }
 }
 
+/// Marks for a call: mostly ones that it takes, sometimes others among them, sometimes none.
+pub fn random_marks(random: &mut Random, tables: &Tables, kind: Kind) -> Vec<u32> {
+    let markable = tables.markable(kind);
+    let mut marks = vec![];
+    if !markable.is_empty() {
+        let many = random.pick(&[0, 1, 1, 1, 2, 4, markable.len() / 3, markable.len()]);
+        marks = (0..many).map(|_| random.pick(&markable)).collect();
+        if many == markable.len() && random.once_in(2) {
+            marks = markable;
+            random.shuffle(&mut marks);
+        }
+    }
+    if random.once_in(8) {
+        let total = if kind.by_functions() { tables.functions.len() } else { tables.cells.len() };
+        marks.insert(random.below(marks.len() + 1), random.below(total + 2) as u32);
+    }
+    marks
+}
+
 /// A call that refines more often than not, with marks that it takes.
 pub fn random_step(random: &mut Random, tables: &mut Tables) {
     let refine = [Kind::RefineCells, Kind::RefineFunctions];

@@ -1,33 +1,14 @@
 //! Runs of dozens of calls, refused ones among them, and each run undone as a whole.
 
 use differential::{
-    has_corners, random_covered, random_plan, random_refined, undo_by_cells, undo_by_functions,
-    Kind, Log, Random, Tables,
+    has_corners, random_covered, random_marks, random_plan, random_refined, undo_by_cells,
+    undo_by_functions, Kind, Log, Random, Tables,
 };
 use Kind::*;
 
-/// Marks for a call: mostly ones that it takes, sometimes others among them, sometimes none.
-fn marks(random: &mut Random, tables: &Tables, kind: Kind) -> Vec<u32> {
-    let markable = tables.markable(kind);
-    let mut marks = vec![];
-    if !markable.is_empty() {
-        let many = random.pick(&[0, 1, 1, 1, 2, 4, markable.len() / 3, markable.len()]);
-        marks = (0..many).map(|_| random.pick(&markable)).collect();
-        if many == markable.len() && random.once_in(2) {
-            marks = markable;
-            random.shuffle(&mut marks);
-        }
-    }
-    if random.once_in(8) {
-        let total = if kind.by_functions() { tables.functions.len() } else { tables.cells.len() };
-        marks.insert(random.below(marks.len() + 1), random.below(total + 2) as u32);
-    }
-    marks
-}
-
 /// One call of a run, with lists of any length.
 fn step(random: &mut Random, tables: &mut Tables, kind: Kind, log: &mut Log) {
-    let marks = marks(random, tables, kind);
+    let marks = random_marks(random, tables, kind);
     let mut room = |total: usize| match random.below(6) {
         0 => random.below(total / 4 + 2),
         1 => total + random.below(9),

@@ -3,7 +3,7 @@
 //! and coarsened again; and the heights of the surface are printed along a line across the corner.
 
 use std::process::ExitCode;
-use wallmirror::{coarsen_cells, open, refine_cells, Cell, Function, Mesh, Plan, Refusal};
+use wallmirror::{Cell, Function, Mesh, Plan, Refusal};
 
 fn main() -> ExitCode {
     match run() {
@@ -39,31 +39,18 @@ fn knots_across(plan: Plan) -> Vec<u32> {
 
 /// Every function of a row begins at a knot and ends degree + 1 knots further on.
 fn print_functions(plan: Plan) {
-    let knots = knots_across(plan);
-    println!("  knots {knots:?}");
-    for (i, ends) in knots.windows(plan.degree_across as usize + 2).enumerate() {
-        println!("  function {i} covers columns {} to {}", ends[0], ends[ends.len() - 1] - 1);
+    println!("  knots {:?}", knots_across(plan));
+    for i in 0..plan.functions_across(0).unwrap() as u32 {
+        let columns = plan.support(Function(i)).unwrap().columns;
+        println!("  function {i} covers columns {} to {}", columns.start, columns.end - 1);
     }
 }
 
 fn print_refinement(plan: Plan) -> Result<(), Refusal> {
-    let Mesh { mut cells, mut functions, .. } = opened(plan)?;
-    let mut cell_list = vec![Cell(0); cells.len()];
-    let mut function_list = vec![Function(0); functions.len()];
-    let marks = [Cell(0)];
-    let refined =
-        refine_cells(plan, &mut cells, &mut functions, &marks, &mut cell_list, &mut function_list)?;
-    print_list("refine cell 0", &function_list[..refined.functions]);
-    let coarsened = coarsen_cells(
-        plan,
-        &mut cells,
-        &mut functions,
-        &marks,
-        &mut cell_list,
-        &mut function_list,
-    )?;
-    print_list("coarsen cell 0", &function_list[..coarsened.functions]);
-    assert_eq!(Mesh { plan, cells, functions }, opened(plan)?);
+    let mut mesh = Mesh::open(plan)?;
+    print_list("refine cell 0", &mesh.refine_cells(&[Cell(0)])?.functions);
+    print_list("coarsen cell 0", &mesh.coarsen_cells(&[Cell(0)])?.functions);
+    assert_eq!(mesh, Mesh::open(plan)?);
     Ok(())
 }
 
@@ -72,17 +59,10 @@ fn print_list(call: &str, functions: &[Function]) {
     println!("  {call}: functions {numbers:?}");
 }
 
-fn opened(plan: Plan) -> Result<Mesh, Refusal> {
-    let mut cells = vec![0; plan.cells().unwrap()];
-    let mut functions = vec![0; plan.functions().unwrap()];
-    open(plan, &mut cells, &mut functions)?;
-    Ok(Mesh { plan, cells, functions })
-}
-
 /// One function of the first row has a height: with the corner the one that covers both its sides,
 /// without it the one that covers the same columns.
 fn print_heights(plan: Plan, smooth: Plan) -> Result<(), Refusal> {
-    let (cornered, smooth) = (opened(plan)?, opened(smooth)?);
+    let (cornered, smooth) = (Mesh::open(plan)?, Mesh::open(smooth)?);
     let with_height = |mesh: &Mesh, function: usize| {
         let mut heights = vec![0; mesh.functions.len()];
         heights[function] = 64; // millimetres

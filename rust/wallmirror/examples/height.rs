@@ -2,7 +2,7 @@
 //! height, and the heights of the surface are printed along a line through both.
 
 use std::process::ExitCode;
-use wallmirror::{open, refine_cells, Cell, Function, Mesh, Plan, Refusal};
+use wallmirror::{Cell, Mesh, Plan, Refusal};
 
 fn main() -> ExitCode {
     match print_heights() {
@@ -24,15 +24,10 @@ fn print_heights() -> Result<(), Refusal> {
         class: 2,
         ..Plan::default() // no corners
     };
-    let (t, f) = (plan.cells().unwrap(), plan.functions().unwrap());
-    let (mut cells, mut functions) = (vec![0; t], vec![0; f]);
-    let (mut cell_list, mut function_list) = (vec![Cell(0); t], vec![Function(0); f]);
-    open(plan, &mut cells, &mut functions)?;
-    let marks = [5, 6, 9, 10].map(Cell); // the four cells in the middle
-    refine_cells(plan, &mut cells, &mut functions, &marks, &mut cell_list, &mut function_list)?;
-    let mesh = Mesh { plan, cells, functions };
+    let mut mesh = Mesh::open(plan)?;
+    mesh.refine_cells(&[5, 6, 9, 10].map(Cell))?; // the four cells in the middle
 
-    let mut heights = vec![0; f];
+    let mut heights = vec![0; mesh.functions.len()];
     heights[function_at(plan, 0, 2, 2)] = 160; // on level 0 in millimetres
     heights[function_at(plan, 1, 4, 4)] = 24 * 16; // on level 1 in sixteenths
 
@@ -46,10 +41,8 @@ fn print_heights() -> Result<(), Refusal> {
     Ok(())
 }
 
-/// The number of a function: those of the levels above, then row by row.
+/// The number of a function: those of a level follow one another row by row.
 fn function_at(plan: Plan, level: u32, row: usize, column: usize) -> usize {
-    let across = |level| plan.functions_across(level).unwrap();
-    let up = |level| plan.functions_up(level).unwrap();
-    let before: usize = (0..level).map(|level| across(level) * up(level)).sum();
-    before + row * across(level) + column
+    let first = plan.functions_on(level).unwrap().start as usize;
+    first + row * plan.functions_across(level).unwrap() + column
 }

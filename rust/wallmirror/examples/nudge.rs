@@ -2,7 +2,7 @@
 //! the hold goes, a bulge and the hold on it get their heights, and then the hold rises a little.
 
 use std::process::ExitCode;
-use wallmirror::{open, refine_cells, Cell, Function, Mesh, Plan, Refusal};
+use wallmirror::{Cell, Mesh, Plan, Refusal};
 
 const BULGE: usize = 2 * 6 + 2; // function 2 of row 2 on level 0, which has 6 by 6
 const HOLD: usize = 6 * 6 + 4 * 10 + 4; // function 4 of row 4 on level 1, which has 10 by 10
@@ -22,13 +22,9 @@ fn main() -> ExitCode {
 fn refined() -> Result<Mesh, Refusal> {
     let (columns, rows, levels) = (4, 4, 2);
     let plan = Plan { columns, rows, levels, degree_across: 2, degree_up: 2, ..Plan::default() };
-    let (t, f) = (plan.cells().unwrap(), plan.functions().unwrap());
-    let (mut cells, mut functions) = (vec![0; t], vec![0; f]);
-    let (mut cell_list, mut function_list) = (vec![Cell(0); t], vec![Function(0); f]);
-    open(plan, &mut cells, &mut functions)?;
-    let marks = [5, 6, 9, 10].map(Cell);
-    refine_cells(plan, &mut cells, &mut functions, &marks, &mut cell_list, &mut function_list)?;
-    Ok(Mesh { plan, cells, functions })
+    let mut mesh = Mesh::open(plan)?;
+    mesh.refine_cells(&[5, 6, 9, 10].map(Cell))?;
+    Ok(mesh)
 }
 
 fn nudge(mesh: &Mesh) -> Result<(), Refusal> {

@@ -5,7 +5,7 @@
 
 use std::collections::BTreeMap;
 use std::process::ExitCode;
-use wallmirror::{open, refine_cells, Cell, Corner, Function, Mesh, Plan, Refusal};
+use wallmirror::{Cell, Corner, Mesh, Place, Plan, Refusal};
 
 /// With degrees 1 each function is highest where two lines of its level meet, and all others of the
 /// level are 0 there.
@@ -58,13 +58,13 @@ fn draw() -> Result<(), Refusal> {
     let mesh = refined()?;
     let corners = mesh.corners(&fitted(&mesh)?)?;
     // The corners come in the order of the cell table, four for each active cell.
-    let active = (0..mesh.cells.len()).filter(|&cell| mesh.cells[cell] == 1);
-    let corners_of: BTreeMap<usize, &[Corner]> = active.zip(corners.chunks(4)).collect();
+    let active = cells().filter(|&cell| is_active(&mesh, cell));
+    let corners_of: BTreeMap<Cell, &[Corner]> = active.zip(corners.chunks(4)).collect();
     print_head();
     // From the back to the front.
     for row in (0..PLAN.rows).rev() {
         for column in 0..PLAN.columns {
-            print_cell(&corners_of, 0, row, column);
+            print_cell(&corners_of, Place { level: 0, row, column });
         }
     }
     print_legend();
@@ -72,33 +72,31 @@ fn draw() -> Result<(), Refusal> {
     Ok(())
 }
 
-/// Level 0 is refined where the bulge is, level 1 where the hold is.
-fn refined() -> Result<Mesh, Refusal> {
-    let (t, f) = (PLAN.cells().unwrap(), PLAN.functions().unwrap());
-    let (mut cells, mut functions) = (vec![0; t], vec![0; f]);
-    let (mut cell_list, mut function_list) = (vec![Cell(0); t], vec![Function(0); f]);
-    open(PLAN, &mut cells, &mut functions)?;
-    for (level, bump) in [(0, BULGE), (1, HOLD)] {
-        let mut marks = vec![];
-        for row in 0..PLAN.rows << level {
-            for column in 0..PLAN.columns << level {
-                let side = f64::from(1 << (LAST - level));
-                let middle = |place: u32| (f64::from(place) + 0.5) * side;
-                let number = cell_number(level, row, column);
-                if cells[number] == 1 && bump.distance(middle(column), middle(row)) < 1.0 {
-                    marks.push(Cell(number as u32));
-                }
-            }
-        }
-        refine_cells(PLAN, &mut cells, &mut functions, &marks, &mut cell_list, &mut function_list)?;
-    }
-    Ok(Mesh { plan: PLAN, cells, functions })
+/// All cells of all levels.
+fn cells() -> impl Iterator<Item = Cell> {
+    (0..PLAN.cells().unwrap() as u32).map(Cell)
 }
 
-/// The number of a cell: those of the levels above, then row by row.
-fn cell_number(level: u32, row: u32, column: u32) -> usize {
-    let before: u32 = (0..level).map(|level| (PLAN.columns << level) * (PLAN.rows << level)).sum();
-    (before + row * (PLAN.columns << level) + column) as usize
+fn is_active(mesh: &Mesh, cell: Cell) -> bool {
+    mesh.cells[cell.0 as usize] == 1
+}
+
+/// Level 0 is refined where the bulge is, level 1 where the hold is.
+fn refined() -> Result<Mesh, Refusal> {
+    let mut mesh = Mesh::open(PLAN)?;
+    for (level, bump) in [(0, BULGE), (1, HOLD)] {
+        let side = f64::from(1 << (LAST - level));
+        let middle = |place: u32| (f64::from(place) + 0.5) * side;
+        let marked = |&cell: &Cell| {
+            let place = PLAN.place(cell).unwrap();
+            place.level == level
+                && is_active(&mesh, cell)
+                && bump.distance(middle(place.column), middle(place.row)) < 1.0
+        };
+        let marks: Vec<Cell> = cells().filter(marked).collect();
+        mesh.refine_cells(&marks)?;
+    }
+    Ok(mesh)
 }
 
 /// Level by level, each active function gets what the surface lacks where it is highest.
@@ -133,10 +131,11 @@ fn place(across: f64, up: f64, height: f64) -> (f64, f64) {
 const COLOURS: [&str; PLAN.levels as usize] = ["#f6f7f9", "#d9e6f7", "#9fc0ea"];
 
 /// An active cell, or the children of a refined one, those at the back first.
-fn print_cell(corners_of: &BTreeMap<usize, &[Corner]>, level: u32, row: u32, column: u32) {
-    let Some(corners) = corners_of.get(&cell_number(level, row, column)) else {
+fn print_cell(corners_of: &BTreeMap<Cell, &[Corner]>, at: Place) {
+    let Some(corners) = corners_of.get(&PLAN.cell_at(at).unwrap()) else {
         for (up, across) in [(1, 0), (1, 1), (0, 0), (0, 1)] {
-            print_cell(corners_of, level + 1, 2 * row + up, 2 * column + across);
+            let (row, column) = (2 * at.row + up, 2 * at.column + across);
+            print_cell(corners_of, Place { level: at.level + 1, row, column });
         }
         return;
     };
@@ -146,7 +145,7 @@ fn print_cell(corners_of: &BTreeMap<usize, &[Corner]>, level: u32, row: u32, col
         let (x, y) = place(across, up, height);
         format!("{x:.1},{y:.1}")
     });
-    println!("<polygon points=\"{}\" fill=\"{}\"/>", points.join(" "), COLOURS[level as usize]);
+    println!("<polygon points=\"{}\" fill=\"{}\"/>", points.join(" "), COLOURS[at.level as usize]);
 }
 
 fn print_head() {

@@ -7,9 +7,7 @@
 
 use std::fmt::Write;
 use std::process::ExitCode;
-use wallmirror::{
-    open, refine_functions_with_heights, Cell, Changed, Function, Mesh, Plan, Refusal,
-};
+use wallmirror::{Cell, Function, Mesh, Place, Plan, Refusal};
 
 /// Six by four cells. Level 0 has 8 by 6 functions, level 1 has 14 by 10.
 const PLAN: Plan = Plan {
@@ -59,8 +57,9 @@ fn run() -> Result<String, Refusal> {
     println!("a bulge on the coarsest mesh: {}", before.carried_by());
 
     let mut after = before.clone();
-    let changed = after.refine(&[UNDER_HOLD])?;
-    println!("refined: {} cells, {} functions deactivated", changed.cells, changed.functions);
+    let lists = after.mesh.refine_functions_with_heights(&mut after.heights, &[UNDER_HOLD])?;
+    let (cells, functions) = (lists.cells.len(), lists.functions.len());
+    println!("refined: {cells} cells, {functions} functions deactivated");
     println!("the same bulge: {}", after.carried_by());
 
     let (was, is) = (before.surface()?, after.surface()?);
@@ -80,33 +79,16 @@ fn run() -> Result<String, Refusal> {
 
 /// The coarsest mesh, with a bulge of heights in millimetres.
 fn bulge() -> Result<Wall, Refusal> {
-    let (t, f) = (PLAN.cells().unwrap(), PLAN.functions().unwrap());
-    let (mut cells, mut functions, mut heights) = (vec![0; t], vec![0; f], vec![0; f]);
-    open(PLAN, &mut cells, &mut functions)?;
+    let mesh = Mesh::open(PLAN)?;
+    let mut heights = vec![0; mesh.functions.len()];
     for (row, column) in (0..6i32).flat_map(|row| (0..8i32).map(move |column| (row, column))) {
         let distance = 3 * (column - 4).pow(2) + 4 * (row - 3).pow(2);
         heights[(row * 8 + column) as usize] = (120 - 6 * distance).max(0);
     }
-    Ok(Wall { mesh: Mesh { plan: PLAN, cells, functions }, heights })
+    Ok(Wall { mesh, heights })
 }
 
 impl Wall {
-    /// Refines the supports of the marked functions, and carries the heights.
-    fn refine(&mut self, marks: &[Function]) -> Result<Changed, Refusal> {
-        let Mesh { plan, cells, functions } = &mut self.mesh;
-        let mut cell_list = vec![Cell(0); cells.len()];
-        let mut function_list = vec![Function(0); functions.len()];
-        refine_functions_with_heights(
-            *plan,
-            cells,
-            functions,
-            &mut self.heights,
-            marks,
-            &mut cell_list,
-            &mut function_list,
-        )
-    }
-
     /// How many functions are active, and how many of them have a height.
     fn carried_by(&self) -> String {
         let active = |function: &usize| self.mesh.functions[*function] == 1;
@@ -176,17 +158,12 @@ fn draw_panel(svg: &mut String, wall: &Wall, colours: &[(u32, u32, String)]) {
     for (across, up, colour) in colours {
         square(svg, *across, *up, SIDE, &format!("fill=\"{colour}\""));
     }
-    let mut cell = 0;
-    for level in 0..PLAN.levels {
+    for cell in (0..).map(Cell).take(wall.mesh.cells.len()) {
+        let Place { level, row, column } = PLAN.place(cell).unwrap();
         let side = 8 << (PLAN.levels - 1 - level);
-        for row in 0..PLAN.rows << level {
-            for column in 0..PLAN.columns << level {
-                if wall.mesh.cells[cell] == 1 {
-                    let outline = "fill=\"none\" stroke=\"#40506a\"";
-                    square(svg, column * side, row * side, side, outline);
-                }
-                cell += 1;
-            }
+        if wall.mesh.cells[cell.0 as usize] == 1 {
+            let outline = "fill=\"none\" stroke=\"#40506a\"";
+            square(svg, column * side, row * side, side, outline);
         }
     }
 }

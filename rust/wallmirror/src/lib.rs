@@ -1,38 +1,43 @@
 //! Refining and coarsening hierarchical spline meshes.
 //!
-//! A mesh is two tables of bytes that the caller owns: one byte for each cell of each level (0
-//! absent, 1 active, 2 refined) and one for each function of each level (0 passive, 1 active, 2
-//! deactivated). [`Plan`] gives their lengths. Every call takes any plan, tables, marks, file,
-//! heights and point; what it cannot serve it refuses with a [`Refusal`], and then all that was lent
-//! holds what it held before.
+//! A mesh is a plan and two tables of bytes: one byte for each cell of each level (0 absent, 1
+//! active, 2 refined) and one for each function of each level (0 passive, 1 active, 2 deactivated).
+//! A [`Mesh`] owns its tables and has the calls; a [`Season`] keeps the calls that were made on a
+//! mesh and takes them back. Every call takes any plan, tables, marks, file, heights and point; what
+//! it cannot serve it refuses with a [`Refusal`], and then everything holds what it held before.
 //!
 //! In the words of the scope document a mesh is a wall, refining and coarsening are splitting and
 //! joining, admissible of class m is graded, and reactivable is joinable.
 //!
 //! ```
-//! use wallmirror::{open, refine_cells, Cell, Function, Plan};
+//! use wallmirror::{Cell, Function, Mesh, Plan};
 //!
-//! let plan = Plan {
-//!     columns: 3,
-//!     rows: 1,
-//!     levels: 3,
-//!     degree_across: 1,
-//!     degree_up: 1,
-//!     class: 2,
-//!     corners_across: 0,
-//!     corners_up: 0,
-//! };
+//! let plan = Plan { columns: 3, levels: 3, class: 2, ..Plan::default() };
+//! let mut mesh = Mesh::open(plan)?;
+//! mesh.refine_cells(&[Cell(0)])?;
+//! let lists = mesh.refine_cells(&[Cell(3)])?;
+//! // Cell 1 became refined too, because the mesh has to stay admissible.
+//! assert_eq!(lists.cells, [Cell(1), Cell(3)]);
+//! assert_eq!(lists.functions, [Function(1), Function(5), Function(8)]);
+//! # Ok::<(), wallmirror::Refusal>(())
+//! ```
+//!
+//! [`refine_cells`] and the other calls outside of [`Mesh`] are for programs that keep their own
+//! tables: tables and lists are lent as slices, [`Plan`] gives their lengths, and nothing is
+//! allocated.
+//!
+//! ```
+//! # use wallmirror::{open, refine_cells, Cell, Function, Plan};
+//! # let plan = Plan { columns: 3, levels: 3, class: 2, ..Plan::default() };
 //! let (t, f) = (plan.cells().unwrap(), plan.functions().unwrap());
 //! let (mut cells, mut functions) = (vec![0; t], vec![0; f]);
 //! let (mut cell_list, mut function_list) = (vec![Cell(0); t], vec![Function(0); f]);
 //! open(plan, &mut cells, &mut functions)?;
-//! refine_cells(plan, &mut cells, &mut functions, &[Cell(0)], &mut cell_list, &mut function_list)?;
-//! let changed = refine_cells(
-//!     plan, &mut cells, &mut functions, &[Cell(3)], &mut cell_list, &mut function_list,
-//! )?;
-//! // Cell 1 became refined too, because the mesh has to stay admissible.
-//! assert_eq!(cell_list[..changed.cells], [Cell(1), Cell(3)]);
-//! assert_eq!(function_list[..changed.functions], [Function(1), Function(5), Function(8)]);
+//! let marks = [Cell(0)];
+//! let changed =
+//!     refine_cells(plan, &mut cells, &mut functions, &marks, &mut cell_list, &mut function_list)?;
+//! assert_eq!(cell_list[..changed.cells], [Cell(0)]);
+//! assert_eq!(function_list[..changed.functions], [Function(0), Function(4)]);
 //! # Ok::<(), wallmirror::Refusal>(())
 //! ```
 //!
@@ -40,7 +45,8 @@
 //!
 //! Level k has columns · 2^k columns and rows · 2^k rows of cells. They are numbered from 0, level
 //! by level, row by row. The cell at column c, row r has four children one level down, at columns
-//! 2c and 2c + 1 and rows 2r and 2r + 1.
+//! 2c and 2c + 1 and rows 2r and 2r + 1. [`Plan::place`] tells where a cell lies, [`Plan::cell_at`]
+//! which cell lies there.
 //!
 //! Functions follow from knots, and these stand on the grid lines. On a level of n columns line x
 //! is the one before column x, and there are lines 0 to n. With degree p across the knot on the
@@ -48,25 +54,20 @@
 //! With all of them in rising order, from 0 on, function i across covers the columns from knot i to
 //! just before knot i + p + 1, and there is one for every p + 2 knots in a row. Up it is the same
 //! with the rows, the degree up and the corners up. The support of a function is the rectangle of
-//! both, made of cells of its own level. Functions are numbered like cells, row by row, with
-//! [`Plan::functions_across`] to a row.
+//! both, made of cells of its own level; [`Plan::support`] tells it. Functions are numbered like
+//! cells, row by row, with [`Plan::functions_across`] to a row.
 //!
 //! Without corners that is n + p functions across, of which function i covers columns max(0, i - p)
 //! to min(n - 1, i).
 //!
 //! ```
-//! # use wallmirror::{open, refine_functions, Cell, Function, Plan};
+//! # use wallmirror::{Cell, Function, Mesh, Plan, Support};
 //! let plan = Plan { columns: 3, rows: 2, levels: 3, degree_across: 2, ..Plan::default() };
-//! # let (t, f) = (plan.cells().unwrap(), plan.functions().unwrap());
-//! # let (mut cells, mut functions) = (vec![0; t], vec![0; f]);
-//! # let (mut cell_list, mut function_list) = (vec![Cell(0); t], vec![Function(0); f]);
-//! # open(plan, &mut cells, &mut functions)?;
 //! // Level 0 has 3 + 2 functions to a row. Function 4 of row 1 covers column 2 and rows 0 to 1.
 //! let mark = Function(1 * (3 + 2) + 4);
-//! let changed = refine_functions(
-//!     plan, &mut cells, &mut functions, &[mark], &mut cell_list, &mut function_list,
-//! )?;
-//! assert_eq!(cell_list[..changed.cells], [Cell(2), Cell(5)]);
+//! assert_eq!(plan.support(mark), Some(Support { level: 0, rows: 0..2, columns: 2..3 }));
+//! let lists = Mesh::open(plan)?.refine_functions(&[mark])?;
+//! assert_eq!(lists.cells, [Cell(2), Cell(5)]);
 //! # Ok::<(), wallmirror::Refusal>(())
 //! ```
 //!
@@ -88,21 +89,15 @@
 //! may have a kink then. The cells and their numbers have nothing to do with corners.
 //!
 //! ```
-//! # use wallmirror::{open, refine_cells, Cell, Function, Plan};
+//! # use wallmirror::{Cell, Function, Mesh, Plan};
 //! let smooth = Plan { columns: 3, levels: 2, degree_across: 2, ..Plan::default() };
 //! let plan = Plan { corners_across: 1 << 1, ..smooth };
 //! // The knots across on level 0 are 0 0 0 1 1 2 3 3 3: functions cover the columns 0, 0, 0 to 1,
 //! // 1 to 2, 1 to 2 and 2, and there are two rows of them.
 //! assert_eq!((smooth.functions_across(0), plan.functions_across(0)), (Some(5), Some(6)));
-//! let (t, f) = (plan.cells().unwrap(), plan.functions().unwrap());
-//! # let (mut cells, mut functions) = (vec![0; t], vec![0; f]);
-//! # let (mut cell_list, mut function_list) = (vec![Cell(0); t], vec![Function(0); f]);
-//! open(plan, &mut cells, &mut functions)?;
-//! let marks = [Cell(0)];
-//! let changed =
-//!     refine_cells(plan, &mut cells, &mut functions, &marks, &mut cell_list, &mut function_list)?;
+//! let lists = Mesh::open(plan)?.refine_cells(&[Cell(0)])?;
 //! // Of each row the two functions over cell 0 alone. Without the corner it is one.
-//! assert_eq!(function_list[..changed.functions], [0, 1, 6, 7].map(Function));
+//! assert_eq!(lists.functions, [0, 1, 6, 7].map(Function));
 //! # Ok::<(), wallmirror::Refusal>(())
 //! ```
 //!
@@ -118,64 +113,49 @@
 //! same.
 //!
 //! ```
-//! # use wallmirror::{open, refine_cells, Cell, Function, Plan};
+//! # use wallmirror::{Cell, Function, Mesh, Plan};
 //! let plan = Plan { columns: 3, levels: 3, class: 2, ..Plan::default() };
-//! # let (mut cells, mut functions) = (vec![0; 63], vec![0; 94]);
-//! # let (mut cell_list, mut function_list) = ([Cell(0); 63], [Function(0); 94]);
-//! # open(plan, &mut cells, &mut functions)?;
-//! # for mark in [Cell(0), Cell(3)] {
-//! #     let (cell_list, function_list) = (&mut cell_list, &mut function_list);
-//! #     refine_cells(plan, &mut cells, &mut functions, &[mark], cell_list, function_list)?;
-//! # }
+//! # let mut mesh = Mesh::open(plan)?;
+//! # mesh.refine_cells(&[Cell(0)])?;
+//! # mesh.refine_cells(&[Cell(3)])?;
 //! // Cells 0, 1 and 3 are refined. Cell 15 is active, the first of level 2.
-//! let (k, row, column) = (2, 0, 0);
-//! let across = |level| plan.functions_across(level).unwrap() as u32;
-//! let up = |level| plan.functions_up(level).unwrap() as u32;
-//! let mut active = vec![];
-//! for level in (k + 1u32).saturating_sub(plan.class)..=k {
-//!     let first: u32 = (0..level).map(|level| up(level) * across(level)).sum();
-//!     let (row, column) = (row >> (k - level), column >> (k - level));
-//!     for i in row..=row + plan.degree_up {
-//!         for j in column..=column + plan.degree_across {
-//!             let function = first + i * across(level) + j;
-//!             if functions[function as usize] == 1 {
-//!                 active.push((level, Function(function)));
-//!             }
-//!         }
+//! let cell = plan.place(Cell(15)).unwrap();
+//! let mut active = vec![vec![]; 3];
+//! for function in (0..94).filter(|&function| mesh.functions[function as usize] == 1) {
+//!     let support = plan.support(Function(function)).unwrap();
+//!     // The cell is of the last level, and so has an ancestor on every other.
+//!     let up = cell.level - support.level;
+//!     let (row, column) = (cell.row >> up, cell.column >> up);
+//!     if support.rows.contains(&row) && support.columns.contains(&column) {
+//!         active[support.level as usize].push(function);
 //!     }
 //! }
-//! let on_level = |level| active.iter().filter(|f| f.0 == level).map(|f| f.1).collect::<Vec<_>>();
-//! assert_eq!(on_level(1), [Function(9), Function(15), Function(16)]);
-//! assert_eq!(on_level(2), [Function(29), Function(30), Function(42), Function(43)]);
+//! assert_eq!(active, [vec![], vec![9, 15, 16], vec![29, 30, 42, 43]]);
 //! # Ok::<(), wallmirror::Refusal>(())
 //! ```
 //!
 //! # Undo
 //!
 //! A run of calls is undone by its own cell lists, given from the last to the first, each to the
-//! opposite call by cells ([`coarsen_cells`] for a refining call, with heights or without,
-//! [`refine_cells`] for either coarsening one), with output lists at least as long as the kept ones.
-//! Each is accepted and names the same cells and functions as the call it takes back, and both
-//! tables end as they began. A refused call has changed nothing and counts as one with empty lists:
-//! no marks at all, which is accepted. What is asked is that the first mesh passes [`check`] and that
-//! nothing else writes the tables.
+//! opposite call by cells: [`coarsen_cells`] for a refining call, with heights or without,
+//! [`refine_cells`] for either coarsening one. Each is accepted and names the same cells and
+//! functions as the call it takes back, and both tables end as they began. A refused call has
+//! changed nothing and counts as one with empty lists: no marks at all, which is accepted. What is
+//! asked is that the first mesh passes [`check`], that nothing else writes the tables, and of lent
+//! lists that they are at least as long as the kept ones. A [`Season`] sees to all of it.
 //!
 //! ```
-//! # use wallmirror::{coarsen_cells, open, refine_functions, Cell, Function, Plan};
+//! # use wallmirror::{Call, Cell, Function, Mesh, Plan, Season};
 //! # let plan = Plan { columns: 3, levels: 3, ..Plan::default() };
-//! # let (mut cells, mut functions) = (vec![0; 63], vec![0; 94]);
-//! # let (mut cell_list, mut function_list) = ([Cell(0); 63], [Function(0); 94]);
-//! # open(plan, &mut cells, &mut functions)?;
-//! let before = (cells.clone(), functions.clone());
-//! let changed = refine_functions(
-//!     plan, &mut cells, &mut functions, &[Function(1)], &mut cell_list, &mut function_list,
-//! )?;
-//! let marks = cell_list[..changed.cells].to_vec();
-//! let undone = coarsen_cells(
-//!     plan, &mut cells, &mut functions, &marks, &mut cell_list, &mut function_list,
-//! )?;
-//! assert_eq!(undone, changed);
-//! assert_eq!((cells, functions), before);
+//! let first = Mesh::open(plan)?;
+//! let mut season = Season::new(first.clone())?;
+//! season.refine_functions(&[Function(1)])?;
+//! season.coarsen_cells(&[Cell(1)])?;
+//! let undone = season.undo().unwrap();
+//! assert_eq!(undone.opposite, Call::RefineCells(vec![Cell(1)]));
+//! assert_eq!(undone.lists, undone.made.lists);
+//! season.undo_all();
+//! assert_eq!(season.mesh(), &first);
 //! # Ok::<(), wallmirror::Refusal>(())
 //! ```
 //!
@@ -196,14 +176,10 @@
 //! every machine.
 //!
 //! ```
-//! # use wallmirror::{open, refine_cells, Cell, Function, Mesh, Plan};
+//! # use wallmirror::{Cell, Mesh, Plan};
 //! # let plan = Plan { columns: 3, levels: 3, ..Plan::default() };
-//! # let (mut cells, mut functions) = (vec![0; 63], vec![0; 94]);
-//! # let (mut cell_list, mut function_list) = ([Cell(0); 63], [Function(0); 94]);
-//! open(plan, &mut cells, &mut functions)?;
-//! let marks = [Cell(0), Cell(1)];
-//! refine_cells(plan, &mut cells, &mut functions, &marks, &mut cell_list, &mut function_list)?;
-//! let mesh = Mesh { plan, cells, functions };
+//! let mut mesh = Mesh::open(plan)?;
+//! mesh.refine_cells(&[Cell(0), Cell(1)])?;
 //! let file = mesh.to_file()?;
 //! // The plan, two refined cells, cell 0, and one more.
 //! assert_eq!(file, [3, 1, 3, 1, 1, 0, 2, 0, 1]);
@@ -229,19 +205,16 @@
 //! 2^-(10 + 4 · levels), and what [`height`] answers is the sum itself, with no bit rounded away.
 //!
 //! ```
-//! # use wallmirror::{height, open, refine_cells, Cell, Function, Plan};
+//! # use wallmirror::{Cell, Mesh, Plan};
 //! let plan = Plan { columns: 3, levels: 3, class: 2, ..Plan::default() };
-//! # let (mut cells, mut functions) = (vec![0; 63], vec![0; 94]);
-//! # let (mut cell_list, mut function_list) = ([Cell(0); 63], [Function(0); 94]);
-//! # open(plan, &mut cells, &mut functions)?;
-//! let marks = [Cell(0)];
-//! refine_cells(plan, &mut cells, &mut functions, &marks, &mut cell_list, &mut function_list)?;
-//! let mut heights = vec![0; functions.len()];
+//! let mut mesh = Mesh::open(plan)?;
+//! mesh.refine_cells(&[Cell(0)])?;
+//! let mut heights = vec![0; mesh.functions.len()];
 //! heights[1] = 10; // of level 0: 10 mm
 //! heights[9] = 8; // of level 1: 8/16 mm
 //! heights[0] = i32::MAX; // deactivated
 //! // Half of function 1, and all of function 9.
-//! assert_eq!(height(plan, &cells, &functions, &heights, 16, 0), Ok(5.5));
+//! assert_eq!(mesh.height(&heights, 16, 0), Ok(5.5));
 //! # Ok::<(), wallmirror::Refusal>(())
 //! ```
 //!
@@ -254,16 +227,13 @@
 //! may be subtracted: the difference is exact.
 //!
 //! ```
-//! # use wallmirror::{height, open, Plan};
-//! let plan = Plan { columns: 3, levels: 3, ..Plan::default() };
-//! # let (mut cells, mut functions) = (vec![0; 63], vec![0; 94]);
-//! # open(plan, &mut cells, &mut functions)?;
-//! let before = vec![7; functions.len()];
+//! # use wallmirror::{Mesh, Plan};
+//! let mesh = Mesh::open(Plan { columns: 3, levels: 3, ..Plan::default() })?;
+//! let before = vec![7; mesh.functions.len()];
 //! let mut after = before.clone();
 //! after[1] -= 4; // of level 0, over the points 0 to 64 across
 //! for across in 0..=96 {
-//!     let at = |heights| height(plan, &cells, &functions, heights, across, 0);
-//!     let by = at(&after)? - at(&before)?;
+//!     let by = mesh.height(&after, across, 0)? - mesh.height(&before, across, 0)?;
 //!     assert!((-4.0..=0.0).contains(&by));
 //!     assert_eq!(by == 0.0, across == 0 || across >= 64);
 //! }
@@ -285,23 +255,18 @@
 //! active after gets 0.
 //!
 //! ```
-//! # use wallmirror::{height, open, refine_cells, refine_cells_with_heights, Cell, Function, Plan};
-//! let plan = Plan { columns: 3, levels: 3, class: 2, ..Plan::default() };
-//! # let (mut cells, mut functions) = (vec![0; 63], vec![0; 94]);
-//! # let (mut cell_list, mut function_list) = ([Cell(0); 63], [Function(0); 94]);
-//! # let (cell_list, function_list) = (&mut cell_list[..], &mut function_list[..]);
-//! # open(plan, &mut cells, &mut functions)?;
-//! refine_cells(plan, &mut cells, &mut functions, &[Cell(0)], cell_list, function_list)?;
-//! let mut heights = vec![0; functions.len()];
+//! # use wallmirror::{Cell, Function, Mesh, Plan};
+//! # let plan = Plan { columns: 3, levels: 3, class: 2, ..Plan::default() };
+//! # let mut mesh = Mesh::open(plan)?;
+//! mesh.refine_cells(&[Cell(0)])?;
+//! let mut heights = vec![0; mesh.functions.len()];
 //! (heights[1], heights[9]) = (10, 8); // 10 mm, and 8/16 mm
-//! assert_eq!(height(plan, &cells, &functions, &heights, 16, 0), Ok(5.5));
-//! let changed = refine_cells_with_heights(
-//!     plan, &mut cells, &mut functions, &mut heights, &[Cell(1)], cell_list, function_list,
-//! )?;
+//! assert_eq!(mesh.height(&heights, 16, 0), Ok(5.5));
+//! let lists = mesh.refine_cells_with_heights(&mut heights, &[Cell(1)])?;
 //! // Function 1 is 1/2 of functions 9 and 11 and 1 of function 10, and half of that in the next row.
-//! assert_eq!(function_list[..changed.functions], [Function(1), Function(5)]);
-//! assert_eq!((heights[1], &heights[9..12], &heights[16..19]), (0, &[88, 160, 80][..], &[40, 80, 40][..]));
-//! assert_eq!(height(plan, &cells, &functions, &heights, 16, 0), Ok(5.5));
+//! assert_eq!(lists.functions, [Function(1), Function(5)]);
+//! assert_eq!([1, 9, 10, 11, 16, 17, 18].map(|f| heights[f]), [0, 88, 160, 80, 40, 80, 40]);
+//! assert_eq!(mesh.height(&heights, 16, 0), Ok(5.5));
 //! # Ok::<(), wallmirror::Refusal>(())
 //! ```
 //!
@@ -320,14 +285,10 @@
 //! these numbers are exact.
 //!
 //! ```
-//! # use wallmirror::{open, refine_cells, Cell, Corner, Function, Mesh, Plan};
+//! # use wallmirror::{Cell, Corner, Mesh, Plan};
 //! # let plan = Plan { columns: 3, levels: 3, class: 2, ..Plan::default() };
-//! # let (mut cells, mut functions) = (vec![0; 63], vec![0; 94]);
-//! # let (mut cell_list, mut function_list) = ([Cell(0); 63], [Function(0); 94]);
-//! # open(plan, &mut cells, &mut functions)?;
-//! # let marks = [Cell(0)];
-//! # refine_cells(plan, &mut cells, &mut functions, &marks, &mut cell_list, &mut function_list)?;
-//! let mesh = Mesh { plan, cells, functions };
+//! # let mut mesh = Mesh::open(plan)?;
+//! mesh.refine_cells(&[Cell(0)])?;
 //! let mut heights = vec![0; mesh.functions.len()];
 //! (heights[1], heights[9]) = (10, 8);
 //! let corners = mesh.corners(&heights)?;
@@ -361,6 +322,13 @@
 use std::fmt;
 
 pub mod ffi;
+mod mesh;
+mod places;
+mod season;
+
+pub use mesh::{Call, Lists, Mesh};
+pub use places::{Place, Support};
+pub use season::{Made, Season, Undone};
 
 /// The examples of the documentation, run with the others.
 #[cfg(doctest)]
@@ -725,65 +693,6 @@ impl std::error::Error for ReadRefusal {}
 impl From<ReadRefusal> for Refusal {
     fn from(unread: ReadRefusal) -> Refusal {
         unread.refusal
-    }
-}
-
-/// A plan with tables that it owns. Anything may stand in them; the calls refuse what is no mesh.
-#[derive(Clone, Debug, PartialEq, Eq, Hash)]
-pub struct Mesh {
-    pub plan: Plan,
-    /// One byte for each cell of each level.
-    pub cells: Vec<u8>,
-    /// One byte for each function of each level.
-    pub functions: Vec<u8>,
-}
-
-impl Mesh {
-    /// The mesh of a file. Refuses 12, then 1, 2, 4 and 5, then 13.
-    ///
-    /// ```
-    /// # use wallmirror::{Mesh, Refusal};
-    /// let mesh = Mesh::from_file(&[3, 1, 3, 1, 1, 0, 0])?;
-    /// assert_eq!((mesh.plan.columns, mesh.cells.len(), mesh.functions.len()), (3, 63, 94));
-    /// // A refined cell is announced and does not come.
-    /// assert_eq!(Mesh::from_file(&[3, 1, 3, 1, 1, 0, 1]), Err(Refusal::MalformedFile));
-    /// # Ok::<(), Refusal>(())
-    /// ```
-    pub fn from_file(file: &[u8]) -> Result<Mesh, Refusal> {
-        // A plan has cells, so empty tables are refused: with the plan, or because there is none.
-        let plan = match read(file, &mut [], &mut []) {
-            Ok(plan) | Err(ReadRefusal { plan: Some(plan), .. }) => plan,
-            Err(unread) => return Err(unread.refusal),
-        };
-        let table = |length: Option<usize>| vec![0; length.expect("a plan that is in range")];
-        let (mut cells, mut functions) = (table(plan.cells()), table(plan.functions()));
-        read(file, &mut cells, &mut functions)?;
-        Ok(Mesh { plan, cells, functions })
-    }
-
-    /// The file of the mesh, of at most [`MAX_FILE_BYTES`]. Refuses 1 to 6.
-    pub fn to_file(&self) -> Result<Vec<u8>, Refusal> {
-        let mut file = vec![0; MAX_FILE_BYTES];
-        let length = write(self.plan, &self.cells, &self.functions, &mut file)?;
-        file.truncate(length);
-        Ok(file)
-    }
-
-    /// The height of the surface at a point, as [`height`] says.
-    pub fn height(&self, heights: &[i32], across: u32, up: u32) -> Result<f64, Refusal> {
-        height(self.plan, &self.cells, &self.functions, heights, across, up)
-    }
-
-    /// The corners of the active cells, four for each, as [`corners`] says. Refuses 1; 2; 16; 3 to
-    /// 6; then 3 of the heights, 14, 15.
-    pub fn corners(&self, heights: &[i32]) -> Result<Vec<Corner>, Refusal> {
-        let active = self.cells.iter().filter(|&&byte| byte == 1).count();
-        // More are refused, so that no table asks for much memory.
-        let mut filled = vec![Corner::default(); 4 * active.min(MAX_PROJECTED_CELLS)];
-        let written =
-            corners(self.plan, &self.cells, &self.functions, heights, doubles(&mut filled))?;
-        filled.truncate(written);
-        Ok(filled)
     }
 }
 

@@ -1,0 +1,593 @@
+//! The wrapper's own meshes, its seasons, and the places of a plan.
+//!
+//! Runs of calls of all four kinds, refused ones among them, are made on a `Mesh` and in a `Season`
+//! beside lent tables, whose calls are held to the model one by one; then the season is taken back.
+//! Damaged meshes are refused as lent tables are. Places and supports are those of the model.
+
+use differential::surface::{damage, random_heights, with_heights, Fill, DAMAGES, DEGREES};
+use differential::{
+    all_corners, has_corners, of_wrapper, plan, random_marks, random_plan, random_refined, Kind,
+    Outcome, Random, Tables,
+};
+use model::Plan;
+use std::collections::BTreeSet;
+use std::ops::Range;
+use wallmirror::{
+    Call, Cell, Function, Lists, Made, Mesh, Place, Refusal, Season, Support, Undone, MAX_CELLS,
+    MAX_CORNER_DOUBLES, MAX_FILE_BYTES, MAX_FUNCTIONS,
+};
+use Kind::*;
+
+fn owned(tables: &Tables) -> Mesh {
+    let Tables { plan, cells, functions } = tables.clone();
+    Mesh { plan: of_wrapper(plan), cells, functions }
+}
+
+fn as_cells(numbers: &[u32]) -> Vec<Cell> {
+    numbers.iter().copied().map(Cell).collect()
+}
+
+fn as_functions(numbers: &[u32]) -> Vec<Function> {
+    numbers.iter().copied().map(Function).collect()
+}
+
+fn call_of(kind: Kind, marks: &[u32]) -> Call {
+    match kind {
+        RefineCells => Call::RefineCells(as_cells(marks)),
+        RefineFunctions => Call::RefineFunctions(as_functions(marks)),
+        CoarsenCells => Call::CoarsenCells(as_cells(marks)),
+        CoarsenFunctions => Call::CoarsenFunctions(as_functions(marks)),
+    }
+}
+
+fn refusal(number: u32) -> Refusal {
+    Refusal::from_number(number).expect("a number that a refusal has")
+}
+
+fn answer(outcome: &Outcome) -> Result<Lists, Refusal> {
+    let Outcome { number, cells, functions } = outcome;
+    match number {
+        0 => Ok(Lists { cells: as_cells(cells), functions: as_functions(functions) }),
+        _ => Err(refusal(*number)),
+    }
+}
+
+/// By the methods that are named after the calls.
+fn by_name_on_mesh(mesh: &mut Mesh, call: &Call) -> Result<Lists, Refusal> {
+    match call {
+        Call::RefineCells(marks) => mesh.refine_cells(marks),
+        Call::RefineFunctions(marks) => mesh.refine_functions(marks),
+        Call::CoarsenCells(marks) => mesh.coarsen_cells(marks),
+        Call::CoarsenFunctions(marks) => mesh.coarsen_functions(marks),
+    }
+}
+
+fn by_name_in_season(season: &mut Season, call: &Call) -> Result<Lists, Refusal> {
+    let lists = match call {
+        Call::RefineCells(marks) => season.refine_cells(marks),
+        Call::RefineFunctions(marks) => season.refine_functions(marks),
+        Call::CoarsenCells(marks) => season.coarsen_cells(marks),
+        Call::CoarsenFunctions(marks) => season.coarsen_functions(marks),
+    };
+    lists.cloned()
+}
+
+fn with_heights_on_mesh(
+    mesh: &mut Mesh,
+    kind: Kind,
+    heights: &mut [i32],
+    marks: &[u32],
+) -> Result<Lists, Refusal> {
+    match kind {
+        RefineCells => mesh.refine_cells_with_heights(heights, &as_cells(marks)),
+        _ => mesh.refine_functions_with_heights(heights, &as_functions(marks)),
+    }
+}
+
+fn with_heights_in_season(
+    season: &mut Season,
+    kind: Kind,
+    heights: &mut [i32],
+    marks: &[u32],
+) -> Result<Lists, Refusal> {
+    let lists = match kind {
+        RefineCells => season.refine_cells_with_heights(heights, &as_cells(marks)),
+        _ => season.refine_functions_with_heights(heights, &as_functions(marks)),
+    };
+    lists.cloned()
+}
+
+/// The lent call with heights and lists of T and F entries.
+fn with_heights_on_tables(
+    tables: &mut Tables,
+    kind: Kind,
+    heights: &mut Vec<i32>,
+    marks: &[u32],
+) -> Outcome {
+    let cell_list = vec![0xdead_beef; tables.cells.len()];
+    let function_list = vec![0xfeed_f00d; tables.functions.len()];
+    tables.refine_with_heights(kind, heights, marks, &cell_list, &function_list)
+}
+
+/// One run three times over: on lent tables, which are held to the model, on a mesh and in a season.
+struct Run {
+    first: Mesh,
+    tables: Tables,
+    mesh: Mesh,
+    season: Season,
+    /// What the season is to have: the accepted calls that were not taken back.
+    made: Vec<Made>,
+}
+
+impl Run {
+    fn new(tables: Tables) -> Run {
+        let first = owned(&tables);
+        let season = Season::new(first.clone()).expect("a mesh that check passes");
+        Run { mesh: first.clone(), first, tables, season, made: vec![] }
+    }
+
+    /// Makes a call, by the method that takes any or by its own. Answers the number.
+    fn make(&mut self, kind: Kind, marks: &[u32], by_name: bool) -> u32 {
+        let outcome = self.tables.call_with_room(kind, marks);
+        let call = call_of(kind, marks);
+        let (on_mesh, in_season) = if by_name {
+            (by_name_on_mesh(&mut self.mesh, &call), by_name_in_season(&mut self.season, &call))
+        } else {
+            (self.mesh.make(&call), self.season.make(call.clone()).cloned())
+        };
+        self.expect(call, &outcome, [on_mesh, in_season]);
+        outcome.number
+    }
+
+    /// Refines with heights, which are then as the call left them.
+    fn refine_with_heights(&mut self, kind: Kind, heights: &mut Vec<i32>, marks: &[u32]) -> u32 {
+        let mut carried = [heights.clone(), heights.clone()];
+        let [of_mesh, of_season] = &mut carried;
+        let answers = [
+            with_heights_on_mesh(&mut self.mesh, kind, of_mesh, marks),
+            with_heights_in_season(&mut self.season, kind, of_season, marks),
+        ];
+        let outcome = with_heights_on_tables(&mut self.tables, kind, heights, marks);
+        assert!(carried.iter().all(|carried| carried == heights), "{:?}", self.tables.plan);
+        self.expect(call_of(kind, marks), &outcome, answers);
+        outcome.number
+    }
+
+    /// Both answers are that of the lent call, and a call is kept where it was accepted.
+    fn expect(&mut self, call: Call, outcome: &Outcome, answers: [Result<Lists, Refusal>; 2]) {
+        let answer = answer(outcome);
+        for is in answers {
+            assert_eq!(is, answer, "{call:?} {:?}", self.tables.plan);
+        }
+        if let Ok(lists) = answer {
+            self.made.push(Made { call, lists });
+        }
+        self.expect_same();
+    }
+
+    fn expect_same(&self) {
+        let tables = owned(&self.tables);
+        assert!(self.mesh == tables, "{:?}", self.tables.plan);
+        assert!(self.season.mesh() == &tables, "{:?}", self.tables.plan);
+        assert!(self.season.first() == &self.first, "{:?}", self.tables.plan);
+        assert_eq!(self.season.calls(), self.made, "{:?}", self.tables.plan);
+    }
+
+    /// Takes the last call back: in the season, and elsewhere by its kept cells.
+    fn undo(&mut self) {
+        let undone = self.season.undo();
+        let Some(made) = self.made.pop() else {
+            assert_eq!(undone, None);
+            return;
+        };
+        self.take_back(made, undone.expect("a call to take back"));
+        self.expect_same();
+    }
+
+    /// On the tables and on the mesh, as the season did.
+    fn take_back(&mut self, made: Made, undone: Undone) {
+        let kind = if made.call.refines() { CoarsenCells } else { RefineCells };
+        let marks: Vec<u32> = made.lists.cells.iter().map(|cell| cell.0).collect();
+        let outcome = self.tables.call_with_room(kind, &marks);
+        assert_eq!(answer(&outcome), Ok(made.lists.clone()));
+        let (opposite, lists) = (call_of(kind, &marks), made.lists.clone());
+        assert_eq!(self.mesh.make(&opposite), Ok(made.lists.clone()));
+        assert_eq!(undone, Undone { made, opposite, lists });
+    }
+
+    /// Takes one call back, then the others at once, and comes to the first mesh.
+    fn undo_all(mut self) {
+        self.undo();
+        let undone = self.season.undo_all();
+        assert_eq!(undone.len(), self.made.len());
+        for undone in undone {
+            let made = self.made.pop().expect("a call to take back");
+            self.take_back(made, undone);
+        }
+        self.expect_same();
+        self.undo();
+        assert_eq!(self.season.undo_all(), []);
+        assert_eq!(self.season.mesh().to_file(), Ok(Tables::file(&self.tables)));
+        assert_eq!(self.season.mesh().to_file(), self.first.to_file());
+        assert!(self.season.into_mesh() == self.first);
+    }
+}
+
+fn random_start(random: &mut Random, plan: Plan) -> Tables {
+    if random.once_in(2) {
+        return Tables::opened(plan);
+    }
+    let refined = random_refined(random, plan);
+    Tables::with_refined(plan, &refined)
+}
+
+/// Marks for a call, sometimes with one beyond the last.
+fn marks(random: &mut Random, tables: &Tables, kind: Kind) -> Vec<u32> {
+    let mut marks = random_marks(random, tables, kind);
+    if random.once_in(20) {
+        let total = if kind.by_functions() { tables.functions.len() } else { tables.cells.len() };
+        marks.push(random.pick(&[total as u32, u32::MAX]));
+    }
+    marks
+}
+
+// ---- Runs ----
+
+/// A run with calls taken back in between. Answers the numbers that its calls gave.
+fn season(random: &mut Random, plan: Plan) -> Vec<u32> {
+    let mut run = Run::new(random_start(random, plan));
+    let mut numbers = vec![];
+    for _ in 0..random.below(10) + 6 {
+        // More refining than coarsening, so that there is something to coarsen.
+        let kind = random.pick(&[
+            RefineCells,
+            RefineCells,
+            RefineFunctions,
+            CoarsenCells,
+            CoarsenFunctions,
+        ]);
+        let marks = marks(random, &run.tables, kind);
+        numbers.push(run.make(kind, &marks, random.once_in(2)));
+        if random.once_in(6) {
+            run.undo();
+        }
+    }
+    run.undo_all();
+    numbers
+}
+
+#[test]
+fn seasons_are_taken_back() {
+    let mut random = Random::new(800);
+    let (mut numbers, mut cornered) = (vec![], 0);
+    for class in [0, 2, 3, 4, 5, 6, 7, 8] {
+        for degrees in (1..=4).flat_map(|across| (1..=4).map(move |up| (across, up))) {
+            let most = random.pick(&[30, 100, 350, 1500]);
+            let plan = random_plan(&mut random, degrees, class, most);
+            cornered += usize::from(has_corners(plan));
+            numbers.extend(season(&mut random, plan));
+        }
+    }
+    let often = |number| numbers.iter().filter(|&&is| is == number).count();
+    assert!(often(0) > 800 && [7, 8, 9].iter().all(|&number| often(number) > 9), "{numbers:?}");
+    assert!(cornered > 30, "{cornered}");
+}
+
+/// A run in which refinements carry heights, which are any before each call.
+fn season_with_heights(random: &mut Random, plan: Plan) -> Vec<u32> {
+    let mut run = Run::new(random_start(random, plan));
+    let mut numbers = vec![];
+    for _ in 0..random.below(6) + 4 {
+        let kind = random.pick(&[RefineCells, RefineFunctions, CoarsenCells]);
+        let marks = marks(random, &run.tables, kind);
+        if !kind.refines() {
+            numbers.push(run.make(kind, &marks, true));
+            continue;
+        }
+        let fill = random.pick(&Fill::ALL);
+        let mut heights = random_heights(random, &run.tables, fill);
+        if random.once_in(6) {
+            let thing = random.pick(&[9, 10, 11, 15]); // those that concern the heights
+            damage(random, thing, &run.tables.clone(), &mut run.tables, &mut heights);
+        }
+        numbers.push(run.refine_with_heights(kind, &mut heights, &marks));
+    }
+    run.undo_all();
+    numbers
+}
+
+#[test]
+fn seasons_with_heights_are_taken_back() {
+    let mut random = Random::new(801);
+    let mut numbers = vec![];
+    for class in [0, 2, 3, 4] {
+        for degrees in DEGREES.repeat(3) {
+            let plan = with_heights(&mut random, degrees, class, 120);
+            numbers.extend(season_with_heights(&mut random, plan));
+        }
+        // With a degree that heights are not for.
+        let plan = random_plan(&mut random, (3, 1), class, 120);
+        numbers.extend(season_with_heights(&mut random, plan));
+    }
+    let often = |number| numbers.iter().filter(|&&is| is == number).count();
+    let all_came = [3, 7, 8, 14, 15, 17].iter().all(|&number| often(number) > 3);
+    assert!(often(0) > 100 && all_came, "{numbers:?}");
+}
+
+/// The active cells that are not of the last level.
+fn refinable(mesh: &Mesh) -> Vec<Cell> {
+    let last = |cell| mesh.plan.place(cell).is_none_or(|p| p.level + 1 == mesh.plan.levels);
+    let cells = (0..).map(Cell).zip(&mesh.cells);
+    cells.filter(|&(cell, &byte)| byte == 1 && !last(cell)).map(|(cell, _)| cell).collect()
+}
+
+/// The deactivated functions of the last level but one.
+fn finest_deactivated(mesh: &Mesh) -> Vec<Function> {
+    let level = |function| mesh.plan.support(function).map(|support| support.level);
+    let functions = (0..).map(Function).zip(&mesh.functions);
+    let deactivated = functions.filter(|function| *function.1 == 2).map(|function| function.0);
+    deactivated.filter(|&function| level(function) == Some(mesh.plan.levels - 2)).collect()
+}
+
+/// Seasons of plans with the most cells and functions, without the model, which would take long. All
+/// is refined, level by level, and then some coarsened.
+#[test]
+fn seasons_of_the_largest_are_taken_back() {
+    for numbers in [
+        [1, 1, 8, 4, 4, 2, 0, 0],
+        [16, 16, 4, 4, 4, 2, all_corners(16), all_corners(16)],
+        [16, 1, 6, 3, 2, 0, 0, 0],
+    ] {
+        let first = Mesh::open(of_wrapper(plan(numbers))).expect("a plan in range");
+        let mut season = Season::new(first.clone()).expect("a mesh");
+        for _ in 1..numbers[2] {
+            season.refine_cells(&refinable(season.mesh())).expect("active cells");
+        }
+        let lists = season.coarsen_functions(&finest_deactivated(season.mesh()));
+        assert!(!lists.expect("functions over reactivable cells").cells.is_empty());
+        let last = season.mesh().cells.iter().rposition(|&byte| byte == 2).expect("a refined cell");
+        season.coarsen_cells(&[Cell(last as u32)]).expect("a reactivable cell");
+        assert_eq!(season.calls().len(), numbers[2] as usize + 1);
+        expect_undone(season, &first);
+    }
+}
+
+fn expect_undone(mut season: Season, first: &Mesh) {
+    let made = season.calls().to_vec();
+    assert!(made.iter().any(|made| made.lists.cells.len() > 1000));
+    let undone = season.undo_all();
+    assert_eq!(undone.len(), made.len());
+    for (undone, made) in undone.iter().zip(made.iter().rev()) {
+        assert!(undone.made == *made && undone.lists == made.lists);
+    }
+    assert!(season.mesh() == first);
+    assert_eq!(season.mesh().to_file(), first.to_file());
+}
+
+// ---- Meshes that are none ----
+
+/// A call with an answer that the model gives: the numbers are the same.
+fn number<T>(answer: &Result<T, Refusal>) -> u32 {
+    answer.as_ref().err().map_or(0, |refusal| refusal.number())
+}
+
+/// Whatever is refused of the tables is refused of the mesh, with nothing changed, and the other way
+/// round.
+fn expect_alike(tables: &Tables, heights: &[i32]) {
+    let mesh = owned(tables);
+    let season = Season::new(mesh.clone());
+    assert_eq!(number(&season), tables.check());
+    assert!(season.is_err() || season.is_ok_and(|s| s.mesh() == &mesh && s.calls().is_empty()));
+    assert_eq!(number(&mesh.check()), tables.check());
+    assert_eq!(number(&mesh.count()), tables.count().number);
+    let file = tables.write(&[0xee; MAX_FILE_BYTES]);
+    assert_eq!(mesh.to_file().map_err(Refusal::number), file);
+    let height = mesh.height(heights, 3, 1).map_err(Refusal::number);
+    assert_eq!(height, tables.height(heights, 3, 1));
+    let corners = tables.corners(heights, &[7; MAX_CORNER_DOUBLES]);
+    assert_eq!(
+        mesh.corners(heights).map(|c| c.len()).map_err(Refusal::number),
+        corners.map(|c| c.len())
+    );
+    for kind in Kind::ALL {
+        expect_call_alike(tables, kind, &[0]);
+    }
+    for kind in Kind::REFINING {
+        expect_call_with_heights_alike(tables, kind, heights, &[0]);
+    }
+}
+
+fn expect_call_alike(tables: &Tables, kind: Kind, marks: &[u32]) {
+    let (mut tables, mut mesh) = (tables.clone(), owned(tables));
+    let outcome = tables.call_with_room(kind, marks);
+    assert_eq!(mesh.make(&call_of(kind, marks)), answer(&outcome), "{kind:?} {:?}", tables.plan);
+    assert!(mesh == owned(&tables));
+}
+
+fn expect_call_with_heights_alike(tables: &Tables, kind: Kind, heights: &[i32], marks: &[u32]) {
+    let (mut tables, mut mesh) = (tables.clone(), owned(tables));
+    let (mut lent, mut carried) = (heights.to_vec(), heights.to_vec());
+    let outcome = with_heights_on_tables(&mut tables, kind, &mut lent, marks);
+    let is = with_heights_on_mesh(&mut mesh, kind, &mut carried, marks);
+    assert_eq!(is, answer(&outcome), "{kind:?} {:?}", tables.plan);
+    assert!(mesh == owned(&tables) && carried == lent);
+}
+
+fn opened(numbers: [u32; 6]) -> Tables {
+    Tables::opened(plan(numbers))
+}
+
+/// The examples of the scope document, one of each number.
+#[test]
+fn each_number_of_check_is_refused() {
+    let fresh = opened([3, 1, 3, 1, 1, 0]);
+    let mut refused: [Tables; 6] = std::array::from_fn(|_| fresh.clone());
+    refused[0].plan.columns = 0;
+    refused[1].plan = plan([16, 16, 5, 1, 1, 0]);
+    refused[2].cells.pop();
+    refused[3].cells[0] = 0;
+    let graded = plan([3, 1, 3, 1, 1, 2]);
+    let refined: BTreeSet<model::Cell> = [0, 3].map(|cell| graded.cell_at(cell)).into();
+    refused[4] = Tables::with_refined(graded, &refined);
+    refused[5].functions[0] = 2;
+    for (tables, number) in refused.iter().zip(1..) {
+        assert_eq!(Season::new(owned(tables)), Err(refusal(number)));
+        expect_alike(tables, &vec![0; tables.functions.len()]);
+    }
+    assert!(Season::new(owned(&fresh)).is_ok());
+    expect_alike(&fresh, &vec![5; fresh.functions.len()]);
+}
+
+#[test]
+fn damaged_meshes_are_refused() {
+    let mut random = Random::new(802);
+    let mut seen = [0; 7];
+    for round in 0..300 {
+        let degrees = random.pick(&DEGREES);
+        let class = random.pick(&[0, 2, 3]);
+        let plan = with_heights(&mut random, degrees, class, 100);
+        let mesh = random_start(&mut random, plan);
+        let mut heights = random_heights(&mut random, &mesh, Fill::Small);
+        let mut tables = mesh.clone();
+        damage(&mut random, round % DAMAGES, &mesh, &mut tables, &mut heights);
+        seen[tables.check() as usize] += 1;
+        expect_alike(&tables, &heights);
+    }
+    assert!(seen.iter().all(|&often| often > 3), "{seen:?}");
+}
+
+/// Garbage of every length: shorter, longer, and longer than any table may be.
+#[test]
+fn tables_of_any_length_are_refused() {
+    let mut random = Random::new(803);
+    let fresh = opened([3, 1, 3, 1, 1, 2]);
+    let (t, f) = (fresh.cells.len(), fresh.functions.len());
+    let mut tables = fresh.clone();
+    for cells in [0, 1, t - 1, t, t + 1, MAX_CELLS + 1, 100_000] {
+        for functions in [0, 1, f - 1, f, f + 1, MAX_FUNCTIONS + 1, 100_000] {
+            let garbage = random.pick(&[0, 1, 2, 255]);
+            tables.cells = vec![garbage; cells];
+            tables.functions = vec![garbage; functions];
+            assert_eq!(tables.check(), if (cells, functions) == (t, f) { 4 } else { 3 });
+            expect_alike(&tables, &vec![0; functions]);
+        }
+    }
+}
+
+/// A plan with one number out of range, for each number and some values.
+fn out_of_range(plan: Plan) -> Vec<Plan> {
+    let far = [u32::MAX, u32::MAX - 1, 1 << 31, 33, 32];
+    let mut plans = vec![];
+    for value in far.into_iter().chain([0, 17]) {
+        plans.extend([Plan { columns: value, ..plan }, Plan { rows: value, ..plan }]);
+        plans.extend([Plan { levels: value, ..plan }, Plan { degree_across: value, ..plan }]);
+        plans.push(Plan { degree_up: value, ..plan });
+    }
+    for value in far.into_iter().chain([1, 9]) {
+        plans.push(Plan { class: value, ..plan });
+    }
+    for value in [1, 1 << 31, u32::MAX, 1 << plan.columns.max(plan.rows)] {
+        plans.extend([Plan { corners_across: value, ..plan }, Plan { corners_up: value, ..plan }]);
+    }
+    plans
+}
+
+#[test]
+fn plans_out_of_range_have_nothing() {
+    let place = Place { level: 0, row: 0, column: 0 };
+    let mut plans = out_of_range(plan([3, 2, 3, 2, 1, 2, 2, 2]));
+    plans.extend([plan([16, 16, 5, 1, 1, 0]), plan([1, 2, 8, 1, 1, 0])]);
+    for plan in plans {
+        let refused = model::open(plan, 0, 0).expect_err("a plan that is refused");
+        assert!(refused < 3, "{plan:?}");
+        let of_wrapper = of_wrapper(plan);
+        assert_eq!(Mesh::open(of_wrapper), Err(refusal(refused)), "{plan:?}");
+        assert_eq!(of_wrapper.place(Cell(0)), None, "{plan:?}");
+        assert_eq!(of_wrapper.cell_at(place), None, "{plan:?}");
+        assert_eq!(of_wrapper.support(Function(0)), None, "{plan:?}");
+        assert_eq!((of_wrapper.cells_on(0), of_wrapper.functions_on(0)), (None, None), "{plan:?}");
+    }
+}
+
+// ---- Places ----
+
+/// Every cell and every function is where the model has it, and there are no others.
+fn expect_places(plan: Plan) {
+    let of_wrapper = of_wrapper(plan);
+    for (number, model::Cell { level, row, column }) in (0..).zip(plan.cells()) {
+        let place = Place { level, row, column };
+        assert_eq!(of_wrapper.place(Cell(number)), Some(place), "{plan:?}");
+        assert_eq!(of_wrapper.cell_at(place), Some(Cell(number)), "{plan:?}");
+    }
+    for (number, model::Function { level, row, column }) in (0..).zip(plan.functions()) {
+        let rows = plan.up(level).covered(row);
+        let columns = plan.across(level).covered(column);
+        let support = Some(Support { level, rows, columns });
+        assert_eq!(of_wrapper.support(Function(number)), support, "{number} {plan:?}");
+    }
+    for more in [0, 1, u32::MAX / 2, u32::MAX] {
+        let beyond = |total: usize| (total as u32).saturating_add(more);
+        assert_eq!(of_wrapper.place(Cell(beyond(plan.cell_total()))), None, "{plan:?}");
+        assert_eq!(of_wrapper.support(Function(beyond(plan.function_total()))), None, "{plan:?}");
+    }
+    for level in (0..plan.levels + 2).chain([32, u32::MAX]) {
+        expect_level(plan, level);
+        expect_nothing_beyond(plan, level);
+    }
+}
+
+/// The numbers of a level are those of its cells and functions.
+fn expect_level(plan: Plan, level: u32) {
+    let numbers = |levels: Vec<u32>| -> Vec<u32> {
+        (0..).zip(levels).filter(|&(_, of)| of == level).map(|(number, _)| number).collect()
+    };
+    let cells = numbers(plan.cells().map(|cell| cell.level).collect());
+    let functions = numbers(plan.functions().map(|function| function.level).collect());
+    let listed = |range: Option<Range<u32>>| range.map_or(vec![], |range| range.collect());
+    assert_eq!(listed(of_wrapper(plan).cells_on(level)), cells, "{level} {plan:?}");
+    assert_eq!(listed(of_wrapper(plan).functions_on(level)), functions, "{level} {plan:?}");
+}
+
+/// No cell lies beyond the far edges, nor on a level that the plan has not.
+fn expect_nothing_beyond(plan: Plan, level: u32) {
+    let wide = |count: u32| if level < plan.levels { count << level } else { 0 };
+    let (rows, columns) = (wide(plan.rows), wide(plan.columns));
+    for far in [0, 1, u32::MAX] {
+        let places = [
+            Place { level, row: rows.saturating_add(far), column: 0 },
+            Place { level, row: 0, column: columns.saturating_add(far) },
+            Place { level, row: u32::MAX, column: u32::MAX },
+        ];
+        for place in places {
+            assert_eq!(of_wrapper(plan).cell_at(place), None, "{place:?} {plan:?}");
+        }
+    }
+}
+
+#[test]
+fn places_and_supports() {
+    let mut random = Random::new(804);
+    let mut cornered = 0;
+    for degrees in (1..=4).flat_map(|across| (1..=4).map(move |up| (across, up))) {
+        for most in [20, 100, 400, 400, 1500, 1500] {
+            let plan = random_plan(&mut random, degrees, 0, most);
+            cornered += usize::from(has_corners(plan));
+            expect_places(plan);
+        }
+    }
+    assert!(cornered > 30, "{cornered}");
+}
+
+/// The most levels, the most cells and the most functions that there may be.
+#[test]
+fn places_and_supports_of_the_largest() {
+    for numbers in [
+        [1, 1, 8, 4, 4, 2, 0, 0],
+        [16, 16, 4, 1, 2, 0, 0, 0],
+        [16, 16, 4, 4, 4, 2, all_corners(16), all_corners(16)],
+        [16, 1, 6, 3, 4, 8, all_corners(16), 0],
+        [1, 16, 6, 2, 3, 0, 0, 1 << 15 | 2],
+    ] {
+        expect_places(plan(numbers));
+    }
+}

@@ -1,0 +1,250 @@
+//! A mesh that owns its tables, and the calls on it.
+
+use crate::{
+    check, coarsen_cells, coarsen_functions, corners, count, doubles, height, open, read,
+    refine_cells, refine_cells_with_heights, refine_functions, refine_functions_with_heights,
+    write, Cell, Changed, Corner, Count, Function, Plan, ReadRefusal, Refusal, MAX_CELLS,
+    MAX_FILE_BYTES, MAX_FUNCTIONS, MAX_PROJECTED_CELLS,
+};
+
+/// A plan with tables that it owns. Anything may stand in them; the calls refuse what is no mesh.
+///
+/// ```
+/// # use wallmirror::{Cell, Function, Mesh, Plan};
+/// let plan = Plan { columns: 3, levels: 3, class: 2, ..Plan::default() };
+/// let mut mesh = Mesh::open(plan)?;
+/// mesh.refine_cells(&[Cell(0)])?;
+/// // Cell 1 becomes refined too, because the mesh has to stay admissible.
+/// let lists = mesh.refine_cells(&[Cell(3)])?;
+/// assert_eq!(lists.cells, [Cell(1), Cell(3)]);
+/// assert_eq!(lists.functions, [Function(1), Function(5), Function(8)]);
+/// // Given to the opposite call, the cells take it back.
+/// assert_eq!(mesh.coarsen_cells(&lists.cells)?, lists);
+/// # Ok::<(), wallmirror::Refusal>(())
+/// ```
+#[derive(Clone, Debug, PartialEq, Eq, Hash)]
+pub struct Mesh {
+    pub plan: Plan,
+    /// One byte for each cell of each level.
+    pub cells: Vec<u8>,
+    /// One byte for each function of each level.
+    pub functions: Vec<u8>,
+}
+
+/// The two lists of a call, in rising order.
+#[derive(Clone, Debug, Default, PartialEq, Eq, Hash)]
+pub struct Lists {
+    /// The cells that became refined, or ceased to be.
+    pub cells: Vec<Cell>,
+    /// The functions that became deactivated, or ceased to be.
+    pub functions: Vec<Function>,
+}
+
+/// A call that changes a mesh, with its marks.
+#[derive(Clone, Debug, PartialEq, Eq, Hash)]
+pub enum Call {
+    RefineCells(Vec<Cell>),
+    RefineFunctions(Vec<Function>),
+    CoarsenCells(Vec<Cell>),
+    CoarsenFunctions(Vec<Function>),
+}
+
+impl Call {
+    /// Whether it refines; otherwise it coarsens.
+    pub fn refines(&self) -> bool {
+        matches!(self, Call::RefineCells(_) | Call::RefineFunctions(_))
+    }
+
+    /// The call that takes this one back, by the cells that this one listed.
+    ///
+    /// ```
+    /// # use wallmirror::{Call, Cell, Function};
+    /// let call = Call::RefineFunctions(vec![Function(1)]);
+    /// let listed = [Cell(0), Cell(1)];
+    /// assert_eq!(call.opposite(&listed), Call::CoarsenCells(listed.to_vec()));
+    /// ```
+    pub fn opposite(&self, listed: &[Cell]) -> Call {
+        if self.refines() {
+            Call::CoarsenCells(listed.to_vec())
+        } else {
+            Call::RefineCells(listed.to_vec())
+        }
+    }
+}
+
+impl Mesh {
+    /// The coarsest mesh of a plan. Refuses 1 and 2.
+    ///
+    /// ```
+    /// # use wallmirror::{Mesh, Plan, Refusal};
+    /// let mesh = Mesh::open(Plan { columns: 3, levels: 3, ..Plan::default() })?;
+    /// assert_eq!((mesh.cells.len(), mesh.functions.len()), (63, 94));
+    /// let refused = Mesh::open(Plan { columns: 17, ..Plan::default() });
+    /// assert_eq!(refused, Err(Refusal::PlanOutOfRange));
+    /// # Ok::<(), Refusal>(())
+    /// ```
+    pub fn open(plan: Plan) -> Result<Mesh, Refusal> {
+        // A plan that has no lengths is refused before they are looked at.
+        let table = |length: Option<usize>| vec![0; length.unwrap_or(0)];
+        let (mut cells, mut functions) = (table(plan.cells()), table(plan.functions()));
+        open(plan, &mut cells, &mut functions)?;
+        Ok(Mesh { plan, cells, functions })
+    }
+
+    /// The mesh of a file. Refuses 12, then 1, 2, 4 and 5, then 13.
+    ///
+    /// ```
+    /// # use wallmirror::{Mesh, Refusal};
+    /// let mesh = Mesh::from_file(&[3, 1, 3, 1, 1, 0, 0])?;
+    /// assert_eq!((mesh.plan.columns, mesh.cells.len(), mesh.functions.len()), (3, 63, 94));
+    /// // A refined cell is announced and does not come.
+    /// assert_eq!(Mesh::from_file(&[3, 1, 3, 1, 1, 0, 1]), Err(Refusal::MalformedFile));
+    /// # Ok::<(), Refusal>(())
+    /// ```
+    pub fn from_file(file: &[u8]) -> Result<Mesh, Refusal> {
+        // A plan has cells, so empty tables are refused: with the plan, or because there is none.
+        let plan = match read(file, &mut [], &mut []) {
+            Ok(plan) | Err(ReadRefusal { plan: Some(plan), .. }) => plan,
+            Err(unread) => return Err(unread.refusal),
+        };
+        let table = |length: Option<usize>| vec![0; length.expect("a plan that is in range")];
+        let (mut cells, mut functions) = (table(plan.cells()), table(plan.functions()));
+        read(file, &mut cells, &mut functions)?;
+        Ok(Mesh { plan, cells, functions })
+    }
+
+    /// The file of the mesh, of at most [`MAX_FILE_BYTES`]. Refuses 1 to 6.
+    pub fn to_file(&self) -> Result<Vec<u8>, Refusal> {
+        let mut file = vec![0; MAX_FILE_BYTES];
+        let length = write(self.plan, &self.cells, &self.functions, &mut file)?;
+        file.truncate(length);
+        Ok(file)
+    }
+
+    /// Whether the tables are an admissible mesh of the plan, as [`check`] says.
+    pub fn check(&self) -> Result<(), Refusal> {
+        check(self.plan, &self.cells, &self.functions)
+    }
+
+    /// Cells, functions and area, as [`count`] says.
+    pub fn count(&self) -> Result<Count, Refusal> {
+        count(self.plan, &self.cells, &self.functions)
+    }
+
+    /// Refines by cells, as [`refine_cells`] says. Refuses 1 to 9.
+    pub fn refine_cells(&mut self, marks: &[Cell]) -> Result<Lists, Refusal> {
+        self.change(|plan, cells, functions, cell_list, function_list| {
+            refine_cells(plan, cells, functions, marks, cell_list, function_list)
+        })
+    }
+
+    /// Refines by functions, as [`refine_functions`] says. Refuses 1 to 9.
+    pub fn refine_functions(&mut self, marks: &[Function]) -> Result<Lists, Refusal> {
+        self.change(|plan, cells, functions, cell_list, function_list| {
+            refine_functions(plan, cells, functions, marks, cell_list, function_list)
+        })
+    }
+
+    /// Coarsens by cells, as [`coarsen_cells`] says. Refuses 1 to 8.
+    pub fn coarsen_cells(&mut self, marks: &[Cell]) -> Result<Lists, Refusal> {
+        self.change(|plan, cells, functions, cell_list, function_list| {
+            coarsen_cells(plan, cells, functions, marks, cell_list, function_list)
+        })
+    }
+
+    /// Coarsens by functions, as [`coarsen_functions`] says. Refuses 1 to 8.
+    pub fn coarsen_functions(&mut self, marks: &[Function]) -> Result<Lists, Refusal> {
+        self.change(|plan, cells, functions, cell_list, function_list| {
+            coarsen_functions(plan, cells, functions, marks, cell_list, function_list)
+        })
+    }
+
+    /// The one of the four calls above that `call` is.
+    pub fn make(&mut self, call: &Call) -> Result<Lists, Refusal> {
+        match call {
+            Call::RefineCells(marks) => self.refine_cells(marks),
+            Call::RefineFunctions(marks) => self.refine_functions(marks),
+            Call::CoarsenCells(marks) => self.coarsen_cells(marks),
+            Call::CoarsenFunctions(marks) => self.coarsen_functions(marks),
+        }
+    }
+
+    /// Refines by cells and carries the heights, as [`refine_cells_with_heights`] says. Refuses 1 to
+    /// 6; then 3 of the heights, 14, 15; then 7 to 9; then 17.
+    pub fn refine_cells_with_heights(
+        &mut self,
+        heights: &mut [i32],
+        marks: &[Cell],
+    ) -> Result<Lists, Refusal> {
+        self.change(|plan, cells, functions, cell_list, function_list| {
+            refine_cells_with_heights(
+                plan,
+                cells,
+                functions,
+                heights,
+                marks,
+                cell_list,
+                function_list,
+            )
+        })
+    }
+
+    /// Refines by functions and carries the heights, as [`refine_functions_with_heights`] says.
+    /// Refuses likewise.
+    pub fn refine_functions_with_heights(
+        &mut self,
+        heights: &mut [i32],
+        marks: &[Function],
+    ) -> Result<Lists, Refusal> {
+        self.change(|plan, cells, functions, cell_list, function_list| {
+            refine_functions_with_heights(
+                plan,
+                cells,
+                functions,
+                heights,
+                marks,
+                cell_list,
+                function_list,
+            )
+        })
+    }
+
+    /// Lends a call lists as long as the tables, so that none is too short, and keeps what it wrote.
+    fn change(
+        &mut self,
+        call: impl FnOnce(
+            Plan,
+            &mut [u8],
+            &mut [u8],
+            &mut [Cell],
+            &mut [Function],
+        ) -> Result<Changed, Refusal>,
+    ) -> Result<Lists, Refusal> {
+        // Longer tables are refused, so that none asks for much memory.
+        let mut cell_list = vec![Cell(0); self.cells.len().min(MAX_CELLS)];
+        let mut function_list = vec![Function(0); self.functions.len().min(MAX_FUNCTIONS)];
+        let (cells, functions) = (&mut self.cells[..], &mut self.functions[..]);
+        let changed = call(self.plan, cells, functions, &mut cell_list, &mut function_list)?;
+        Ok(Lists {
+            cells: cell_list[..changed.cells].to_vec(),
+            functions: function_list[..changed.functions].to_vec(),
+        })
+    }
+
+    /// The height of the surface at a point, as [`height`] says.
+    pub fn height(&self, heights: &[i32], across: u32, up: u32) -> Result<f64, Refusal> {
+        height(self.plan, &self.cells, &self.functions, heights, across, up)
+    }
+
+    /// The corners of the active cells, four for each, as [`corners`] says. Refuses 1; 2; 16; 3 to
+    /// 6; then 3 of the heights, 14, 15.
+    pub fn corners(&self, heights: &[i32]) -> Result<Vec<Corner>, Refusal> {
+        let active = self.cells.iter().filter(|&&byte| byte == 1).count();
+        // More are refused, so that no table asks for much memory.
+        let mut filled = vec![Corner::default(); 4 * active.min(MAX_PROJECTED_CELLS)];
+        let written =
+            corners(self.plan, &self.cells, &self.functions, heights, doubles(&mut filled))?;
+        filled.truncate(written);
+        Ok(filled)
+    }
+}
