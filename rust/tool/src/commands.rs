@@ -1,0 +1,165 @@
+//! What each command does. All answer what they print, so that no answer is printed while a wall is
+//! locked.
+
+use crate::drawing::{self, Changes};
+use crate::failure::Failure;
+use crate::store::{self, Folder};
+use crate::wall::{self, Wall};
+use crate::{report, vtk, words};
+use std::ffi::OsStr;
+use std::fs;
+use std::io::Write;
+use std::path::Path;
+use wallmirror::{Call, Cell, Mesh, Plan};
+
+pub fn new(file: &OsStr, plan: Plan) -> Result<String, Failure> {
+    let mesh = Mesh::open(plan).map_err(|refusal| Failure::refused(refusal, None))?;
+    Wall::create(file, &mesh)?;
+    Ok(format!("{}: {}\n", wall::shown(file), words::plan_and_corners(plan)))
+}
+
+pub fn info(file: &OsStr) -> Result<String, Failure> {
+    report::info(&Wall::open(file)?)
+}
+
+pub fn log(file: &OsStr) -> Result<String, Failure> {
+    Ok(report::log(&Wall::open(file)?))
+}
+
+/// Makes a call, with the answer of the session program.
+pub fn change(file: &OsStr, call: Call) -> Result<String, Failure> {
+    let mut wall = Wall::open(file)?;
+    match wall.make(call.clone())? {
+        Ok(lists) => Ok(format!("0;{}\n", words::lists(&lists))),
+        Err(refusal) => {
+            let at_fault = words::at_fault(wall.mesh(), &call);
+            Err(Failure::refused(refusal, at_fault).printing(format!("{};;\n", refusal.number())))
+        }
+    }
+}
+
+/// Walks the last calls back, or all.
+pub fn back(file: &OsStr, count: Option<u32>) -> Result<String, Failure> {
+    let mut wall = Wall::open(file)?;
+    let calls = wall.season().calls().len();
+    let count = match count {
+        None if calls == 0 => {
+            return Ok(format!("nothing to walk back: {}\n", first_again(&wall)?))
+        }
+        None => calls,
+        Some(count) => count as usize,
+    };
+    let numbers = wall.journal().numbers().to_vec();
+    let undone = wall.back(count)?;
+    let mut text = String::new();
+    for (undone, number) in undone.iter().zip(numbers.iter().rev()) {
+        text += &report::undone(*number, undone);
+    }
+    let left = calls - count;
+    if left == 0 {
+        return Ok(format!("{text}{}\n", first_again(&wall)?));
+    }
+    let calls = words::count(left, "call");
+    Ok(format!("{text}{}; {calls} left to walk back\n", as_after(&wall)?))
+}
+
+/// That the bytes on the disk are those of the first wall.
+fn first_again(wall: &Wall) -> Result<String, Failure> {
+    let bytes = same_bytes(wall, wall.season().first())?;
+    let bytes = words::count(bytes, "byte");
+    Ok(format!("{} is the first wall, byte for byte ({bytes})", wall.name()))
+}
+
+/// That they are those of the wall that the calls left make of the first one, as it was compared.
+fn as_after(wall: &Wall) -> Result<String, Failure> {
+    same_bytes(wall, wall.mesh())?;
+    let last = wall.journal().numbers().last().unwrap_or(&0);
+    Ok(format!("{} is the wall after call {last}, byte for byte", wall.name()))
+}
+
+/// Reads the file once more. Answers how many bytes it has.
+fn same_bytes(wall: &Wall, mesh: &Mesh) -> Result<usize, Failure> {
+    let bytes = mesh.to_file().map_err(|refusal| Failure::refused(refusal, None))?;
+    if wall.file()? == bytes {
+        return Ok(bytes.len());
+    }
+    let name = wall.name();
+    Err(Failure::bad(format!("'{name}' was changed meanwhile; its journal has all calls")))
+}
+
+pub fn restore(file: &OsStr) -> Result<String, Failure> {
+    let wall = Wall::restore(file)?;
+    let calls = words::count(wall.season().calls().len(), "call");
+    Ok(format!("{}: the wall after {calls} of its journal\n", wall.name()))
+}
+
+/// The picture of the wall, or nothing if it went to a file.
+pub fn draw(
+    file: &OsStr,
+    out: Option<&OsStr>,
+    functions: bool,
+    changed: bool,
+) -> Result<String, Failure> {
+    let wall = Wall::open(file)?;
+    let [split, joined] = changes(wall.journal().before(), wall.mesh());
+    let has_changed = !wall.journal().entries().is_empty();
+    let changed = (changed && has_changed).then_some(Changes { split: &split, joined: &joined });
+    let name = short_name(file);
+    let picture = drawing::svg(&name, wall.mesh(), &drawing::Options { functions, changed });
+    give(wall, out, picture)
+}
+
+pub fn export(file: &OsStr, out: Option<&OsStr>) -> Result<String, Failure> {
+    let wall = Wall::open(file)?;
+    let text = vtk::vtk(&short_name(file), wall.mesh());
+    give(wall, out, text)
+}
+
+/// The name of a file without its folders.
+fn short_name(file: &OsStr) -> String {
+    Path::new(file).file_name().unwrap_or(file).to_string_lossy().into_owned()
+}
+
+/// The cells that became split from one wall to the next, and those that ceased to be.
+fn changes(before: &Mesh, after: &Mesh) -> [Vec<Cell>; 2] {
+    [(before, after), (after, before)].map(|(from, to)| {
+        let pairs = from.cells.iter().zip(&to.cells).zip(0..);
+        pairs.filter(|((from, to), _)| **from != 2 && **to == 2).map(|(_, i)| Cell(i)).collect()
+    })
+}
+
+/// Writes the text to a file, or answers it to be printed.
+fn give(wall: Wall, out: Option<&OsStr>, text: String) -> Result<String, Failure> {
+    let Some(out) = out.filter(|out| *out != "-") else {
+        return Ok(text);
+    };
+    let path = Path::new(out);
+    let not_over = |what: &str| {
+        let out = path.display();
+        Failure::bad(format!("'{out}' is {what}; give '-o' another name"))
+    };
+    if wall.owns(path) {
+        return Err(not_over("the wall's own file"));
+    }
+    drop(wall);
+    if store::is_reserved(path) {
+        return Err(not_over("the name of what lies beside a wall"));
+    }
+    match fs::metadata(path) {
+        // A device or a pipe is written to and keeps its name.
+        Ok(file) if !file.is_file() => {
+            fs::File::create(path)
+                .and_then(|mut file| file.write_all(text.as_bytes()))
+                .map_err(|error| store::cannot_write(path, &error))?;
+        }
+        _ => {
+            let path = store::resolved(path);
+            let folder = Folder::lock(&path)?;
+            if wall::is_kept(&path) {
+                return Err(not_over("a wall or a journal, which is not written over"));
+            }
+            folder.replace(&[(&path, text.as_bytes())])?;
+        }
+    }
+    Ok(String::new())
+}

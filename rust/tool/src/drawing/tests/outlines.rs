@@ -1,0 +1,161 @@
+//! The outlines of changed cells.
+
+use super::*;
+
+/// An outline that was read: its cell, how far it is from the cell's edges, and how thick.
+struct Drawn {
+    cell: Cell,
+    inset: f64,
+    thickness: f64,
+}
+
+/// The outlines of a kind. A cell is known by its middle, which no other has.
+fn drawn(mesh: &Mesh, read: &Read, kind: &str) -> Vec<Drawn> {
+    let Some(group) = read.root.find(kind) else { return vec![] };
+    let middle = |&cell: &Cell| {
+        let (x, y, side) = read.place(mesh, cell);
+        (x + side / 2.0, y + side / 2.0)
+    };
+    let outline = |rect: &Node| {
+        let (width, thickness) = (rect.number("width"), rect.number("stroke-width"));
+        assert_eq!((rect.attribute("fill"), rect.number("height")), (Some("none"), width));
+        let (x, y) = (rect.number("x") + width / 2.0, rect.number("y") + width / 2.0);
+        let is_there = |cell: &Cell| {
+            let (across, down) = middle(cell);
+            (across - x).abs() + (down - y).abs() < 0.01
+        };
+        let cell = (0..mesh.cells.len() as u32).map(Cell).find(is_there).unwrap();
+        let inset = (read.place(mesh, cell).2 - width - thickness) / 2.0;
+        Drawn { cell, inset, thickness }
+    };
+    group.children("rect").map(outline).collect()
+}
+
+fn cells(outlines: &[Drawn]) -> Vec<Cell> {
+    outlines.iter().map(|outline| outline.cell).collect()
+}
+
+fn changed<'a>(split: &'a [Cell], joined: &'a [Cell]) -> Options<'a> {
+    Options { functions: false, changed: Some(Changes { split, joined }) }
+}
+
+#[test]
+fn outlines_are_around_the_changed_cells() {
+    let (mut mesh, lists) = worked();
+    let none: &[Cell] = &[];
+    let expect = |mesh: &Mesh, split: &[Cell], joined: &[Cell]| {
+        let read = read(mesh, &changed(split, joined));
+        assert_eq!(cells(&drawn(mesh, &read, "split")), split);
+        assert_eq!(cells(&drawn(mesh, &read, "joined")), joined);
+        let dashed = |rect: &Node| rect.attribute("stroke-dasharray").is_some();
+        let all = |kind, dashes| {
+            read.root.find(kind).is_none_or(|g| g.children("rect").all(|r| dashed(r) == dashes))
+        };
+        assert!(all("split", false) && all("joined", true));
+        let legend = texts(&read.root, "legend");
+        let says = |text: &str| legend.iter().any(|said| said == text);
+        assert_eq!(says("2 cells just split"), !split.is_empty());
+        assert_eq!(says("2 cells just joined"), !joined.is_empty());
+        let nothing = split.is_empty() && joined.is_empty();
+        assert_eq!(says("The last change split and joined nothing."), nothing);
+    };
+    expect(&mesh, &lists.cells, none);
+    expect(&mesh, none, none);
+    mesh.coarsen_cells(&lists.cells).unwrap();
+    expect(&mesh, none, &lists.cells);
+    expect(&mesh, &[Cell(0), Cell(9)], &[Cell(2), Cell(62)]);
+    let plain = read(&mesh, &PLAIN);
+    assert_eq!(cells(&drawn(&mesh, &plain, "split")), none);
+    assert!(!texts(&plain.root, "legend").iter().any(|text| text.contains("last change")));
+}
+
+/// The cells that are refined.
+fn refined(mesh: &Mesh) -> Vec<Cell> {
+    (0..mesh.cells.len() as u32).map(Cell).filter(|cell| mesh.cells[cell.0 as usize] == 2).collect()
+}
+
+/// Whether a cell lies in another one.
+fn lies_in(mesh: &Mesh, inner: Cell, outer: Cell) -> bool {
+    let [inner, outer] = [inner, outer].map(|cell| mesh.plan.place(cell).unwrap());
+    let Some(by) = inner.level.checked_sub(outer.level).filter(|&by| by > 0) else { return false };
+    (inner.row >> by, inner.column >> by) == (outer.row, outer.column)
+}
+
+#[test]
+fn outlines_in_each_other_are_told_apart() {
+    for mesh in &meshes() {
+        let split = refined(mesh);
+        let read = read(mesh, &changed(&split, &[]));
+        let outlines = drawn(mesh, &read, "split");
+        for Drawn { cell, inset, thickness } in &outlines {
+            let greatest = read.place(mesh, *cell).2 / 4.0;
+            assert!((-0.001..greatest + 0.001).contains(inset) && *thickness > 0.0);
+            for outer in outlines.iter().filter(|outer| lies_in(mesh, *cell, outer.cell)) {
+                let has_room = *inset < greatest - 0.001;
+                assert!(!has_room || *inset > outer.inset + outer.thickness - 0.001);
+            }
+        }
+    }
+}
+
+/// Whether the line of an outline meets a rectangle: left, top, right, bottom.
+fn meets(mesh: &Mesh, read: &Read, outline: &Drawn, [left, top, right, bottom]: [f64; 4]) -> bool {
+    let (x, y, side) = read.place(mesh, outline.cell);
+    let within = |by: f64| {
+        let end = side - by;
+        x + by < left && y + by < top && right < x + end && bottom < y + end
+    };
+    let outside = |by: f64| {
+        let end = side - by;
+        right < x + by || bottom < y + by || x + end < left || y + end < top
+    };
+    !within(outline.inset + outline.thickness) && !outside(outline.inset)
+}
+
+#[test]
+fn no_outline_covers_a_number() {
+    for mesh in &meshes() {
+        let listed = refined(mesh);
+        let first = Mesh::open(mesh.plan).unwrap();
+        for (mesh, kind) in [(mesh, "split"), (&first, "joined")] {
+            for functions in [false, true] {
+                let (split, joined): (&[Cell], &[Cell]) =
+                    if kind == "split" { (&listed, &[]) } else { (&[], &listed) };
+                let options = Options { functions, ..changed(split, joined) };
+                let read = read(mesh, &options);
+                let outlines = drawn(mesh, &read, kind);
+                for number in number_boxes(&read.root).into_values() {
+                    let mut lines = outlines.iter();
+                    assert!(!lines.any(|outline| meets(mesh, &read, outline, number)));
+                }
+            }
+        }
+    }
+}
+
+#[test]
+fn a_number_is_not_in_the_outline_of_a_smaller_cell() {
+    let (mesh, _) = worked();
+    let first = Mesh::open(mesh.plan).unwrap();
+    for functions in [false, true] {
+        let joined = refined(&mesh);
+        assert_eq!(joined, [Cell(0), Cell(1), Cell(3)]);
+        let changed = Some(Changes { split: &[], joined: &joined });
+        let read = read(&first, &Options { functions, changed });
+        let (_, top, side) = read.place(&first, Cell(3));
+        let [left, _, _, bottom] = number_boxes(&read.root)[&0];
+        assert!(left > read.left + side || bottom < top);
+    }
+}
+
+#[test]
+fn outlines_are_above_corners_and_below_dots() {
+    let mesh = Mesh::open(plan([2, 1, 2, 1, 1, 0, 2, 0])).unwrap();
+    let changed = Some(Changes { split: &[Cell(0)], joined: &[Cell(1)] });
+    let root = read(&mesh, &Options { functions: true, changed }).root;
+    let order: Vec<&str> = root.children.iter().filter_map(|child| child.attribute("id")).collect();
+    assert_eq!(
+        order[1..],
+        ["cells", "corners", "ground", "joined", "split", "functions", "numbers", "legend"]
+    );
+}

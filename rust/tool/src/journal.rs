@@ -1,0 +1,215 @@
+//! The journal of a season: a text with the first wall's file and a line for each change since.
+//!
+//! ```text
+//! wallmirror journal 1: 03 01 03 01 01 02 00
+//! split 0;0;0 4
+//! split 3;1 3;1 5 8
+//! back 1
+//! ```
+//!
+//! The head has the bytes of the first wall's file. A call has its line as in a session, and its two
+//! lists; `back` has how many of the calls before it that were not yet taken back it takes back. A
+//! journal is only ever added to.
+
+use crate::words;
+use wallmirror::{Call, Cell, Function, Lists, Made, Mesh, Refusal, Season, Undone};
+
+const HEAD: &str = "wallmirror journal 1:";
+
+/// A line of the journal behind its head.
+#[derive(Debug, Clone, PartialEq, Eq)]
+pub enum Entry {
+    /// A call that was accepted.
+    Call(Made),
+    /// So many calls were taken back.
+    Back(usize),
+}
+
+impl Entry {
+    fn line(&self) -> String {
+        match self {
+            Entry::Call(made) => {
+                format!("{};{}", words::line(&made.call), words::lists(&made.lists))
+            }
+            Entry::Back(count) => format!("back {count}"),
+        }
+    }
+
+    /// The entry of a line. `None` if it is not just as [`Entry::line`] writes it.
+    fn read(line: &str) -> Option<Entry> {
+        let entry = match line.strip_prefix("back ") {
+            Some(count) => Entry::Back(words::number(count)? as usize),
+            None => Entry::Call(read_made(line)?),
+        };
+        (entry.line() == line).then_some(entry)
+    }
+}
+
+fn read_made(line: &str) -> Option<Made> {
+    let [call, cells, functions] = line.split(';').collect::<Vec<_>>()[..] else {
+        return None;
+    };
+    let (word, marks) = call.split_once(' ').unwrap_or((call, ""));
+    let call = words::call(word, numbers(marks)?)?;
+    let cells = numbers(cells)?.into_iter().map(Cell).collect();
+    let functions = numbers(functions)?.into_iter().map(Function).collect();
+    Some(Made { call, lists: Lists { cells, functions } })
+}
+
+/// Numbers one space apart, also none.
+fn numbers(text: &str) -> Option<Vec<u32>> {
+    match text {
+        "" => Some(vec![]),
+        _ => text.split(' ').map(words::number).collect(),
+    }
+}
+
+/// A season with its journal.
+#[derive(Debug)]
+pub struct Journal {
+    season: Season,
+    entries: Vec<Entry>,
+    /// How many of the entries are calls.
+    made: usize,
+    /// Of the season's calls, counted with those that were taken back.
+    numbers: Vec<usize>,
+    text: String,
+    /// The wall before the last entry, or the first wall.
+    before: Mesh,
+}
+
+impl Journal {
+    /// The journal of a season that begins with this wall.
+    pub fn begin(first: Mesh) -> Result<Journal, Refusal> {
+        let bytes: Vec<String> =
+            first.to_file()?.iter().map(|byte| format!("{byte:02x}")).collect();
+        let text = format!("{HEAD} {}\n", bytes.join(" "));
+        let before = first.clone();
+        let season = Season::new(first)?;
+        Ok(Journal { season, entries: vec![], made: 0, numbers: vec![], text, before })
+    }
+
+    /// Makes the calls of a journal once more, and answers the journal if they list what it says, or
+    /// else what is wrong with it.
+    pub fn read(text: &[u8]) -> Result<Journal, String> {
+        let text = std::str::from_utf8(text).map_err(|_| "it is not a text")?;
+        let text = text.strip_suffix('\n').ok_or("its last line is cut off")?;
+        let mut lines = text.split('\n').zip(1..);
+        let head = lines.next().and_then(|(head, _)| first_file(head));
+        let first = head.ok_or("line 1 is not the head of a journal")?;
+        let first = Mesh::from_file(&first).map_err(|refusal| {
+            format!("the first wall in line 1 is none ({})", words::refusal(refusal))
+        })?;
+        let mut journal = Journal::begin(first).map_err(|refusal| refusal.to_string())?;
+        let mut lines = lines.peekable();
+        while let Some((line, number)) = lines.next() {
+            if lines.peek().is_none() {
+                journal.before = journal.season.mesh().clone();
+            }
+            journal.add_read(line).map_err(|wrong| format!("line {number} {wrong}"))?;
+        }
+        Ok(journal)
+    }
+
+    /// Does once more what a line says, or answers what is wrong with the line.
+    fn add_read(&mut self, line: &str) -> Result<(), String> {
+        match Entry::read(line).ok_or("is not one of a journal")? {
+            Entry::Back(count) => {
+                self.add_back(count).ok_or("takes back too many calls")?;
+            }
+            Entry::Call(made) => {
+                let lists = self.add_call(made.call).map_err(|refusal| {
+                    format!("has a call that gets {}", words::refusal(refusal))
+                })?;
+                if lists != made.lists {
+                    return Err("has other lists than its call gives".to_string());
+                }
+            }
+        }
+        Ok(())
+    }
+
+    pub fn season(&self) -> &Season {
+        &self.season
+    }
+
+    pub fn entries(&self) -> &[Entry] {
+        &self.entries
+    }
+
+    /// The numbers of the calls that were not taken back: the first call of the journal is 1.
+    pub fn numbers(&self) -> &[usize] {
+        &self.numbers
+    }
+
+    /// The wall before the last entry, or the first wall.
+    pub fn before(&self) -> &Mesh {
+        &self.before
+    }
+
+    /// What the calls that were not taken back make of the first wall.
+    pub fn made_again(&self) -> Mesh {
+        let mut mesh = self.season.first().clone();
+        for made in self.season.calls() {
+            // They were accepted once, on the same walls.
+            let _ = mesh.make(&made.call);
+        }
+        mesh
+    }
+
+    /// What stands in the file.
+    pub fn text(&self) -> &str {
+        &self.text
+    }
+
+    /// Makes a call and adds it, if it is accepted.
+    pub fn make(&mut self, call: Call) -> Result<Lists, Refusal> {
+        let before = self.season.mesh().clone();
+        let lists = self.add_call(call)?;
+        self.before = before;
+        Ok(lists)
+    }
+
+    fn add_call(&mut self, call: Call) -> Result<Lists, Refusal> {
+        let lists = self.season.make(call.clone())?.clone();
+        self.made += 1;
+        self.numbers.push(self.made);
+        self.add(Entry::Call(Made { call, lists: lists.clone() }));
+        Ok(lists)
+    }
+
+    /// Takes the last calls back, the last one first, and adds that. `None` if there are not so many,
+    /// or none is asked for.
+    pub fn back(&mut self, count: usize) -> Option<Vec<Undone>> {
+        let before = self.season.mesh().clone();
+        let undone = self.add_back(count)?;
+        self.before = before;
+        Some(undone)
+    }
+
+    fn add_back(&mut self, count: usize) -> Option<Vec<Undone>> {
+        if count == 0 || count > self.season.calls().len() {
+            return None;
+        }
+        let undone = (0..count).map_while(|_| self.season.undo()).collect();
+        self.numbers.truncate(self.season.calls().len());
+        self.add(Entry::Back(count));
+        Some(undone)
+    }
+
+    fn add(&mut self, entry: Entry) {
+        self.text += &entry.line();
+        self.text.push('\n');
+        self.entries.push(entry);
+    }
+}
+
+/// The bytes of the first wall's file in the head.
+fn first_file(head: &str) -> Option<Vec<u8>> {
+    let bytes = head.strip_prefix(HEAD)?.strip_prefix(' ')?.split(' ');
+    let byte = |text: &str| {
+        let hex = |b: u8| b.is_ascii_digit() || (b'a'..=b'f').contains(&b);
+        (text.len() == 2 && text.bytes().all(hex)).then(|| u8::from_str_radix(text, 16).ok())?
+    };
+    bytes.map(byte).collect()
+}

@@ -1,0 +1,94 @@
+//! What is said of a wall and of its season.
+
+use crate::failure::Failure;
+use crate::journal::Entry;
+use crate::wall::Wall;
+use crate::words;
+use std::ops::Range;
+use wallmirror::{Made, Mesh, Plan, Undone};
+
+pub fn info(wall: &Wall) -> Result<String, Failure> {
+    let mesh = wall.mesh();
+    let count = mesh.count().map_err(|refusal| Failure::refused(refusal, None))?;
+    let bytes = words::count(wall.file()?.len(), "byte");
+    let mut text =
+        format!("{}: {}\n{}", wall.name(), words::plan_and_corners(mesh.plan), table(mesh));
+    text += &format!("area: {} of the last level\n", words::count(count.area, "cell"));
+    text += &match mesh.check() {
+        Ok(()) => format!(
+            "check: 0, the cells are a wall{}, and the functions are the ones that they fix\n",
+            graded(mesh.plan)
+        ),
+        Err(refusal) => format!("check: {}, {}\n", refusal.number(), words::refusal(refusal)),
+    };
+    text += &format!("file: {bytes}\n");
+    let calls = words::count(wall.season().calls().len(), "call");
+    Ok(text + &format!("season: {calls} to walk back\n"))
+}
+
+fn graded(plan: Plan) -> String {
+    match plan.class {
+        0 => String::new(),
+        class => format!(" graded for class {class}"),
+    }
+}
+
+/// Cells and functions, level by level.
+fn table(mesh: &Mesh) -> String {
+    let plan = mesh.plan;
+    let row = |level: &str, cells: &[u8], functions: &[u8]| {
+        let count = |table: &[u8], byte: u8| table.iter().filter(|&&b| b == byte).count();
+        let (active, split) = (count(cells, 1), count(cells, 2));
+        let (working, deactivated) = (count(functions, 1), count(functions, 2));
+        format!(
+            "{level:>5}  {:>6} {active:>7} {split:>6}  {:>9} {working:>7} {deactivated:>12}\n",
+            cells.len(),
+            functions.len()
+        )
+    };
+    let mut text = "level   cells  active  split  functions  active  deactivated\n".to_string();
+    for level in 0..plan.levels {
+        let cells = part(&mesh.cells, plan.cells_on(level));
+        let functions = part(&mesh.functions, plan.functions_on(level));
+        text += &row(&level.to_string(), cells, functions);
+    }
+    text + &row("all", &mesh.cells, &mesh.functions)
+}
+
+fn part(table: &[u8], numbers: Option<Range<u32>>) -> &[u8] {
+    numbers.and_then(|n| table.get(n.start as usize..n.end as usize)).unwrap_or(&[])
+}
+
+pub fn log(wall: &Wall) -> String {
+    let entries = wall.journal().entries();
+    let kept = wall.journal().numbers();
+    let mut text = format!("{}: {}\n", wall.name(), words::plan_and_corners(wall.mesh().plan));
+    let mut number = 0;
+    for entry in entries {
+        text += &match entry {
+            Entry::Back(count) => format!("      back {count}\n"),
+            Entry::Call(made) => {
+                number += 1;
+                let kept = kept.binary_search(&number).is_ok();
+                let gone = if kept { "" } else { " (walked back)" };
+                format!("{number:>5} {}{gone}\n", call(made))
+            }
+        };
+    }
+    let calls = words::count(wall.season().calls().len(), "call");
+    text + &format!("{calls} to walk back\n")
+}
+
+fn call(Made { call, lists }: &Made) -> String {
+    let cells = words::short(&words::cell_numbers(&lists.cells));
+    let functions = words::short(&words::function_numbers(&lists.functions));
+    format!("{}: cells {cells}; functions {functions}", words::short_line(call))
+}
+
+/// A call that was walked back, and by what; the lists of both are the same.
+pub fn undone(number: usize, Undone { made, opposite, lists }: &Undone) -> String {
+    let cells = words::count(lists.cells.len(), "cell");
+    let functions = words::count(lists.functions.len(), "function");
+    let (call, opposite) = (words::short_line(&made.call), words::short_line(opposite));
+    format!("call {number}, {call}: {opposite} names the same {cells} and the same {functions}\n")
+}
