@@ -8,6 +8,7 @@ use differential::{plan, Random};
 use model::session::{answer, Wall};
 use model::Plan;
 use std::fs;
+use wallmirror::{Cell, Mesh};
 
 const FILE: &str = "march.wall";
 const JOURNAL: &str = "march.wall.journal";
@@ -198,6 +199,27 @@ fn seasons_there_and_back() {
             scope.spawn(move || assert_eq!(there_and_back(seed, plan), 200));
         }
     });
+}
+
+/// Another program makes a call by the library and adds its line. It is walked back like the others.
+#[test]
+fn lines_of_another_program() {
+    let season = short_season();
+    let (folder, first) = (&season.folder, season.first());
+    let mut mesh = Mesh::from_file(&folder.read(FILE)).expect("a wall");
+    let mark = mesh.plan.cells_on(1).expect("a level").find(|&c| mesh.cells[c as usize] == 1);
+    let mark = mark.expect("an active cell");
+    let lists = mesh.refine_cells(&[Cell(mark)]).expect("a cell that can be split");
+    let join = |numbers: Vec<String>| numbers.join(" ");
+    let cells = join(lists.cells.iter().map(|cell| cell.0.to_string()).collect());
+    let functions = join(lists.functions.iter().map(|f| f.0.to_string()).collect());
+    let journal = format!("{}split {mark};{cells};{functions}\n", season.journal);
+    folder.write(JOURNAL, journal);
+    folder.write(FILE, mesh.to_file().expect("a wall"));
+    let report = done(folder, &format!("back {FILE}"));
+    assert_same(&report);
+    assert!(report.contains(&format!(", split {mark}: join {cells} names the same ")), "{report}");
+    assert_eq!(folder.read(FILE), first);
 }
 
 /// What a command makes of a wall and a journal.

@@ -130,7 +130,8 @@ impl Season {
         &self.calls[self.calls.len() - 1].lists
     }
 
-    /// Takes the last call back, if there is one.
+    /// Takes the last call back, if there is one. The opposite call is never refused, as is proved; if
+    /// it were, this would panic.
     pub fn undo(&mut self) -> Option<Undone> {
         let made = self.calls.pop()?;
         let opposite = made.call.opposite(&made.lists.cells);
