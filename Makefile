@@ -42,7 +42,7 @@ install-library: all
 	install -d "$(INSTALLED)/include" "$(INSTALLED)/lib/pkgconfig"
 	install -m 644 $(HEADER) "$(INSTALLED)/include/"
 	install -m 644 $(ARCHIVE) "$(INSTALLED)/lib/"
-	sed 's|@PREFIX@|$(PREFIX)|; s|@VERSION@|$(VERSION)|' include/wallmirror.pc.in > target/wallmirror.pc
+	sed 's|@PREFIX@|$(subst &,\&,$(PREFIX))|; s|@VERSION@|$(VERSION)|' include/wallmirror.pc.in > target/wallmirror.pc
 	install -m 644 target/wallmirror.pc "$(INSTALLED)/lib/pkgconfig/"
 
 # The library, and the command with its completion for bash.

@@ -3,15 +3,15 @@
 # Names of files that begin with $1, but those that lie beside walls. With 'lost': walls whose journal alone is there.
 _wallmirror_files()
 {
-    local name
+    local name word=${1//\\/}
     compopt -o filenames 2>/dev/null
-    while read -r name; do
+    while IFS= read -r name; do
         case $name in
             *.wallmirror-new) ;;
             *.journal) [ "$2" = lost ] && [ ! -e "${name%.journal}" ] && COMPREPLY+=("${name%.journal}") ;;
             *) if [ "$2" != lost ] || [ -d "$name" ]; then COMPREPLY+=("$name"); fi ;;
         esac
-    done < <(compgen -f -- "$1")
+    done < <(compgen -f -- "$word")
 }
 
 _wallmirror()

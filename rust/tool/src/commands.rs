@@ -55,12 +55,17 @@ pub fn back(file: &OsStr, count: Option<u32>) -> Result<String, Failure> {
     for (undone, number) in undone.iter().zip(numbers.iter().rev()) {
         text += &report::undone(*number, undone);
     }
-    let left = calls - count;
-    if left == 0 {
-        return Ok(format!("{text}{}\n", first_again(&wall)?));
+    let compared = match calls - count {
+        0 => first_again(&wall),
+        left => as_after(&wall).map(|said| {
+            let calls = words::count(left, "call");
+            format!("{said}; {calls} left to walk back")
+        }),
+    };
+    match compared {
+        Ok(said) => Ok(format!("{text}{said}\n")),
+        Err(failure) => Err(failure.adding("; the calls were walked back").printing(text)),
     }
-    let calls = words::count(left, "call");
-    Ok(format!("{text}{}; {calls} left to walk back\n", as_after(&wall)?))
 }
 
 /// That the bytes on the disk are those of the first wall.
@@ -133,9 +138,9 @@ fn give(wall: Wall, out: Option<&OsStr>, text: String) -> Result<String, Failure
     let Some(out) = out.filter(|out| *out != "-") else {
         return Ok(text);
     };
-    let path = Path::new(out);
+    let (given, path) = (Path::new(out), &store::resolved(Path::new(out)));
     let not_over = |what: &str| {
-        let out = path.display();
+        let out = given.display();
         Failure::bad(format!("'{out}' is {what}; give '-o' another name"))
     };
     if wall.owns(path) {
@@ -145,20 +150,19 @@ fn give(wall: Wall, out: Option<&OsStr>, text: String) -> Result<String, Failure
     if store::is_reserved(path) {
         return Err(not_over("the name of what lies beside a wall"));
     }
-    match fs::metadata(path) {
+    match fs::metadata(given) {
         // A device or a pipe is written to and keeps its name.
         Ok(file) if !file.is_file() => {
-            fs::File::create(path)
+            fs::File::create(given)
                 .and_then(|mut file| file.write_all(text.as_bytes()))
-                .map_err(|error| store::cannot_write(path, &error))?;
+                .map_err(|error| store::cannot_write(given, &error))?;
         }
         _ => {
-            let path = store::resolved(path);
-            let folder = Folder::lock(&path)?;
-            if wall::is_kept(&path) {
+            let folder = Folder::lock(path)?;
+            if wall::is_kept(path) {
                 return Err(not_over("a wall or a journal, which is not written over"));
             }
-            folder.replace(&[(&path, text.as_bytes())])?;
+            folder.replace(&[(path, text.as_bytes())])?;
         }
     }
     Ok(String::new())

@@ -180,11 +180,27 @@ fn cell_at(frame: &Frame, cell: Cell, place: Place) -> String {
     let Place { level, row, column } = place;
     let (x, y) = frame.upper_left(place);
     let (x, y, side) = (number(x), number(y), number(frame.side(level)));
-    let n = cell.0;
+    let (n, lies_in) = (cell.0, split_around(frame.plan, place));
     format!(
         "<rect id=\"c{n}\" x=\"{x}\" y=\"{y}\" width=\"{side}\" height=\"{side}\"><title>cell {n}, \
-         level {level}, row {row}, column {column}</title></rect>\n"
+         level {level}, row {row}, column {column}{lies_in}</title></rect>\n"
     )
+}
+
+/// The split cells that an active one lies in, the finest first: the marks of a join.
+fn split_around(plan: Plan, place: Place) -> String {
+    let numbers = ancestors(place).filter_map(|place| Some(plan.cell_at(place)?.0.to_string()));
+    let numbers: Vec<String> = numbers.collect();
+    match numbers.len() {
+        0 => String::new(),
+        1 => format!(", in split cell {}", numbers[0]),
+        _ => format!(", in split cells {}", numbers.join(", ")),
+    }
+}
+
+/// Where the cells are that a cell lies in, the finest first.
+fn ancestors(Place { level, row, column }: Place) -> impl Iterator<Item = Place> {
+    (1..=level).map(move |by| Place { level: level - by, row: row >> by, column: column >> by })
 }
 
 /// The lines that the plan marks as corners, from edge to edge and a little beyond.

@@ -50,10 +50,18 @@ is changed, and the exit status is 1.
     };
 }
 
-const BY_CELLS: &str =
-    concat!("A mark is the number of a cell; 'wallmirror draw' shows them.\n", answer!(),);
+const OF_ACTIVE_CELLS: &str =
+    concat!("A mark is the number of an active cell; 'wallmirror draw' shows them.\n", answer!(),);
 
-const BY_FUNCTIONS: &str = concat!(
+const OF_SPLIT_CELLS: &str = concat!(
+    "\
+A mark is the number of a split cell whose four children are active. 'wallmirror draw' draws the
+active cells, and a browser shows under the pointer in which split ones each lies.
+",
+    answer!(),
+);
+
+const OF_FUNCTIONS: &str = concat!(
     "\
 A mark is the number of a function; 'wallmirror draw --functions' draws them, and a browser shows
 their numbers under the pointer.
@@ -89,28 +97,28 @@ and how many calls can be walked back.
         kind: Kind::Change(words::split),
         usage: "FILE MARK..",
         about: "split the marked cells, and what the class needs besides",
-        text: BY_CELLS,
+        text: OF_ACTIVE_CELLS,
     },
     Topic {
         name: "join",
         kind: Kind::Change(words::join),
         usage: "FILE MARK..",
         about: "join the marked cells, where no other needs them split",
-        text: BY_CELLS,
+        text: OF_SPLIT_CELLS,
     },
     Topic {
         name: "fsplit",
         kind: Kind::Change(words::fsplit),
         usage: "FILE MARK..",
         about: "split the active cells under the marked functions",
-        text: BY_FUNCTIONS,
+        text: OF_FUNCTIONS,
     },
     Topic {
         name: "fjoin",
         kind: Kind::Change(words::fjoin),
         usage: "FILE MARK..",
         about: "join the cells under the marked functions alone",
-        text: BY_FUNCTIONS,
+        text: OF_FUNCTIONS,
     },
     Topic {
         name: "back",

@@ -4,6 +4,7 @@ use crate::failure::{self, Failure};
 use std::ffi::{OsStr, OsString};
 use std::fs::{self, File, TryLockError};
 use std::io::{self, ErrorKind, Read, Write};
+use std::os::unix::fs::{fchown, MetadataExt};
 use std::path::{Path, PathBuf};
 use std::thread;
 use std::time::Duration;
@@ -46,8 +47,8 @@ impl Folder {
 
     /// Replaces files by new ones, in this order. All are written before the first takes its name, so
     /// that a full disk changes nothing; then each name has the old bytes or the new ones at every
-    /// moment. When this returns, the new ones are on the disk, or the old ones are back. A file that
-    /// was not there gets the permissions of the last one.
+    /// moment. When this returns, the new ones are on the disk, or the old ones are back, unless a
+    /// failure says otherwise. A file that was not there gets the permissions of the last one.
     pub fn replace(&self, files: &[(&Path, &[u8])]) -> Result<(), Failure> {
         let replaced = self.write_and_name(files);
         if replaced.is_err() {
@@ -75,9 +76,9 @@ impl Folder {
         });
         replaced.map_err(|failure| match self.put_back(named) {
             true => failure,
-            false => failure.adding(
-                ", nor the old file; the change may have been made, and 'wallmirror log' tells",
-            ),
+            false => {
+                failure.adding("; nor could the old file be put back: look at it before you go on")
+            }
         })
     }
 
@@ -110,7 +111,7 @@ impl Folder {
     }
 }
 
-/// Two seconds are longer than a command takes; who waits longer is told why.
+/// Most commands take far less than two seconds; who waits longer is told why.
 fn wait_for(handle: &File) -> io::Result<()> {
     for _ in 0..100 {
         match handle.try_lock() {
@@ -145,7 +146,7 @@ fn new_of(path: &Path) -> PathBuf {
     beside(path, NEW)
 }
 
-/// Writes the new file of a path, with the permissions of the old one, or of one like it.
+/// Writes the new file of a path, with owner and permissions of the old one, or of one like it.
 fn write_new(path: &Path, bytes: &[u8], like: &Path) -> Result<(), Failure> {
     let write = || -> io::Result<()> {
         let new = new_of(path);
@@ -153,6 +154,8 @@ fn write_new(path: &Path, bytes: &[u8], like: &Path) -> Result<(), Failure> {
         let _ = fs::remove_file(&new);
         let mut file = File::create_new(&new)?;
         if let Ok(old) = fs::metadata(path).or_else(|_| fs::metadata(like)) {
+            // It stays the owner's, where the one who writes it may give it away.
+            let _ = fchown(&file, Some(old.uid()), Some(old.gid()));
             file.set_permissions(old.permissions())?;
         }
         file.write_all(bytes)?;
@@ -201,7 +204,7 @@ pub fn read(path: &Path, most: usize) -> Result<Option<Vec<u8>>, Failure> {
 
 /// Whether a name is one that the files beside a wall have.
 pub fn is_reserved(path: &Path) -> bool {
-    let name = path.as_os_str().as_encoded_bytes();
+    let name = path.file_name().unwrap_or_default().as_encoded_bytes();
     name.ends_with(JOURNAL.as_bytes()) || name.ends_with(NEW.as_bytes())
 }
 

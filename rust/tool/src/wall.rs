@@ -132,9 +132,9 @@ impl Wall {
         &self.journal
     }
 
-    /// Whether this is the file of the wall.
+    /// Whether this, without links, is the file of the wall.
     pub fn owns(&self, path: &Path) -> bool {
-        store::resolved(path) == self.path
+        path == self.path
     }
 
     /// Makes a call. Where it is accepted, it is in the journal and in the wall when this returns.
@@ -213,6 +213,7 @@ fn refuse_name(path: &Path, name: &str) -> Result<(), Failure> {
         return Err(Failure::bad(format!("'{name}' is no name for a file; give another one")));
     }
     if store::is_reserved(path) {
+        let name = path.display();
         return Err(Failure::bad(format!(
             "'{name}' has the ending of what lies beside a wall; give the wall itself, or another name"
         )));
@@ -221,6 +222,7 @@ fn refuse_name(path: &Path, name: &str) -> Result<(), Failure> {
 }
 
 fn read_journal(path: &Path) -> Result<Option<Journal>, Failure> {
+    let has_wall = fs::metadata(path).is_ok();
     let path = journal_of(path);
     // A new journal would take the link's place and not the file's.
     if fs::read_link(&path).is_ok() {
@@ -233,8 +235,15 @@ fn read_journal(path: &Path) -> Result<Option<Journal>, Failure> {
         return Ok(None);
     };
     let journal = Journal::read(&text).map_err(|wrong| {
+        let or = if has_wall {
+            ", or move it away to begin a new season with the wall as it is"
+        } else {
+            ""
+        };
         let path = path.display();
-        Failure::bad(format!("the journal '{path}' does not fit: {wrong}; put the right one back, or move it away to begin a new season with the wall as it is"))
+        Failure::bad(format!(
+            "the journal '{path}' does not fit: {wrong}; put the right one back{or}"
+        ))
     })?;
     Ok(Some(journal))
 }

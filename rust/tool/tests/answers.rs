@@ -9,14 +9,18 @@ use model::Plan;
 
 const FILE: &str = "march.wall";
 
-/// Marks of all kinds: those that the call takes, any, none, ones past the last, repeated ones.
+/// Marks of all kinds: those that the call takes, any, split or deactivated ones, none, ones past the
+/// last, repeated ones.
 fn marks(random: &mut Random, wall: &Wall, kind: Kind) -> Vec<u32> {
     let mut marks = vec![];
     let markable = markable(wall, kind);
-    let table = if kind.by_functions() { wall.functions.len() } else { wall.cells.len() };
+    let table = if kind.by_functions() { &wall.functions } else { &wall.cells };
+    let twos: Vec<u32> = (0..).zip(table).filter(|(_, &byte)| byte == 2).map(|(n, _)| n).collect();
+    let table = table.len();
     let bad = random.once_in(2);
     for _ in 0..random.pick(&[0, 1, 1, 2, 3, 8, 64]) {
-        let any = [random.below(table) as u32, table as u32 - 1, table as u32, u32::MAX];
+        let two = if twos.is_empty() { 0 } else { random.pick(&twos) };
+        let any = [random.below(table) as u32, two, table as u32 - 1, table as u32, u32::MAX];
         let at_fault = bad && random.once_in(4);
         match (at_fault, markable.is_empty()) {
             (true, _) => marks.push(random.pick(&any)),
@@ -52,7 +56,7 @@ fn state(kind: Kind, byte: u8) -> &'static str {
         Kind::CoarsenFunctions => [
             "is passive",
             "is active, not deactivated",
-            "has no cell in its support that can be joined",
+            "has no cell of its level in its support that can be joined",
         ][byte as usize],
     }
 }
@@ -62,8 +66,9 @@ fn padded(random: &mut Random, mark: u32) -> String {
     format!("{}{mark}", "0".repeat(random.pick(&[0, 0, 0, 0, 1, 12])))
 }
 
-/// Gives one line to the command and to the model. Answers the number that it got.
-fn compare(folder: &Folder, wall: &mut Option<Wall>, random: &mut Random) -> u32 {
+/// Gives one line to the command and to the model. Answers the number that it got, and what was said
+/// of the mark at fault, without its number.
+fn compare(folder: &Folder, wall: &mut Option<Wall>, random: &mut Random) -> (u32, String) {
     let (word, kind) = random.pick(&WORDS);
     let before = wall.as_ref().expect("a wall");
     let marks = marks(random, before, kind);
@@ -74,7 +79,7 @@ fn compare(folder: &Folder, wall: &mut Option<Wall>, random: &mut Random) -> u32
     let printed = answer(wall, line.as_bytes());
     assert_eq!(out, format!("{printed}\n"), "{line}");
     let number: u32 = printed.split(';').next().expect("a number").parse().expect("a number");
-    match wrong {
+    match &wrong {
         None => assert_eq!((number, err.as_str(), status), (0, "", 0), "{line}"),
         Some(wrong) => {
             assert_one_line(&err);
@@ -84,7 +89,8 @@ fn compare(folder: &Folder, wall: &mut Option<Wall>, random: &mut Random) -> u32
         }
     }
     assert_eq!(folder.read(FILE), file(wall.as_ref().expect("a wall")), "{line}");
-    number
+    let said = wrong.unwrap_or_default();
+    (number, said.split(' ').filter(|word| !word.starts_with(char::is_numeric)).collect())
 }
 
 /// A row of the table that `info` prints.
@@ -143,23 +149,26 @@ fn said(plan: Plan) -> String {
 
 #[test]
 fn answers_files_and_counts() {
-    let mut random = Random::new(81);
-    let mut numbers_seen = std::collections::BTreeMap::<u32, usize>::new();
+    let mut random = Random::new(82);
+    let mut seen = std::collections::BTreeMap::<(u32, String), usize>::new();
     for turn in 0..40 {
         let plan = small_plan(&mut random, [0, 2, 0, 3, 8][turn % 5]);
         let folder = Folder::new();
         assert_eq!(done(&folder, &format!("new {FILE} {}", numbers(plan))), said(plan));
         let mut wall = Some(opened(plan));
         let mut calls = 0;
-        for _ in 0..10 {
-            let number = compare(&folder, &mut wall, &mut random);
-            calls += usize::from(number == 0);
-            *numbers_seen.entry(number).or_default() += 1;
+        for _ in 0..16 {
+            let answered = compare(&folder, &mut wall, &mut random);
+            calls += usize::from(answered.0 == 0);
+            *seen.entry(answered).or_default() += 1;
         }
         compare_info(&folder, wall.as_ref().expect("a wall"), calls);
     }
-    println!("answers: {numbers_seen:?}");
-    assert_eq!(numbers_seen.into_keys().collect::<Vec<_>>(), [0, 7, 8, 9]);
+    println!("answers: {seen:?}");
+    // Too large a number and one of the last level are said of cells and of functions, and each has
+    // four states that are wrong.
+    let count = |number: u32| seen.keys().filter(|(of, _)| *of == number).count();
+    assert_eq!([0, 7, 8, 9].map(count), [1, 2, 8, 2]);
 }
 
 /// More marks than a session takes on a line, and the largest walls.

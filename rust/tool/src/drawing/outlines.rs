@@ -1,7 +1,7 @@
 //! Lines just inside the edges of the cells that the last change split or joined, which hide neither
 //! the cells beside them nor the numbers.
 
-use super::{number, Changes, Frame, CORNER_LINE_WIDTH};
+use super::{ancestors, number, Changes, Frame, CORNER_LINE_WIDTH};
 use std::collections::BTreeSet;
 use std::ops::Range;
 use wallmirror::{Cell, Place};
@@ -101,9 +101,8 @@ fn around(frame: &Frame, cells: &[Cell]) -> Vec<Outline> {
 }
 
 /// How many of the listed cells a cell lies in, itself not counted.
-fn listed_around(listed: &BTreeSet<Place>, Place { level, row, column }: Place) -> usize {
-    let ancestor = |by: u32| Place { level: level - by, row: row >> by, column: column >> by };
-    (1..=level).filter(|&by| listed.contains(&ancestor(by))).count()
+fn listed_around(listed: &BTreeSet<Place>, place: Place) -> usize {
+    ancestors(place).filter(|ancestor| listed.contains(ancestor)).count()
 }
 
 fn group(frame: &Frame, kind: &str, outlines: &[Outline]) -> String {

@@ -53,6 +53,31 @@ impl Read {
     }
 }
 
+/// Which cell each child has around it, from the split cells and their children.
+fn parents(mesh: &Mesh) -> BTreeMap<u32, u32> {
+    let split = (0..mesh.cells.len() as u32).filter(|&cell| mesh.cells[cell as usize] == 2);
+    let children = |parent: u32| {
+        let Place { level, row, column } = mesh.plan.place(Cell(parent)).unwrap();
+        [(0, 0), (0, 1), (1, 0), (1, 1)].map(|(up, across)| {
+            let (row, column) = (2 * row + up, 2 * column + across);
+            (mesh.plan.cell_at(Place { level: level + 1, row, column }).unwrap().0, parent)
+        })
+    };
+    split.flat_map(children).collect()
+}
+
+/// What a cell's title says of the split cells that it lies in.
+fn around(parents: &BTreeMap<u32, u32>, cell: u32) -> String {
+    let next = |cell: &u32| parents.get(cell).copied();
+    let numbers: Vec<String> =
+        std::iter::successors(next(&cell), next).map(|parent| parent.to_string()).collect();
+    match &numbers[..] {
+        [] => String::new(),
+        [number] => format!(", in split cell {number}"),
+        _ => format!(", in split cells {}", numbers.join(", ")),
+    }
+}
+
 fn active_cells(mesh: &Mesh) -> BTreeSet<u32> {
     (0..mesh.cells.len() as u32).filter(|&cell| mesh.cells[cell as usize] == 1).collect()
 }
@@ -60,7 +85,7 @@ fn active_cells(mesh: &Mesh) -> BTreeSet<u32> {
 #[test]
 fn each_active_cell_is_drawn_once_where_it_lies() {
     for mesh in meshes().iter().chain([&finest(plan([1, 1, 8, 1, 1, 0, 0, 0]))]) {
-        let read = read(mesh, &PLAIN);
+        let (read, parents) = (read(mesh, &PLAIN), parents(mesh));
         let mut drawn = BTreeSet::new();
         let mut area = 0.0;
         for group in groups(&read.root, "cells") {
@@ -72,7 +97,7 @@ fn each_active_cell_is_drawn_once_where_it_lies() {
                 assert_eq!((rect.number("x"), rect.number("y"), sides), (x, y, [side; 2]));
                 assert_eq!(group.attribute("fill"), Some(FILLS[level as usize]));
                 let title = format!("cell {n}, level {level}, row {row}, column {column}");
-                assert_eq!(rect.title(), title);
+                assert_eq!(rect.title(), title + &around(&parents, n));
                 assert!(drawn.insert(n));
                 area += side * side;
             }

@@ -19,18 +19,25 @@ use std::sync::atomic::{AtomicUsize, Ordering};
 pub struct Folder(PathBuf);
 
 impl Folder {
+    /// In memory where that is there and nothing else was asked for: each change waits for the disk.
     pub fn new() -> Folder {
+        let memory = Path::new("/dev/shm");
+        let in_memory = std::env::var_os("TMPDIR").is_none().then(|| Folder::within(memory));
+        let anywhere = || Folder::within(&std::env::temp_dir());
+        in_memory.and_then(Result::ok).map_or_else(anywhere, Ok).expect("a temporary folder")
+    }
+
+    pub fn within(folder: &Path) -> std::io::Result<Folder> {
         static COUNT: AtomicUsize = AtomicUsize::new(0);
         // Without links, so that names in messages can be foretold.
-        let temporary = fs::canonicalize(std::env::temp_dir()).expect("a temporary folder");
+        let folder = fs::canonicalize(folder)?;
         loop {
             let count = COUNT.fetch_add(1, Ordering::Relaxed);
-            let path = temporary.join(format!("wallmirror-tool-{}-{count}", std::process::id()));
+            let path = folder.join(format!("wallmirror-tool-{}-{count}", std::process::id()));
             match fs::create_dir(&path) {
-                Ok(()) => return Folder(path),
                 // A process of the same number was ended before it could remove it.
                 Err(error) if error.kind() == ErrorKind::AlreadyExists => {}
-                Err(error) => panic!("'{}': {error}", path.display()),
+                made => return made.map(|()| Folder(path)),
             }
         }
     }
