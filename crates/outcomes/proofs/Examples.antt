@@ -15,7 +15,7 @@ use Rattle.grid.specs.Numbering.{offset, number, levelOf, placeOn, place}
 use Rattle.grid.specs.Plan.{between, numbersInRange, cornersInRange, inRange, ratio, grown, tooLarge, lastLevel, above, below, parent, child, supportedAt, supported, ancestor, nearAt, near, cellTotal, functionTotal}
 use Rattle.grid.specs.Knots.{isSet, isCorner, cornersTo, times, knotFrom, knot, beyond, functions as functionCount, covers, apart, together}
 use Rattle.mesh.specs.Mesh.{Opened, absent, active, refined, children, cellFits, isMesh, isAdmissible, reactivable, tableOf, labelOf, labels, isLabelled, refusal3, refusal6, check, freshCells, freshFunctions, openMesh}
-use Rattle.outcomes.specs.Calls.{Direction, refine, coarsen, By, cells, functions, Outcome, eligible, isTooDeep, markRefusal, underMarked, underKept, selected, base, smallest, changed, written, refused, settle, newCells, refusal, outcome}
+use Rattle.outcomes.specs.Calls.{Direction, refine, coarsen, By, cells, functions, Outcome, eligible, isTooDeep, markRefusal, underMarked, underKept, selected, base, smallest, changed, written, refused, settle, newCells, refusal, outcome, refineCells, refineFunctions, coarsenCells, coarsenFunctions}
 use Rattle.outcomes.specs.Runs.{Tables, covered}
 
 -- ---- rows
@@ -63,8 +63,15 @@ sameTables t u = same (t .cells) (u .cells) && same (t .functions) (u .functions
 abbrev pub lent : ℕ → List ℕ
 lent n = replicate n 7
 
+-- the call by its name, as the exported functions cite it
+abbrev pub named : Direction → By → Plan → List ℕ → List ℕ → List ℕ → List ℕ → List ℕ → Outcome
+named refine cells = refineCells
+named refine functions = refineFunctions
+named coarsen cells = coarsenCells
+named coarsen functions = coarsenFunctions
+
 abbrev pub call : Plan → Tables → Step → Outcome
-call p t s = outcome (s .direction) (s .by) p (t .cells) (t .functions) (s .marks) (lent (s .cellRoom)) (lent (s .functionRoom))
+call p t s = named (s .direction) (s .by) p (t .cells) (t .functions) (s .marks) (lent (s .cellRoom)) (lent (s .functionRoom))
 
 abbrev pub left : Outcome → Tables
 left o = record { cells = o .cells; functions = o .functions }

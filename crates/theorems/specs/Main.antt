@@ -91,8 +91,8 @@ pub record Main : Type 0 where
   pub fewLevels : (p : Plan) (cs fs : List ℕ) → check p cs fs ≡ 0 → p .class ≢ 0 → FewLevels p cs fs
   -- Document 02, Req 05: "supports follow from the knots", across and up, on every level of a plan that refusal 1 does not meet
   pub byKnots : (p : Plan) → T (inRange p) → (k : ℕ) → ByKnots (acrossAt p k) × ByKnots (upAt p k)
-  -- and without corners all is as document 01 has it
-  pub smoothPlan : (p : Plan) → p .«corners_across» ≡ 0 → p .«corners_up» ≡ 0 → (k : ℕ) → Smooth (acrossAt p k) × Smooth (upAt p k)
+  -- and a direction without corners is as document 01 has it, whatever the other has
+  pub smoothPlan : (p : Plan) (k : ℕ) → (p .«corners_across» ≡ 0 → Smooth (acrossAt p k)) × (p .«corners_up» ≡ 0 → Smooth (upAt p k))
   -- Req 05: "It refuses 1 where a bit outside 1 to A-1 (or B-1) is set"
   pub innerCorners : (p : Plan) → T (inRange p)
       ↔ (T (numbersInRange p) × OnlyInner (p .columns) (p .«corners_across») × OnlyInner (p .rows) (p .«corners_up»))
