@@ -244,9 +244,6 @@ module _ (s : Side) (sized : Sized s) where
   pub first-rises : (x : ℕ) → firstOver s x < firstOver s (suc x)
   first-rises x = omega (arith, first-next x, inner-least (isCorner s (suc x)) d (sized .degree≥))
 
-  pub first-slow : (x : ℕ) → firstOver s (suc x) ≤ firstOver s x + s .degree
-  first-slow x = omega (arith, first-next x, inner-most (isCorner s (suc x)) d (sized .degree≥))
-
   pub first-mono : (x y : ℕ) → x ≤ y → firstOver s x ≤ firstOver s y
   first-mono x zero h = let e : x ≡ 0 = omega arith in rw e (omega arith)
   first-mono x (suc y) h =

@@ -3,7 +3,7 @@
 use Prim.Native.Nat.{ℕ, suc, pred, _+_, _-_, _*_, _/_, _%_, _^_, _<_, _≤_}
 use native.Mathlib.Nat.{mod-lt, div-add-mod'}
 use native.Mathlib.Omega.{arith}
-use mathlib.Core.Bool.{Bool, not, _&&_, _||_}
+use mathlib.Core.Bool.{Bool, true, false, not, _&&_, _||_, cond}
 use mathlib.Core.Logic.{_≢_}
 use mathlib.Core.Path.{_≡_, refl}
 use lib.Dec.{T, leb, ltb, eqb, leb→le, le→leb, eqb→eq, ltb→lt, lt→ltb}
@@ -13,7 +13,7 @@ use Rattle.hierarchy.proofs.Sets.{Lawful}
 use Rattle.grid.specs.declared.Plan.{Plan}
 use Rattle.grid.specs.declared.Place.{Place}
 use Rattle.grid.specs.Numbering
-use Rattle.grid.specs.Plan.{between, numbersInRange, cornersInRange, inRange, ratio, grown, columnsAt, acrossAt, upAt, functionColumnsAt, cellTotal, functionTotal, cellPlace, cellNumber, functionPlace, functionNumber, CellInside, FunctionInside, above, below, parent, child, ancestor, nearAt, near, hierarchy}
+use Rattle.grid.specs.Plan.{between, numbersInRange, cornersInRange, inRange, ratio, grown, columnsAt, acrossAt, upAt, functionColumnsAt, cellTotal, functionTotal, tooLarge, planRefusalOr, planRefusal, cellPlace, cellNumber, functionPlace, functionNumber, CellInside, FunctionInside, above, below, parent, child, ancestor, nearAt, near, hierarchy}
 use Rattle.grid.specs.Range.{InRange}
 use Rattle.grid.proofs.Numbering as numbering
 use Rattle.grid.specs.Knots.{together}
@@ -123,6 +123,48 @@ module _ (p : Plan) where
       and-i (numbersInRange p) _ (and-i r1 _ t1 (and-i r2 _ t2 (and-i r3 _ t3 (and-i r4 _ t4 (and-i r5 r6 t5 t6)))))
       (and-i c1 c2 (corners-i _ _ (i .cornersAcross<) (i .evenAcross)) (corners-i _ _ (i .cornersUp<) (i .evenUp)))
 
+-- ---- refusals 1 and 2
+
+module _ (p : Plan) where
+  pub refused-1 : inRange p ≡ false → planRefusal p ≡ 1
+  unfolding planRefusal
+  refused-1 e = rw e
+
+  pub refused-2 : inRange p ≡ true → tooLarge p ≡ true → planRefusal p ≡ 2
+  unfolding planRefusal
+  refused-2 e f = rw (e, f)
+
+  pub refused-0 : inRange p ≡ true → tooLarge p ≡ false → planRefusal p ≡ 0
+  unfolding planRefusal
+  refused-0 e f = rw (e, f)
+
+  -- a plan that is not refused is in range, and leaves the rest to be asked
+  pub taken-range : planRefusal p ≡ 0 → InRange p
+  unfolding planRefusal
+  taken-range e = go (inRange p) refl e
+    where
+      go : (b : Bool) → inRange p ≡ b → cond {A = ℕ} (not b) 1 (cond (tooLarge p) 2 0) ≡ 0 → InRange p
+      go true r z = in-range p (rw r tt)
+      go false r z = absurd (omega arith)
+
+  pub taken : (n : ℕ) → planRefusal p ≡ 0 → planRefusalOr p n ≡ n
+  unfolding planRefusal
+  taken n e = go (inRange p) (tooLarge p) e
+    where
+      go : (a b : Bool) → cond {A = ℕ} (not a) 1 (cond b 2 0) ≡ 0 → cond {A = ℕ} (not a) 1 (cond b 2 n) ≡ n
+      go true true z = absurd (omega arith)
+      go true false z = refl
+      go false b z = absurd (omega arith)
+
+  pub refused : (n : ℕ) → (planRefusal p ≡ 0 → ⊥) → planRefusalOr p n ≡ planRefusal p
+  unfolding planRefusal
+  refused n e = go (inRange p) (tooLarge p) e
+    where
+      go : (a b : Bool) → (cond {A = ℕ} (not a) 1 (cond b 2 0) ≡ 0 → ⊥) → cond {A = ℕ} (not a) 1 (cond b 2 n) ≡ cond (not a) 1 (cond b 2 0)
+      go true true z = refl
+      go true false z = absurd (z refl)
+      go false b z = refl
+
 -- ---- numbers and places, parents and children
 
 pub ratio-pos : (p : Plan) → 0 < ratio p
@@ -133,7 +175,7 @@ module _ (p : Plan) (range : InRange p) where
   wide : (k : ℕ) → 0 < columnsAt p k
   wide k = grown-pos (ratio p) (ratio-pos p) (p .columns) k (range .columns≥)
 
-  pub above-in : (x : Place) → 0 < x .level → CellInside p x → CellInside p (above p x)
+  above-in : (x : Place) → 0 < x .level → CellInside p x → CellInside p (above p x)
   unfolding above
   above-in x z i = let l : pred (x .level) < p .levels = omega arith in record {
     level< = l;

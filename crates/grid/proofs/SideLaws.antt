@@ -129,6 +129,16 @@ module _ (s : Side) (sized : Sized s) where
     within = omega arith;
   }
 
+  -- the span begins at the function's first knot and ends at its last
+  pub support-knots : (i : ℕ) → i < functions s → supportSpan s i ≡ record { first = knotOn s i; end = knotOn s (i + d + 1) }
+  unfolding supportSpan
+  support-knots i l =
+      let k = support-span-in i l in
+      let a : columnsBefore s (i - d) ≡ knotOn s i = omega (arith, knot-is i (omega arith), k .some, k .within) in
+      let e : i + d + 1 - d ≡ i + 1 = omega arith in
+      let b : min n (columnsBefore s (i + 1)) ≡ knotOn s (i + d + 1) = rw e at (sym (knot-is (i + d + 1) (omega arith))) in
+      λ j. record { first = a j; end = b j }
+
   -- ---- "covered by a common function of that level"
 
   -- their first functions are at most the degree apart

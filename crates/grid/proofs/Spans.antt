@@ -1,5 +1,4 @@
--- Supports and neighbourhoods, as facts and as rectangles; a cell's ancestor lies in its neighbourhood, and no support is empty.
--- Assumes nothing.
+-- Supports and neighbourhoods, as facts and as rectangles; no support is empty. Assumes nothing.
 use Prim.Native.Nat.{ℕ, _+_, _-_, _<_, _≤_}
 use native.Mathlib.Omega.{arith}
 use mathlib.Core.Bool.{Bool, _&&_}
@@ -16,8 +15,8 @@ use Rattle.grid.specs.Side.{supportSpan}
 use Rattle.grid.specs.Range.{InRange, HasNeighbourhood}
 use Rattle.grid.specs.Spans.{inSpan, inRectangle, supportOf, around, ancestorOf, neighbourhood}
 use Rattle.grid.proofs.Direction.{grown-ancestor}
-use Rattle.grid.proofs.Laws.{ratio-pos, across-sized, up-sized, Near, near-fact, near-test, near-places, near-of, function-inside, cell-inside, cell-number-lt, cell-place-number}
-use Rattle.grid.proofs.SideLaws.{SpanIn, support-is, support-span-in, around-is, together-self}
+use Rattle.grid.proofs.Laws.{ratio-pos, across-sized, up-sized, Near, near-fact, near-test, near-places, function-inside, cell-inside, cell-number-lt, cell-place-number}
+use Rattle.grid.proofs.SideLaws.{SpanIn, support-is, support-span-in, around-is}
 
 -- ---- spans and rectangles
 
@@ -223,14 +222,6 @@ module _ (p : Plan) (range : InRange p) (q c : Place) (has : HasNeighbourhood p 
             rows = rw (rows e) at (span-test _ _ (i .rows));
           })
 
--- a cell's own ancestor is in its neighbourhood
-pub near-ancestor : (p : Plan) → InRange p → (q : Place) → HasNeighbourhood p (q .level) → CellInside p q → T (nearAt p q (ancestorOf p q))
-unfolding ancestorOf
-near-ancestor p range q has i =
-    let a = ancestor-in p q has i in
-    let l : q .level + 1 ≡ q .level - (p .class - 1) + p .class = omega arith in
-    near-test p q (ancestorOf p q) (record { graded = has .class≢; levels = l; columns = together-self _ (across-sized p range _) _ (a .column<); rows = together-self _ (up-sized p range _) _ (a .row<) })
-
 module _ (p : Plan) (range : InRange p) (q c : ℕ) where
   pub near-neighbourhood : T (near p q c) → HasNeighbourhood p (cellLevel p q)
   near-neighbourhood t = near-has p (cellPlace p q) (cellPlace p c) (near-places p range q c t)
@@ -239,10 +230,3 @@ module _ (p : Plan) (range : InRange p) (q c : ℕ) where
   pub near-is : q < cellTotal p → c < cellTotal p → HasNeighbourhood p (cellLevel p q) → near p q c ≡ inRectangle (neighbourhood p (cellPlace p q)) (cellPlace p c)
   unfolding near
   near-is a b has = rw (T-true (ltb c (cellTotal p)) (lt→ltb c (cellTotal p) b)) (near-rectangle p range (cellPlace p q) (cellPlace p c) has (cell-inside p range q a) (cell-inside p range c b))
-
-pub near-own : (p : Plan) (range : InRange p) (q : ℕ) → q < cellTotal p → HasNeighbourhood p (cellLevel p q) → T (near p q (cellNumber p (ancestorOf p (cellPlace p q))))
-near-own p range q b has =
-    let x : Place = ancestorOf p (cellPlace p q) in
-    let i : CellInside p x = ancestor-in p (cellPlace p q) has (cell-inside p range q b) in
-    near-of p range q (cellNumber p x) (cell-number-lt p range x i)
-    (rw (cell-place-number p range x i) (near-fact p (cellPlace p q) x (near-ancestor p range (cellPlace p q) has (cell-inside p range q b))))

@@ -1,5 +1,5 @@
 -- Document 01, "The plan": ranges, grids, numbering, supports, children and neighbourhoods. Definitions only.
-use mathlib.Core.Bool.{Bool, not, _&&_, _||_}
+use mathlib.Core.Bool.{Bool, not, _&&_, _||_, cond}
 use mathlib.Core.List.{List}
 use Prim.Native.Nat.{ℕ, pred, suc, _+_, _-_, _*_, _/_, _%_, _^_}
 use lib.Dec.{leb, ltb, eqb}
@@ -103,6 +103,15 @@ functionTotal p = functionOffset p (p .levels)
 -- "T is at most 21,845"
 unfoldable pub tooLarge : Plan → Bool
 tooLarge p = ltb mostCells (cellTotal p)
+
+-- document 01's first two refusals, in order: 1, "a plan number is out of range"; 2, "T exceeds 21,845"; else n, which is what a call makes of
+-- the rest of its input
+abbrev pub planRefusalOr : Plan → ℕ → ℕ
+planRefusalOr p n = cond (not (inRange p)) 1 (cond (tooLarge p) 2 n)
+
+-- what a plan's numbers alone decide: 0 where they are taken
+unfoldable pub planRefusal : Plan → ℕ
+planRefusal p = planRefusalOr p 0
 
 abbrev pub cellPlace : Plan → ℕ → Place
 cellPlace p = Numbering.place (columnsAt p) (rowsAt p) (p .levels)

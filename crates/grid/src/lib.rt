@@ -1,4 +1,4 @@
-// A plan's grids: cells and functions of every level, their numbers and places, supports, parents and neighbourhoods.
+// A plan's grids: cells and functions of every level, their numbers and places, supports, children and neighbourhoods.
 ghost use mathlib.Core.Path.{_≡_};
 ghost use Prim.Native.Nat.{min, _+_, _-_, _*_, _≤_, _<_};
 ghost use lib.ListN.{getD};
@@ -7,7 +7,7 @@ ghost use Rattle.grid.specs.Range.{InRange, Beyond, HasNeighbourhood};
 ghost use Rattle.grid.specs.Spans.{supportOf, childrenOf, around, ancestorOf, neighbourhood};
 ghost use Rattle.grid.specs.Knots.{isCorner, cornersTo, knotOn, beyond, functions, firstOver};
 ghost use Rattle.grid.specs.Side.{SideIn, Run, firsts, passed, columnsBefore, supportSpan, aroundSpan};
-ghost use Rattle.grid.specs.Plan.{planOf, between, numbersInRange, cornersInRange, inRange, ratio, grown, widened, columnsAt, rowsAt, acrossAt, upAt, beyondAcross, beyondUp, functionColumnsAt, functionRowsAt, cellOffset, functionOffset, cellTotal, functionTotal, tooLarge, cellPlace, cellNumber, functionPlace, functionNumber, CellInside, FunctionInside, cellLevel, above, parent, ancestor};
+ghost use Rattle.grid.specs.Plan.{planOf, between, numbersInRange, cornersInRange, inRange, ratio, grown, widened, columnsAt, rowsAt, acrossAt, upAt, beyondAcross, beyondUp, functionColumnsAt, functionRowsAt, cellOffset, functionOffset, cellTotal, functionTotal, tooLarge, planRefusal, cellPlace, cellNumber, functionPlace, functionNumber, CellInside, FunctionInside, ancestor};
 
 // The most cells that a plan may have, the most functions of such a plan, and the largest table of neighbourhoods: what lent tables need.
 pub const MOST_CELLS: usize = 21845;
@@ -483,6 +483,19 @@ impl Plan {
         self.cell_total() as usize > MOST_CELLS
     }
 
+    // 0, or the first of document 01's refusals 1 and 2.
+    pub fn refusal(self) -> u32
+        ensures { λ r. ⌜ r ≡ planRefusal self ⌝ }
+    {
+        if self.in_range() {
+            if self.too_large() {
+                return 2;
+            }
+            return 0;
+        }
+        1
+    }
+
     // The place of a number. Each level passed takes its area off the number.
     fn place_of(self, across: u32, up: u32, number: u32) -> Place
         requires { ⌜ InRange self ⌝ }
@@ -550,30 +563,6 @@ impl Plan {
         ensures { λ r. ⌜ r .0 ≡ functionNumber self place ⌝ }
     {
         Function(self.number_of(self.beyond_across(), self.beyond_up(), place))
-    }
-
-    // The place one level up.
-    pub fn above(self, place: Place) -> Place
-        requires { ⌜ 0 < place .level ⌝ }
-        ensures { λ r. ⌜ r ≡ above self place ⌝ }
-    {
-        let level = place.level;
-        let row = place.row;
-        let column = place.column;
-        Place {
-            level: level - 1,
-            row: self.coarser(row, 1),
-            column: self.coarser(column, 1),
-        }
-    }
-
-    pub fn parent(self, cell: Cell) -> Cell
-        requires { ⌜ InRange self ⌝ }
-        requires { ⌜ cell .0 < cellTotal self ⌝ }
-        requires { ⌜ 0 < cellLevel self (cell .0) ⌝ }
-        ensures { λ r. ⌜ r .0 ≡ parent self (cell .0) ⌝ }
-    {
-        self.cell_number(self.above(self.cell_place(cell)))
     }
 
     // The support of the function at a place.

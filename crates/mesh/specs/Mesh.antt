@@ -7,7 +7,7 @@ use lib.ListN.{length, getD}
 use Rattle.facts.specs.Bounded.{implies, some, every, sum}
 use Rattle.facts.specs.Numbers.{tabulate}
 use Rattle.grid.specs.declared.Plan.{Plan}
-use Rattle.grid.specs.Plan.{inRange, ratio, tooLarge, cellTotal, functionTotal, cellLevel, functionLevel, lastLevel, parent, child, supported, near}
+use Rattle.grid.specs.Plan.{ratio, planRefusalOr, cellTotal, functionTotal, cellLevel, functionLevel, lastLevel, parent, child, supported, near}
 use Rattle.hierarchy.specs.Hierarchy.{Cells}
 use Rattle.mesh.specs.declared.Count.{Count}
 
@@ -75,12 +75,10 @@ isLabelled p cells functions = every (functionTotal p) (λ f. eqb (getD function
 
 -- ---- refusals 1 to 6, in order (document 01, "The refusal table")
 
--- 1: a plan number is out of range; 2: T exceeds 21,845; 3: a table's length is not T, or F
+-- 1 and 2, of the plan; 3: a table's length is not T, or F
 unfoldable pub refusal3 : Plan → List ℕ → List ℕ → ℕ
 refusal3 p cells functions =
-    cond (not (inRange p)) 1
-    (cond (tooLarge p) 2
-    (cond (not (eqb (length cells) (cellTotal p) && eqb (length functions) (functionTotal p))) 3 0))
+    planRefusalOr p (cond (not (eqb (length cells) (cellTotal p) && eqb (length functions) (functionTotal p))) 3 0)
 
 -- 4: the cells are no mesh; 5: it is not admissible; 6: a function byte is not the one fixed by the cells
 unfoldable pub refusal6 : Plan → List ℕ → List ℕ → ℕ

@@ -7,12 +7,12 @@ use Rattle.facts.specs.Numbers.{elem, all, listed, tabulate, stored, first}
 use Rattle.hierarchy.specs.Hierarchy.{reach, needs, closure}
 use Rattle.grid.specs.declared.Plan.{Plan}
 use Rattle.grid.specs.Numbering.{offset, number, levelOf, placeOn, place}
-use Rattle.grid.specs.Plan.{between, numbersInRange, cornersInRange, inRange, ratio, grown, tooLarge, lastLevel, above, below, parent, child, supportedAt, supported, ancestor, nearAt, near}
+use Rattle.grid.specs.Plan.{between, numbersInRange, cornersInRange, inRange, ratio, grown, tooLarge, planRefusal, lastLevel, above, below, parent, child, supportedAt, supported, ancestor, nearAt, near}
 use Rattle.grid.specs.Knots.{isSet, isCorner, cornersTo, times, knotFrom, knot, beyond, functions as functionCount, covers, apart, together}
 use Rattle.mesh.specs.Mesh.{absent, active, refined, children, cellFits, isMesh, isAdmissible, reactivable, tableOf, labelOf, labels, isLabelled, refusal3, refusal6, check, freshCells, freshFunctions, openMesh}
 use Rattle.outcomes.specs.Calls.{cells, functions, eligible, isTooDeep, markRefusal, underMarked, underKept, selected, base, smallest, changed, written, refused, settle, newCells, refusal, outcome}
 use Rattle.outcomes.specs.Runs.{covered}
-use Rattle.outcomes.proofs.Examples.{Row, newlyActive, are, checks, plans, planRefusal, allHold, fresh, refining, split, join, row}
+use Rattle.outcomes.proofs.Examples.{Row, newlyActive, are, checks, plans, allHold, fresh, refining, split, join, row}
 
 -- 3 by 1 cells with a corner before column 1: levels, both degrees, class
 abbrev cornered : ℕ → ℕ → ℕ → ℕ → Plan

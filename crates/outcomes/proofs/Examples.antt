@@ -12,7 +12,7 @@ use Rattle.facts.proofs.Tests.{T-true}
 use Rattle.hierarchy.specs.Hierarchy.{reach, needs, closure}
 use Rattle.grid.specs.declared.Plan.{Plan}
 use Rattle.grid.specs.Numbering.{offset, number, levelOf, placeOn, place}
-use Rattle.grid.specs.Plan.{between, numbersInRange, cornersInRange, inRange, ratio, grown, tooLarge, lastLevel, above, below, parent, child, supportedAt, supported, ancestor, nearAt, near, cellTotal, functionTotal}
+use Rattle.grid.specs.Plan.{between, numbersInRange, cornersInRange, inRange, ratio, grown, tooLarge, planRefusal, lastLevel, above, below, parent, child, supportedAt, supported, ancestor, nearAt, near, cellTotal, functionTotal}
 use Rattle.grid.specs.Knots.{isSet, isCorner, cornersTo, times, knotFrom, knot, beyond, functions as functionCount, covers, apart, together}
 use Rattle.mesh.specs.Mesh.{Opened, absent, active, refined, children, cellFits, isMesh, isAdmissible, reactivable, tableOf, labelOf, labels, isLabelled, refusal3, refusal6, check, freshCells, freshFunctions, openMesh}
 use Rattle.outcomes.specs.Calls.{Direction, refine, coarsen, By, cells, functions, Outcome, eligible, isTooDeep, markRefusal, underMarked, underKept, selected, base, smallest, changed, written, refused, settle, newCells, refusal, outcome, refineCells, refineFunctions, coarsenCells, coarsenFunctions}
@@ -86,11 +86,7 @@ answers t s o =
     && (same (o .functionList) (s .functions ++ lent (s .functionRoom - length (s .functions)))
     && (eqb (s .number) 0 || sameTables (left o) t)))))
 
--- what a plan's numbers alone decide
-unfoldable pub planRefusal : Plan → ℕ
-planRefusal p = cond (not (inRange p)) 1 (cond (tooLarge p) 2 0)
-
--- and so it is what open answers where the tables' lengths are right
+-- a plan's refusal is what open answers where the tables' lengths are right
 pub opens-planned : (p : Plan) (cs fs : List ℕ) → length cs ≡ cellTotal p → length fs ≡ functionTotal p
     → openMesh p cs fs .number ≡ planRefusal p
 unfolding planRefusal openMesh refusal3

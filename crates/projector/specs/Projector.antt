@@ -1,6 +1,6 @@
 -- Document 02, Req 06: the corners of the active cells, for the projector. Here a corner is one of a cell; the corners of a plan (Req 05) are
 -- lines. Definitions only.
-use mathlib.Core.Bool.{not, cond}
+use mathlib.Core.Bool.{cond}
 use mathlib.Core.List.{List, [], _∷_, _++_, flatMap}
 use Prim.Native.Nat.{ℕ, _+_, _-_, _*_}
 use lib.Dec.{eqb, ltb}
@@ -11,7 +11,7 @@ use Rattle.facts.specs.Numbers.{listed}
 use Rattle.exact.specs.Dyadic.{dyadic}
 use Rattle.grid.specs.declared.Plan.{Plan}
 use Rattle.grid.specs.declared.Place.{Place}
-use Rattle.grid.specs.Plan.{inRange, tooLarge, ratio, grown, cellTotal, cellPlace}
+use Rattle.grid.specs.Plan.{ratio, grown, cellTotal, planRefusalOr, cellPlace}
 use Rattle.mesh.specs.Mesh.{active, check}
 use Rattle.heights.specs.Heights.{heightSum, places, heightsRefusal}
 use Rattle.projector.specs.declared.Corner.{Corner}
@@ -60,7 +60,7 @@ floatsOf = flatMap threeFloats
 
 -- "It refuses 16 where T exceeds 1,024, directly after 2"
 unfoldable pub planRefusal : Plan → ℕ
-planRefusal p = cond (not (inRange p)) 1 (cond (tooLarge p) 2 (cond (ltb mostProjected (cellTotal p)) 16 0))
+planRefusal p = planRefusalOr p (cond (ltb mostProjected (cellTotal p)) 16 0)
 
 -- then what is left of check's 1 to 6
 unfoldable pub meshRefusal : Plan → List ℕ → List ℕ → ℕ

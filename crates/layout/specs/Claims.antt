@@ -1,0 +1,1 @@
+-- What is claimed of a plan's layout. Definitions only.
