@@ -1,26 +1,28 @@
+-- `layout::cell_at` meets its contract. Assumes nothing.
+use mathlib.Core.Path.{refl, sym, _∙_}
+use lib.Dec.{T}
 use borrow.Author.Needs.{needs}
+use Rattle.facts.proofs.Tests.{true-T}
+use Rattle.layout.specs.Layout.{hasPlace, cellAt}
+use Rattle.layout.proofs.Found.{place-has, cell-found}
 use Rattle.layout.proofs.cell_at.Statement.{statement}
 use Rattle.layout.proofs.cell_at.Tie as tie
-use Rattle.layout.proofs.cell_at.Reads as reads
-use Rattle.layout.proofs.cell_at.Lts as lts
-use Rattle.grid.proofs.Plan.cell_number.Reads as cell-number-reads
-use Rattle.layout.proofs.has_place.Reads as has-place-reads
 
--- src/lib.rt:133:8
 has-place-requires : tie.Need-has-place-requires
 has-place-requires c κs = search needs
 
--- src/lib.rt:134:13
+told : (c : tie.Then1) → let a = c .before .before .args in T (hasPlace (a .plan) (a .place))
+told c = true-T _ (sym (c .before .has-place .ensures) ∙ c .if1 .taken)
+
 cell-number-requires : tie.Need-cell-number-requires
-cell-number-requires c κs = ?
+cell-number-requires c κs = place-has _ _ (told c)
 
--- src/lib.rt:135:9
 returns : tie.Need-returns
-returns c = ?
+returns c = rw (cell-found _ _ (told (c .before)), c .cell-number .ensures) refl
 
--- src/lib.rt:130:1
 returns-2 : tie.Need-returns-2
-returns-2 c = ?
+unfolding cellAt
+returns-2 c = rw (sym (c .before .has-place .ensures) ∙ c .if1 .left) refl
 
 pub cell-at-spec : {M : Type 1} → statement M
 cell-at-spec = tie.close (tie.spec has-place-requires cell-number-requires returns returns-2)

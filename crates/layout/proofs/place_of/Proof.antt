@@ -1,26 +1,27 @@
+-- `layout::place_of` meets its contract. Assumes nothing.
+use mathlib.Core.Path.{refl, sym}
+use Prim.Native.Nat.{_<_}
+use native.Mathlib.Omega.{arith}
 use borrow.Author.Needs.{needs}
+use Rattle.layout.specs.Layout.{cellsLength}
+use Rattle.layout.proofs.Found.{cells-below, place-found, place-none}
 use Rattle.layout.proofs.place_of.Statement.{statement}
 use Rattle.layout.proofs.place_of.Tie as tie
-use Rattle.layout.proofs.place_of.Reads as reads
-use Rattle.layout.proofs.place_of.Lts as lts
-use Rattle.grid.proofs.Plan.cell_place.Reads as cell-place-reads
-use Rattle.layout.proofs.cells_len.Reads as cells-len-reads
 
--- src/lib.rt:100:26
 cells-len-requires : tie.Need-cells-len-requires
 cells-len-requires c κs = search needs
 
--- src/lib.rt:101:13
+below : (c : tie.Then1) → let a = c .before .before .args in a .cell < cellsLength (a .plan)
+below c = omega (arith, c .if1 .taken, c .before .cells-len .ensures)
+
 cell-place-requires : tie.Need-cell-place-requires
-cell-place-requires c κs = ?
+cell-place-requires c κs = cells-below _ _ (below c)
 
--- src/lib.rt:102:9
 returns : tie.Need-returns
-returns c = ?
+returns c = rw (place-found _ _ (below (c .before)), c .cell-place .ensures) refl
 
--- src/lib.rt:97:1
 returns-2 : tie.Need-returns-2
-returns-2 c = ?
+returns-2 c = sym (place-none _ _ (omega (arith, c .if1 .left, c .before .cells-len .ensures)))
 
 pub place-of-spec : {M : Type 1} → statement M
 place-of-spec = tie.close (tie.spec cells-len-requires cell-place-requires returns returns-2)
