@@ -14,9 +14,9 @@ use Rattle.facts.proofs.Numbers.{tabulate-is}
 use Rattle.facts.proofs.Ranges.{sum-more}
 use Rattle.grid.specs.declared.Plan.{Plan}
 use Rattle.grid.specs.Numbering.{Inside, offset, number, place}
-use Rattle.grid.specs.Plan.{inRange, tooLarge, ratio, grown, columnsAt, rowsAt, functionColumnsAt, functionRowsAt, cellOffset, functionOffset, cellTotal, functionTotal}
+use Rattle.grid.specs.Plan.{planRefusal, ratio, grown, columnsAt, rowsAt, functionColumnsAt, functionRowsAt, cellOffset, functionOffset, cellTotal, functionTotal}
 use Rattle.grid.specs.Range.{InRange}
-use Rattle.grid.proofs.Laws.{cell-inside, cell-number-place, function-inside, function-number-place}
+use Rattle.grid.proofs.Laws.{taken, refused, cell-inside, cell-number-place, function-inside, function-number-place}
 use Rattle.grid.proofs.Totals.{functions-bound}
 use Rattle.mesh.specs.Mesh.{active, refined, isMesh, isAdmissible, isLabelled, refusal3, refusal6, check, freshCells, freshFunctions, openMesh, tally, areaOf, count}
 use Rattle.mesh.proofs.Bridge.{Passed, passed, check-good, is-mesh, length-labels}
@@ -38,25 +38,21 @@ area-last p range cs mesh = area p range cs mesh ∙ rw (square (ratio p) (p .le
 module _ (p : Plan) (cs fs : List ℕ) where
   -- ---- refusals 1 to 3
 
-  pub refuse-1 : inRange p ≡ false → 1 ≡ refusal3 p cs fs
+  pub refuse-plan : (planRefusal p ≡ 0 → ⊥) → planRefusal p ≡ refusal3 p cs fs
   unfolding refusal3
-  refuse-1 e = rw e
+  refuse-plan e = sym (refused p _ e)
 
-  pub refuse-2 : inRange p ≡ true → tooLarge p ≡ true → 2 ≡ refusal3 p cs fs
+  pub refuse-3 : planRefusal p ≡ 0 → (length cs ≡ cellTotal p → ⊥) → 3 ≡ refusal3 p cs fs
   unfolding refusal3
-  refuse-2 e f = rw (e, f)
+  refuse-3 e g = sym (taken p _ e ∙ rw (ne-eqb _ _ g))
 
-  pub refuse-3 : inRange p ≡ true → tooLarge p ≡ false → (length cs ≡ cellTotal p → ⊥) → 3 ≡ refusal3 p cs fs
+  pub refuse-3' : planRefusal p ≡ 0 → length cs ≡ cellTotal p → (length fs ≡ functionTotal p → ⊥) → 3 ≡ refusal3 p cs fs
   unfolding refusal3
-  refuse-3 e f g = rw (e, f, ne-eqb _ _ g)
+  refuse-3' e g h = sym (taken p _ e ∙ rw (eq-eqb _ _ g, ne-eqb _ _ h))
 
-  pub refuse-3' : inRange p ≡ true → tooLarge p ≡ false → length cs ≡ cellTotal p → (length fs ≡ functionTotal p → ⊥) → 3 ≡ refusal3 p cs fs
+  pub refuse-0 : planRefusal p ≡ 0 → length cs ≡ cellTotal p → length fs ≡ functionTotal p → 0 ≡ refusal3 p cs fs
   unfolding refusal3
-  refuse-3' e f g h = rw (e, f, eq-eqb _ _ g, ne-eqb _ _ h)
-
-  pub refuse-0 : inRange p ≡ true → tooLarge p ≡ false → length cs ≡ cellTotal p → length fs ≡ functionTotal p → 0 ≡ refusal3 p cs fs
-  unfolding refusal3
-  refuse-0 e f g h = rw (e, f, eq-eqb _ _ g, eq-eqb _ _ h)
+  refuse-0 e g h = sym (taken p _ e ∙ rw (eq-eqb _ _ g, eq-eqb _ _ h))
 
   -- ---- refusals 4 to 6
 
