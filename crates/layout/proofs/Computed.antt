@@ -3,15 +3,10 @@ use mathlib.Core.Path.{_≡_, refl}
 use mathlib.Core.List.{List, [], _∷_}
 use Prim.Native.Nat.{ℕ}
 use Rattle.grid.specs.declared.Plan.{Plan}
-use Rattle.grid.specs.declared.Place.{Place}
 use Rattle.grid.specs.Numbering.{offset, number, levelOf, placeOn, place}
 use Rattle.grid.specs.Knots.{isSet, isCorner, cornersTo, times, knotFrom, knot, beyond}
 use Rattle.grid.specs.Plan.{planOf, between, numbersInRange, cornersInRange, inRange, ratio, grown, tooLarge, planRefusal}
-use Rattle.layout.specs.declared.Level.{Level}
-use Rattle.layout.specs.declared.CellPlace.{CellPlace}
-use Rattle.layout.specs.declared.CellAt.{CellAt}
-use Rattle.layout.specs.declared.Support.{Support}
-use Rattle.layout.specs.Layout.{cellsLength, functionsLength, hasLevel, levelAt, placeAt, hasPlace, cellAt, supportAt, support}
+use Rattle.layout.specs.Layout.{cellsLength, functionsLength, hasLevel, levelAt, placeOf, hasPlace, cellAt, supportAt, support}
 
 -- answers as lists of their numbers
 abbrev lengths : Plan → List ℕ
@@ -23,7 +18,7 @@ level p k =
     l .«first_cell» ∷ l .columns ∷ l .rows ∷ l .«first_function» ∷ l .«functions_across» ∷ l .«functions_up» ∷ []
 
 abbrev lies : Plan → ℕ → List ℕ
-lies p c = let x = placeAt p c in x .found ∷ x .level ∷ x .row ∷ x .column ∷ []
+lies p c = let x = placeOf p c in x .found ∷ x .level ∷ x .row ∷ x .column ∷ []
 
 abbrev at : Plan → ℕ → ℕ → ℕ → List ℕ
 at p k r c = let x = cellAt p (record { level = k; row = r; column = c }) in x .found ∷ x .cell ∷ []
@@ -77,5 +72,5 @@ table =
     ∷ []
 
 pub computed : answers table ≡ workings table
-unfolding table between numbersInRange cornersInRange inRange ratio grown offset number levelOf placeOn place tooLarge planRefusal isSet isCorner cornersTo times knotFrom knot beyond cellsLength functionsLength hasLevel levelAt placeAt hasPlace cellAt supportAt support
+unfolding table between numbersInRange cornersInRange inRange ratio grown offset number levelOf placeOn place tooLarge planRefusal isSet isCorner cornersTo times knotFrom knot beyond cellsLength functionsLength hasLevel levelAt placeOf hasPlace cellAt supportAt support
 computed = refl

@@ -1,11 +1,11 @@
 -- What the tests of the layout say of a plan, and that each answer is the one of the definition. Assumes nothing.
-use mathlib.Core.Path.{_≡_, refl, sym, ap, _∙_}
+use mathlib.Core.Path.{_≡_, refl}
 use mathlib.Core.Bool.{Bool, true, false, _&&_, cond}
 use Prim.Native.Nat.{ℕ, _+_, _≤_, _<_}
 use native.Mathlib.Omega.{arith}
 use lib.Dec.{T, eqb, ltb, eqb→eq, ltb→lt, lt→ltb}
 use borrow.Author.Tests.{ne-eqb, lt-ltb, le-ltb}
-use Rattle.facts.proofs.Tests.{and-i, and-l, and-r, true-T, T-true, eqb-of}
+use Rattle.facts.proofs.Tests.{and-i, and-l, and-r, T-true, eqb-of}
 use Rattle.grid.specs.declared.Plan.{Plan}
 use Rattle.grid.specs.declared.Place.{Place}
 use Rattle.grid.specs.declared.Rectangle.{Rectangle}
@@ -13,11 +13,11 @@ use Rattle.grid.specs.Knots.{knotOn}
 use Rattle.grid.specs.Plan.{planRefusal, columnsAt, rowsAt, functionColumnsAt, functionRowsAt, cellOffset, functionOffset, cellTotal, functionTotal, cellPlace, cellNumber, functionPlace, acrossAt, upAt, CellInside, FunctionInside}
 use Rattle.grid.specs.Range.{InRange}
 use Rattle.grid.specs.Spans.{supportOf}
-use Rattle.grid.proofs.Laws.{taken-range, across-sized, up-sized, cell-inside, function-inside}
+use Rattle.grid.proofs.Laws.{taken-range, across-sized, up-sized}
 use Rattle.grid.proofs.SideLaws.{support-knots}
 use Rattle.grid.proofs.Spans.{across-functions, up-functions}
 use Rattle.layout.specs.declared.Support.{Support}
-use Rattle.layout.specs.Layout.{isTaken, cellsLength, functionsLength, hasLevel, levelAt, placeAt, hasPlace, cellAt, supportAt, support}
+use Rattle.layout.specs.Layout.{isTaken, cellsLength, functionsLength, hasLevel, levelAt, placeOf, hasPlace, cellAt, supportAt, support}
 
 -- a rectangle as the answer has it
 abbrev pub answered : Rectangle → Support
@@ -95,12 +95,14 @@ module _ (p : Plan) where
   unfolding hasPlace
   place-has x t =
       let (r, l) = level-has (x .level) (and-l (hasLevel p (x .level)) _ t) in
-      let u : T (ltb (x .row) (rowsAt p (x .level)) && ltb (x .column) (columnsAt p (x .level))) = and-r (hasLevel p (x .level)) _ t in
-      (r, record {
-        level< = l;
-        row< = ltb→lt (x .row) (rowsAt p (x .level)) (and-l (ltb (x .row) (rowsAt p (x .level))) _ u);
-        column< = ltb→lt (x .column) (columnsAt p (x .level)) (and-r (ltb (x .row) (rowsAt p (x .level))) _ u);
-      })
+      let u : T (ltb (x .row) (rowsAt p (x .level)) && ltb (x .column) (columnsAt p (x .level))) = and-r (hasLevel p (x .level)) _ t in (
+        r,
+        record {
+          level< = l;
+          row< = ltb→lt (x .row) (rowsAt p (x .level)) (and-l (ltb (x .row) (rowsAt p (x .level))) _ u);
+          column< = ltb→lt (x .column) (columnsAt p (x .level)) (and-r (ltb (x .row) (rowsAt p (x .level))) _ u);
+        },
+      )
 
   -- ---- answers
 
@@ -110,12 +112,12 @@ module _ (p : Plan) where
   level-found k t = rw (T-true (hasLevel p k) t)
 
   pub place-found : (c : ℕ) → c < cellsLength p
-      → placeAt p c ≡ record { found = 1; level = cellPlace p c .level; row = cellPlace p c .row; column = cellPlace p c .column }
-  unfolding placeAt
+      → placeOf p c ≡ record { found = 1; level = cellPlace p c .level; row = cellPlace p c .row; column = cellPlace p c .column }
+  unfolding placeOf
   place-found c l = rw (lt-ltb c (cellsLength p) l)
 
-  pub place-none : (c : ℕ) → cellsLength p ≤ c → placeAt p c ≡ record { found = 0; level = 0; row = 0; column = 0 }
-  unfolding placeAt
+  pub place-none : (c : ℕ) → cellsLength p ≤ c → placeOf p c ≡ record { found = 0; level = 0; row = 0; column = 0 }
+  unfolding placeOf
   place-none c l = rw (le-ltb c (cellsLength p) l)
 
   pub cell-found : (x : Place) → T (hasPlace p x) → cellAt p x ≡ record { found = 1; cell = cellNumber p x }

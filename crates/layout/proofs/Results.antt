@@ -4,24 +4,22 @@ use mathlib.Core.Bool.{Bool, true, false, not, _&&_, cond}
 use mathlib.Core.List.{List}
 use Prim.Native.Nat.{ℕ, _+_, _*_, _≤_, _<_}
 use native.Mathlib.Omega.{arith}
-use lib.Dec.{T, eqb, leb, ltb, eqb→eq, ltb→lt, lt→ltb}
+use lib.Dec.{T, eqb, eqb→eq}
 use lib.ListN.{length}
-use borrow.Author.Tests.{ne-eqb}
 use Rattle.facts.proofs.Tests.{cases, not-e, T-true, T-false, differ}
 use Rattle.grid.specs.declared.Plan.{Plan}
 use Rattle.grid.specs.declared.Place.{Place}
 use Rattle.grid.specs.Numbering.{number}
-use Rattle.grid.specs.Plan.{planRefusal, columnsAt, rowsAt, cellTotal, functionTotal, functionColumnsAt, functionRowsAt, cellPlace, functionPlace, cellNumber, functionNumber, CellInside, FunctionInside, supported}
-use Rattle.grid.specs.Range.{InRange}
+use Rattle.grid.specs.Plan.{planRefusal, cellTotal, functionTotal, cellPlace, functionPlace, cellNumber, functionNumber, FunctionInside, supported}
 use Rattle.grid.specs.Spans.{inSpan, inRectangle, supportOf}
 use Rattle.grid.proofs.Laws.{taken, refused, cell-inside, cell-number-lt, cell-number-place, cell-place-number, function-inside, function-number-lt, function-place-number}
 use Rattle.grid.proofs.Rectangles.{support-in}
 use Rattle.grid.proofs.Spans.{supported-is}
 use Rattle.mesh.specs.Mesh.{refusal3}
 use Rattle.layout.specs.declared.CellAt.{CellAt}
-use Rattle.layout.specs.Layout.{isTaken, cellsLength, functionsLength, hasLevel, levelAt, placeAt, hasPlace, cellAt, supportAt, support}
+use Rattle.layout.specs.Layout.{isTaken, cellsLength, functionsLength, hasLevel, levelAt, placeOf, hasPlace, cellAt, supportAt, support}
 use Rattle.layout.specs.Claims.{isIn, Within, Claims}
-use Rattle.layout.proofs.Found.{answered, cells-taken, functions-taken, cells-below, cells-some, functions-below, functions-some, level-has, level-taken, level-test, place-level, place-test, place-has, level-found, place-found, cell-found, support-found, support-is}
+use Rattle.layout.proofs.Found.{cells-taken, functions-taken, cells-below, cells-some, functions-below, functions-some, level-has, level-taken, level-test, place-level, place-test, place-has, level-found, place-found, cell-found, support-found, support-is}
 
 flip : (b : Bool) → cond {A = ℕ} (not b) 3 0 ≡ cond b 0 3
 flip true = refl
@@ -67,14 +65,14 @@ module _ (p : Plan) where
       rw e (support-found p (functionNumber p x) m ∙ ap (supportAt p) (function-place-number p range x i))
 
   there-and-back : (c : ℕ) → c < cellsLength p
-      → let x = placeAt p c in cellAt p (record { level = x .level; row = x .row; column = x .column }) ≡ record { found = 1; cell = c }
+      → let x = placeOf p c in cellAt p (record { level = x .level; row = x .row; column = x .column }) ≡ record { found = 1; cell = c }
   there-and-back c l =
       let (range, m) = cells-below p c l in
       let t : T (hasPlace p (cellPlace p c)) = place-test p (cellPlace p c) (cells-some p c l) (cell-inside p range c m) in
       rw (place-found p c l) (cell-found p (cellPlace p c) t ∙ (λ j. record { found = 1; cell = cell-number-place p range c m j }))
 
   back-and-forth : (x : Place) → cellAt p x .found ≡ 1
-      → placeAt p (cellAt p x .cell) ≡ record { found = 1; level = x .level; row = x .row; column = x .column }
+      → placeOf p (cellAt p x .cell) ≡ record { found = 1; level = x .level; row = x .row; column = x .column }
   back-and-forth x e =
       let t = found-place x e in
       let (range, i) = place-has p x t in
@@ -83,7 +81,7 @@ module _ (p : Plan) where
       rw (cell-found p x t) (place-found p (cellNumber p x) m ∙ (λ j. record { found = 1; level = q j .level; row = q j .row; column = q j .column }))
 
   module _ (f : ℕ) (l : f < functionsLength p) where
-    covered : (c : ℕ) → c < cellsLength p → isIn (support p f) (placeAt p c) ≡ supported p f c
+    covered : (c : ℕ) → c < cellsLength p → isIn (support p f) (placeOf p c) ≡ supported p f c
     unfolding isIn inRectangle inSpan
     covered c m =
         let (range, b) = functions-below p f l in

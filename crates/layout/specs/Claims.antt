@@ -12,7 +12,7 @@ use Rattle.mesh.specs.Mesh.{refusal3}
 use Rattle.layout.specs.declared.Level.{Level}
 use Rattle.layout.specs.declared.CellPlace.{CellPlace}
 use Rattle.layout.specs.declared.Support.{Support}
-use Rattle.layout.specs.Layout.{isTaken, cellsLength, functionsLength, levelAt, placeAt, cellAt, supportAt, support}
+use Rattle.layout.specs.Layout.{isTaken, cellsLength, functionsLength, levelAt, placeOf, cellAt, supportAt, support}
 
 -- the cell lies in the rectangle: on its level, from the first row and column up to, not including, the end
 unfoldable pub isIn : Support → CellPlace → Bool
@@ -40,9 +40,9 @@ pub record Claims (p : Plan) : Type 0 where
       → support p (l .«first_function» + x .row * l .«functions_across» + x .column) ≡ supportAt p x
   -- the place of a cell and the cell of a place undo each other
   pub back : (c : ℕ) → c < cellsLength p
-      → let x = placeAt p c in cellAt p (record { level = x .level; row = x .row; column = x .column }) ≡ record { found = 1; cell = c }
+      → let x = placeOf p c in cellAt p (record { level = x .level; row = x .row; column = x .column }) ≡ record { found = 1; cell = c }
   pub forth : (x : Place) → cellAt p x .found ≡ 1
-      → placeAt p (cellAt p x .cell) ≡ record { found = 1; level = x .level; row = x .row; column = x .column }
+      → placeOf p (cellAt p x .cell) ≡ record { found = 1; level = x .level; row = x .row; column = x .column }
   -- a cell lies in the answered rectangle just where it lies in the function's support
-  pub covers : (f c : ℕ) → f < functionsLength p → c < cellsLength p → isIn (support p f) (placeAt p c) ≡ supported p f c
+  pub covers : (f c : ℕ) → f < functionsLength p → c < cellsLength p → isIn (support p f) (placeOf p c) ≡ supported p f c
   pub within : (f : ℕ) → f < functionsLength p → Within (levelAt p (support p f .level)) (support p f)

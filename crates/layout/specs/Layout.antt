@@ -1,6 +1,5 @@
--- What a plan lays down before there is a mesh: how long its tables are, where a level stands in them, where a cell lies and what a function
--- covers. Every answer is a function of the whole input, and all zeros where there is nothing to answer: the plan is refused, or it does not
--- have the level, the cell, the place or the function. Definitions only.
+-- What a plan alone decides: how long its tables are, where a level stands in them, where a cell lies and what a function covers. An answer is
+-- all zeros where there is none: the plan is refused, or it does not have the level, the cell, the place or the function. Definitions only.
 use mathlib.Core.Bool.{Bool, _&&_, cond}
 use Prim.Native.Nat.{ℕ, _+_}
 use lib.Dec.{eqb, ltb}
@@ -13,7 +12,7 @@ use Rattle.layout.specs.declared.CellPlace.{CellPlace}
 use Rattle.layout.specs.declared.CellAt.{CellAt}
 use Rattle.layout.specs.declared.Support.{Support}
 
--- neither refusal 1 nor refusal 2 is given to the plan
+-- the plan gets neither refusal 1 nor refusal 2
 abbrev pub isTaken : Plan → Bool
 isTaken p = eqb (planRefusal p) 0
 
@@ -45,24 +44,25 @@ levelAt p k =
 -- ---- cells: "numbered from 0, level by level, row by row"
 
 -- the place of cell c
-unfoldable pub placeAt : Plan → ℕ → CellPlace
-placeAt p c =
+unfoldable pub placeOf : Plan → ℕ → CellPlace
+placeOf p c =
     let x = cellPlace p c in
     cond (ltb c (cellsLength p))
     (record { found = 1; level = x .level; row = x .row; column = x .column })
     (record { found = 0; level = 0; row = 0; column = 0 })
 
--- a cell lies on level k in row r and column c
+-- the plan has a cell at the place
 unfoldable pub hasPlace : Plan → Place → Bool
 hasPlace p x = hasLevel p (x .level) && (ltb (x .row) (rowsAt p (x .level)) && ltb (x .column) (columnsAt p (x .level)))
 
--- which
+-- that cell
 unfoldable pub cellAt : Plan → Place → CellAt
 cellAt p x = cond (hasPlace p x) (record { found = 1; cell = cellNumber p x }) (record { found = 0; cell = 0 })
 
--- ---- functions: "supports follow from the knots", those of a function are its first and the degree + 1 next, and what lies between the
--- first and the last is covered
+-- ---- functions
 
+-- of the function at a place. "supports follow from the knots": function i of a direction has the knots i to i + p + 1, and covers the columns
+-- (or rows) from the line of the first up to that of the last
 unfoldable pub supportAt : Plan → Place → Support
 supportAt p x =
     let across = acrossAt p (x .level) in
@@ -76,7 +76,8 @@ supportAt p x =
       «end_column» = knotOn across (x .column + p .«degree_across» + 1);
     }
 
--- "A function's support is the rectangle of both": the cells of its level from the first row and column up to, not including, the end
+-- of function f. "A function's support is the rectangle of both": the cells of its level from the first row and column up to, not including,
+-- the end
 unfoldable pub support : Plan → ℕ → Support
 support p f =
     cond (ltb f (functionsLength p)) (supportAt p (functionPlace p f))

@@ -1,11 +1,11 @@
-// What a plan lays down before there is a mesh: the lengths of its tables, where a level stands in them, where a cell lies and what a
-// function covers. Any plan and any number are taken; an answer is all zeros where there is nothing to answer.
+// What a plan alone decides: how long its tables are, where a level stands in them, where a cell lies and what a function covers. Any plan
+// and any numbers are taken; an answer is all zeros where there is none.
 use grid::Cell;
 use grid::Function;
 use grid::Place;
 use grid::Plan;
 ghost use mathlib.Core.Path.{_≡_};
-ghost use Rattle.layout.specs.Layout.{cellsLength, functionsLength, hasLevel, levelAt, placeAt, hasPlace, cellAt, support};
+ghost use Rattle.layout.specs.Layout.{cellsLength, functionsLength, hasLevel, levelAt, placeOf, hasPlace, cellAt, support};
 
 // Where a level's cells and functions stand in their tables, and how many there are across and up.
 #[repr(C)]
@@ -18,7 +18,7 @@ pub struct Level {
     pub functions_up: u32,
 }
 
-// Where a cell lies. `found` is 1 or 0.
+// Where a cell lies. `found` is 1, or 0 where there is no such cell.
 #[repr(C)]
 pub struct CellPlace {
     pub found: u32,
@@ -27,14 +27,14 @@ pub struct CellPlace {
     pub column: u32,
 }
 
-// The cell of a place.
+// The cell at a place.
 #[repr(C)]
 pub struct CellAt {
     pub found: u32,
     pub cell: u32,
 }
 
-// The cells that a function covers, of its level: from the first row and column up to, not including, the end.
+// The cells that a function covers: those of its level from the first row and column up to, not including, the end.
 #[repr(C)]
 pub struct Support {
     pub found: u32,
@@ -95,7 +95,7 @@ pub fn level_at(plan: Plan, level: u32) -> Level
 }
 
 pub fn place_of(plan: Plan, cell: u32) -> CellPlace
-    ensures { λ r. ⌜ r ≡ placeAt plan cell ⌝ }
+    ensures { λ r. ⌜ r ≡ placeOf plan cell ⌝ }
 {
     if (cell as usize) < cells_len(plan) {
         let place = plan.cell_place(Cell(cell));
@@ -114,7 +114,7 @@ pub fn place_of(plan: Plan, cell: u32) -> CellPlace
     }
 }
 
-// A cell lies at the place.
+// The plan has a cell at the place.
 fn has_place(plan: Plan, place: Place) -> bool
     ensures { λ r. ⌜ r ≡ hasPlace plan place ⌝ }
 {
@@ -137,10 +137,7 @@ pub fn cell_at(plan: Plan, place: Place) -> CellAt
             cell: cell.0,
         };
     }
-    CellAt {
-        found: 0,
-        cell: 0,
-    }
+    CellAt { found: 0, cell: 0 }
 }
 
 pub fn support_of(plan: Plan, function: u32) -> Support
