@@ -51,6 +51,11 @@ w2 = planOf (3 ∷ 1 ∷ 3 ∷ 1 ∷ 1 ∷ 2 ∷ [])
 abbrev cornered : Plan
 cornered = planOf (3 ∷ 1 ∷ 2 ∷ 2 ∷ 1 ∷ 0 ∷ 2 ∷ 0 ∷ [])
 
+-- cell 9 begins the upper row of level 1; function 2 covers both sides of the corner. So few that an error shows both sides
+pub two : lies w2 9 ∷ covers cornered 2 ∷ [] ≡ (1 ∷ 1 ∷ 1 ∷ 0 ∷ []) ∷ (1 ∷ 0 ∷ 0 ∷ 1 ∷ 0 ∷ 2 ∷ []) ∷ []
+unfolding between numbersInRange cornersInRange inRange ratio grown offset number levelOf placeOn place tooLarge planRefusal isSet isCorner cornersTo times knotFrom knot beyond cellsLength functionsLength hasLevel levelAt placeOf hasPlace cellAt supportAt support
+two = refl
+
 pub table : List Row
 table =
     row (lengths w2) (0 ∷ 63 ∷ 94 ∷ [])
@@ -59,16 +64,15 @@ table =
     ∷ row (lengths (planOf (16 ∷ 16 ∷ 5 ∷ 1 ∷ 1 ∷ 0 ∷ []))) (2 ∷ 0 ∷ 0 ∷ [])
     -- level 1 has 6 by 2 cells from 3 on and 7 by 3 functions from 8 on; there is no level 3
     ∷ row (level w2 1) (3 ∷ 6 ∷ 2 ∷ 8 ∷ 7 ∷ 3 ∷ []) ∷ row (level w2 3) (0 ∷ 0 ∷ 0 ∷ 0 ∷ 0 ∷ 0 ∷ [])
-    -- cell 9 begins the upper row of level 1; 62 is the last cell; a row of level 1 has no column 6
-    ∷ row (lies w2 9) (1 ∷ 1 ∷ 1 ∷ 0 ∷ []) ∷ row (lies w2 62) (1 ∷ 2 ∷ 3 ∷ 11 ∷ []) ∷ row (lies w2 63) (0 ∷ 0 ∷ 0 ∷ 0 ∷ [])
+    -- 62 is the last cell; a row of level 1 has no column 6
+    ∷ row (lies w2 62) (1 ∷ 2 ∷ 3 ∷ 11 ∷ []) ∷ row (lies w2 63) (0 ∷ 0 ∷ 0 ∷ 0 ∷ [])
     ∷ row (at w2 1 1 0) (1 ∷ 9 ∷ []) ∷ row (at w2 1 1 6) (0 ∷ 0 ∷ []) ∷ row (at w2 1 2 0) (0 ∷ 0 ∷ []) ∷ row (at w2 3 0 0) (0 ∷ 0 ∷ [])
     -- function 1 covers columns 0 and 1; function 16, in row 1 and column 1 of level 1, rows and columns 0 and 1; 93 is the last
     ∷ row (covers w2 1) (1 ∷ 0 ∷ 0 ∷ 1 ∷ 0 ∷ 2 ∷ []) ∷ row (covers w2 16) (1 ∷ 1 ∷ 0 ∷ 2 ∷ 0 ∷ 2 ∷ [])
     ∷ row (covers w2 93) (1 ∷ 2 ∷ 3 ∷ 4 ∷ 11 ∷ 12 ∷ []) ∷ row (covers w2 94) (0 ∷ 0 ∷ 0 ∷ 0 ∷ 0 ∷ 0 ∷ [])
-    -- two functions end at the corner or before it, one covers both sides of it, two begin there
+    -- function 1 ends at the corner, function 3 begins there
     ∷ row (lengths cornered) (0 ∷ 15 ∷ 39 ∷ []) ∷ row (level cornered 0) (0 ∷ 3 ∷ 1 ∷ 0 ∷ 6 ∷ 2 ∷ [])
-    ∷ row (covers cornered 1) (1 ∷ 0 ∷ 0 ∷ 1 ∷ 0 ∷ 1 ∷ []) ∷ row (covers cornered 2) (1 ∷ 0 ∷ 0 ∷ 1 ∷ 0 ∷ 2 ∷ [])
-    ∷ row (covers cornered 3) (1 ∷ 0 ∷ 0 ∷ 1 ∷ 1 ∷ 3 ∷ [])
+    ∷ row (covers cornered 1) (1 ∷ 0 ∷ 0 ∷ 1 ∷ 0 ∷ 1 ∷ []) ∷ row (covers cornered 3) (1 ∷ 0 ∷ 0 ∷ 1 ∷ 1 ∷ 3 ∷ [])
     ∷ []
 
 pub computed : answers table ≡ workings table
