@@ -4,12 +4,19 @@ use calls::Call;
 use calls::Direction;
 use files::ReadAnswer;
 use files::WriteAnswer;
+use grid::Place;
 use grid::Plan;
 use heights::HeightAnswer;
+use layout::CellAt;
+use layout::CellPlace;
+use layout::Level;
+use layout::Support;
 use mesh::Count;
 use outcomes::Answer;
 use projector::CornersAnswer;
 ghost use mathlib.Core.Path.{_≡_};
+ghost use Rattle.grid.specs.Plan.{planRefusal};
+ghost use Rattle.layout.specs.Layout.{cellsLength, functionsLength, levelAt, placeOf, cellAt, support};
 ghost use Rattle.mesh.specs.Mesh.{openMesh, check, count};
 ghost use Rattle.outcomes.specs.Calls.{refineCells, refineFunctions, coarsenCells, coarsenFunctions};
 ghost use Rattle.outcomes.specs.Contracts.{Meets};
@@ -20,6 +27,63 @@ ghost use Rattle.refining.specs.Refining.{refineCellsWithHeights, refineFunctio
 ghost use Rattle.refining.specs.Steps.{MeetsWithHeights};
 ghost use Rattle.projector.specs.Projector.{project};
 ghost use Rattle.projector.specs.Steps.{leftByCorners};
+
+// 0.9.0, as major * 1,000,000 + minor * 1,000 + patch.
+#[no_mangle]
+pub extern "C" fn wallmirror_version() -> u32
+    ensures { λ r. ⌜ r ≡ 9000 ⌝ }
+{
+    9000
+}
+
+#[no_mangle]
+pub extern "C" fn wallmirror_plan_refusal(plan: Plan) -> u32
+    ensures { λ r. ⌜ r ≡ planRefusal plan ⌝ }
+{
+    plan.refusal()
+}
+
+#[no_mangle]
+pub extern "C" fn wallmirror_cells_len(plan: Plan) -> usize
+    ensures { λ r. ⌜ r ≡ cellsLength plan ⌝ }
+{
+    layout::cells_len(plan)
+}
+
+#[no_mangle]
+pub extern "C" fn wallmirror_functions_len(plan: Plan) -> usize
+    ensures { λ r. ⌜ r ≡ functionsLength plan ⌝ }
+{
+    layout::functions_len(plan)
+}
+
+#[no_mangle]
+pub extern "C" fn wallmirror_level(plan: Plan, level: u32) -> Level
+    ensures { λ r. ⌜ r ≡ levelAt plan level ⌝ }
+{
+    layout::level_at(plan, level)
+}
+
+#[no_mangle]
+pub extern "C" fn wallmirror_place(plan: Plan, cell: u32) -> CellPlace
+    ensures { λ r. ⌜ r ≡ placeOf plan cell ⌝ }
+{
+    layout::place_of(plan, cell)
+}
+
+#[no_mangle]
+pub extern "C" fn wallmirror_cell_at(plan: Plan, level: u32, row: u32, column: u32) -> CellAt
+    ensures { λ r. ⌜ r ≡ cellAt plan (record { level = level; row = row; column = column }) ⌝ }
+{
+    layout::cell_at(plan, Place { level, row, column })
+}
+
+#[no_mangle]
+pub extern "C" fn wallmirror_support(plan: Plan, function: u32) -> Support
+    ensures { λ r. ⌜ r ≡ support plan function ⌝ }
+{
+    layout::support_of(plan, function)
+}
 
 #[no_mangle]
 pub extern "C" fn wallmirror_open(plan: Plan, cells: &mut [u8], functions: &mut [u8]) -> u32
