@@ -25,6 +25,7 @@ functionsLength p = cond (isTaken p) (functionTotal p) 0
 
 -- ---- levels: "A level is a run of the table that starts at its offset"
 
+-- the plan has a level k
 unfoldable pub hasLevel : Plan → ℕ → Bool
 hasLevel p k = isTaken p && ltb k (p .levels)
 
@@ -61,8 +62,8 @@ cellAt p x = cond (hasPlace p x) (record { found = 1; cell = cellNumber p x }) (
 
 -- ---- functions
 
--- of the function at a place. "supports follow from the knots": function i of a direction has the knots i to i + p + 1, and covers the columns
--- (or rows) from the line of the first up to that of the last
+-- what the function at a place covers. "supports follow from the knots": function i of a direction has the knots i to i + p + 1, and covers
+-- the columns (or rows) from the line of the first up to that of the last
 unfoldable pub supportAt : Plan → Place → Support
 supportAt p x =
     let across = acrossAt p (x .level) in
@@ -76,8 +77,8 @@ supportAt p x =
       «end_column» = knotOn across (x .column + p .«degree_across» + 1);
     }
 
--- of function f. "A function's support is the rectangle of both": the cells of its level from the first row and column up to, not including,
--- the end
+-- what function f covers. "A function's support is the rectangle of both": the cells of its level from the first row and column up to, not
+-- including, the end
 unfoldable pub support : Plan → ℕ → Support
 support p f =
     cond (ltb f (functionsLength p)) (supportAt p (functionPlace p f))
