@@ -317,7 +317,7 @@ impl Buffers {
                         plan.levels,
                         plan.degree_across,
                         plan.degree_up,
-                        plan.class,
+                        plan.admissibility_class,
                         plan.corners_across,
                         plan.corners_up,
                     ]

@@ -165,7 +165,7 @@ pub fn raw(plan: Plan) -> ffi::Plan {
         levels: plan.levels,
         degree_across: plan.degree_across,
         degree_up: plan.degree_up,
-        class: plan.class,
+        admissibility_class: plan.class,
         corners_across: plan.corners_across,
         corners_up: plan.corners_up,
     }
@@ -179,7 +179,7 @@ pub fn of_wrapper(plan: Plan) -> wallmirror::Plan {
         levels: plan.levels,
         degree_across: plan.degree_across,
         degree_up: plan.degree_up,
-        class: plan.class,
+        admissibility_class: plan.class,
         corners_across: plan.corners_across,
         corners_up: plan.corners_up,
     }

@@ -180,7 +180,7 @@ impl Given {
             levels,
             degree_across,
             degree_up,
-            class,
+            admissibility_class: class,
             corners_across,
             corners_up,
         })

@@ -27,7 +27,7 @@ pub fn info(wall: &Wall) -> Result<String, Failure> {
 }
 
 fn graded(plan: Plan) -> String {
-    match plan.class {
+    match plan.admissibility_class {
         0 => String::new(),
         class => format!(" graded for class {class}"),
     }

@@ -98,7 +98,9 @@ pub fn count(count: usize, of: &str) -> String {
 
 /// The plan of a wall but for its corners.
 pub fn plan(plan: Plan) -> String {
-    let Plan { columns, rows, levels, degree_across, degree_up, class, .. } = plan;
+    let Plan {
+        columns, rows, levels, degree_across, degree_up, admissibility_class: class, ..
+    } = plan;
     let levels = count(levels as usize, "level");
     format!("{columns} by {rows} cells, {levels}, degrees {degree_across} and {degree_up}, class {class}")
 }

@@ -2,7 +2,7 @@ use std::{env, error, fs, process};
 use wallmirror::{Cell, Mesh, Plan};
 
 fn main() -> Result<(), Box<dyn error::Error>> {
-    let plan = Plan { columns: 3, levels: 3, class: 2, ..Plan::default() };
+    let plan = Plan { columns: 3, levels: 3, admissibility_class: 2, ..Plan::default() };
     let mut mesh = Mesh::open(plan)?;
     mesh.refine_cells(&[Cell(0)])?;
 

@@ -21,7 +21,7 @@ fn print_heights() -> Result<(), Refusal> {
         levels: 2,
         degree_across: 2,
         degree_up: 2,
-        class: 2,
+        admissibility_class: 2,
         ..Plan::default() // no corners
     };
     let mut mesh = Mesh::open(plan)?;

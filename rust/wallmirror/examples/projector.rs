@@ -15,7 +15,7 @@ const PLAN: Plan = Plan {
     levels: 3,
     degree_across: 1,
     degree_up: 1,
-    class: 2,
+    admissibility_class: 2,
     corners_across: 0,
     corners_up: 0,
 };

@@ -16,7 +16,7 @@ const PLAN: Plan = Plan {
     levels: 2,
     degree_across: 2,
     degree_up: 2,
-    class: 2,
+    admissibility_class: 2,
     corners_across: 0,
     corners_up: 0,
 };

@@ -16,7 +16,7 @@ fn main() -> ExitCode {
 }
 
 fn run() -> Result<(), Refusal> {
-    let plan = Plan { columns: 3, levels: 3, class: 2, ..Plan::default() };
+    let plan = Plan { columns: 3, levels: 3, admissibility_class: 2, ..Plan::default() };
     let mut season = Season::new(Mesh::open(plan)?)?;
     let first = season.mesh().to_file()?;
     println!("the file of the first mesh: {first:?}");

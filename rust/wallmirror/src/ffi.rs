@@ -11,7 +11,7 @@ pub struct Plan {
     pub levels: u32,
     pub degree_across: u32,
     pub degree_up: u32,
-    pub class: u32,
+    pub admissibility_class: u32,
     pub corners_across: u32,
     pub corners_up: u32,
 }

@@ -12,7 +12,7 @@
 //! ```
 //! use wallmirror::{Cell, Function, Mesh, Plan};
 //!
-//! let plan = Plan { columns: 3, levels: 3, class: 2, ..Plan::default() };
+//! let plan = Plan { columns: 3, levels: 3, admissibility_class: 2, ..Plan::default() };
 //! let mut mesh = Mesh::open(plan)?;
 //! mesh.refine_cells(&[Cell(0)])?;
 //! let lists = mesh.refine_cells(&[Cell(3)])?;
@@ -28,7 +28,7 @@
 //!
 //! ```
 //! # use wallmirror::{open, refine_cells, Cell, Function, Plan};
-//! # let plan = Plan { columns: 3, levels: 3, class: 2, ..Plan::default() };
+//! # let plan = Plan { columns: 3, levels: 3, admissibility_class: 2, ..Plan::default() };
 //! let (t, f) = (plan.cells().unwrap(), plan.functions().unwrap());
 //! let (mut cells, mut functions) = (vec![0; t], vec![0; f]);
 //! let (mut cell_list, mut function_list) = (vec![Cell(0); t], vec![Function(0); f]);
@@ -114,7 +114,7 @@
 //!
 //! ```
 //! # use wallmirror::{Cell, Function, Mesh, Plan};
-//! let plan = Plan { columns: 3, levels: 3, class: 2, ..Plan::default() };
+//! let plan = Plan { columns: 3, levels: 3, admissibility_class: 2, ..Plan::default() };
 //! # let mut mesh = Mesh::open(plan)?;
 //! # mesh.refine_cells(&[Cell(0)])?;
 //! # mesh.refine_cells(&[Cell(3)])?;
@@ -206,7 +206,7 @@
 //!
 //! ```
 //! # use wallmirror::{Cell, Mesh, Plan};
-//! let plan = Plan { columns: 3, levels: 3, class: 2, ..Plan::default() };
+//! let plan = Plan { columns: 3, levels: 3, admissibility_class: 2, ..Plan::default() };
 //! let mut mesh = Mesh::open(plan)?;
 //! mesh.refine_cells(&[Cell(0)])?;
 //! let mut heights = vec![0; mesh.functions.len()];
@@ -256,7 +256,7 @@
 //!
 //! ```
 //! # use wallmirror::{Cell, Function, Mesh, Plan};
-//! # let plan = Plan { columns: 3, levels: 3, class: 2, ..Plan::default() };
+//! # let plan = Plan { columns: 3, levels: 3, admissibility_class: 2, ..Plan::default() };
 //! # let mut mesh = Mesh::open(plan)?;
 //! mesh.refine_cells(&[Cell(0)])?;
 //! let mut heights = vec![0; mesh.functions.len()];
@@ -286,7 +286,7 @@
 //!
 //! ```
 //! # use wallmirror::{Cell, Corner, Mesh, Plan};
-//! # let plan = Plan { columns: 3, levels: 3, class: 2, ..Plan::default() };
+//! # let plan = Plan { columns: 3, levels: 3, admissibility_class: 2, ..Plan::default() };
 //! # let mut mesh = Mesh::open(plan)?;
 //! mesh.refine_cells(&[Cell(0)])?;
 //! let mut heights = vec![0; mesh.functions.len()];
@@ -349,7 +349,7 @@ pub struct Plan {
     /// 1 to 4.
     pub degree_up: u32,
     /// Class of admissibility, 2 to 8, or 0: every mesh is admissible.
-    pub class: u32,
+    pub admissibility_class: u32,
     /// Bit k, 1 to columns - 1: the line of level 0 before column k is a corner. 0 for none.
     pub corners_across: u32,
     /// Bit k, 1 to rows - 1: the line of level 0 before row k is a corner. 0 for none.
@@ -362,7 +362,7 @@ impl Default for Plan {
     ///
     /// ```
     /// # use wallmirror::Plan;
-    /// let plan = Plan { columns: 3, levels: 3, class: 2, ..Plan::default() };
+    /// let plan = Plan { columns: 3, levels: 3, admissibility_class: 2, ..Plan::default() };
     /// assert_eq!((plan.rows, plan.degree_across, plan.degree_up), (1, 1, 1));
     /// assert_eq!((plan.corners_across, plan.corners_up), (0, 0));
     /// ```
@@ -373,7 +373,7 @@ impl Default for Plan {
             levels: 1,
             degree_across: 1,
             degree_up: 1,
-            class: 0,
+            admissibility_class: 0,
             corners_across: 0,
             corners_up: 0,
         }
@@ -414,7 +414,7 @@ impl Plan {
     ///
     /// ```
     /// # use wallmirror::Plan;
-    /// let plan = Plan { columns: 3, levels: 3, class: 2, ..Plan::default() };
+    /// let plan = Plan { columns: 3, levels: 3, admissibility_class: 2, ..Plan::default() };
     /// assert_eq!(plan.cells(), Some(63));
     /// assert_eq!(plan.functions(), Some(94));
     /// assert_eq!(Plan { columns: 17, ..plan }.cells(), None);
@@ -425,7 +425,7 @@ impl Plan {
             && (1..=8).contains(&self.levels)
             && (1..=4).contains(&self.degree_across)
             && (1..=4).contains(&self.degree_up)
-            && (self.class == 0 || (2..=8).contains(&self.class))
+            && (self.admissibility_class == 0 || (2..=8).contains(&self.admissibility_class))
             // A shift by at most 16.
             && self.corners_across & !((1 << self.columns) - 2) == 0
             && self.corners_up & !((1 << self.rows) - 2) == 0;
@@ -481,7 +481,7 @@ impl Plan {
             levels: self.levels,
             degree_across: self.degree_across,
             degree_up: self.degree_up,
-            class: self.class,
+            admissibility_class: self.admissibility_class,
             corners_across: self.corners_across,
             corners_up: self.corners_up,
         }
@@ -494,7 +494,7 @@ impl Plan {
             levels: plan.levels,
             degree_across: plan.degree_across,
             degree_up: plan.degree_up,
-            class: plan.class,
+            admissibility_class: plan.admissibility_class,
             corners_across: plan.corners_across,
             corners_up: plan.corners_up,
         }
@@ -1251,7 +1251,7 @@ mod tests {
                                 levels,
                                 degree_across,
                                 degree_up,
-                                class,
+                                admissibility_class: class,
                                 ..Plan::default()
                             });
                             most_cells = most_cells.max(t);
@@ -1283,7 +1283,7 @@ mod tests {
                                 levels,
                                 degree_across,
                                 degree_up,
-                                class: 2,
+                                admissibility_class: 2,
                                 corners_across,
                                 corners_up,
                             };

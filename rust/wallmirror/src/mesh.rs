@@ -11,7 +11,7 @@ use crate::{
 ///
 /// ```
 /// # use wallmirror::{Cell, Function, Mesh, Plan};
-/// let plan = Plan { columns: 3, levels: 3, class: 2, ..Plan::default() };
+/// let plan = Plan { columns: 3, levels: 3, admissibility_class: 2, ..Plan::default() };
 /// let mut mesh = Mesh::open(plan)?;
 /// mesh.refine_cells(&[Cell(0)])?;
 /// // Cell 1 becomes refined too, because the mesh has to stay admissible.

@@ -10,7 +10,7 @@ use crate::{Call, Cell, Function, Lists, Mesh, Refusal};
 ///
 /// ```
 /// # use wallmirror::{Cell, Function, Mesh, Plan, Refusal, Season};
-/// let plan = Plan { columns: 3, levels: 3, class: 2, ..Plan::default() };
+/// let plan = Plan { columns: 3, levels: 3, admissibility_class: 2, ..Plan::default() };
 /// let march = Mesh::open(plan)?;
 /// let mut season = Season::new(march.clone())?;
 /// season.refine_cells(&[Cell(0)])?;

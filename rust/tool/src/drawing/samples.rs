@@ -6,7 +6,16 @@ use wallmirror::{Cell, Lists, Mesh, Plan};
 pub fn plan(numbers: [u32; 8]) -> Plan {
     let [columns, rows, levels, degree_across, degree_up, class, corners_across, corners_up] =
         numbers;
-    Plan { columns, rows, levels, degree_across, degree_up, class, corners_across, corners_up }
+    Plan {
+        columns,
+        rows,
+        levels,
+        degree_across,
+        degree_up,
+        admissibility_class: class,
+        corners_across,
+        corners_up,
+    }
 }
 
 /// The worked wall P7, with what its last split changed.
