@@ -10,7 +10,7 @@
  *
  * Every call takes any plan, tables, marks, file, heights and point whatever and returns. What it
  * cannot serve it refuses with a number (WallmirrorRefusal), and then all that was lent holds the
- * bytes it held before.
+ * bytes it held before. wallmirror_refusal_text says in words what a number means.
  *
  * Cells. Level k has columns * 2^k columns and rows * 2^k rows of cells. They are numbered from 0,
  * level by level, row by row. The cell at column c, row r has four children one level down, at
@@ -22,8 +22,8 @@
  * With all of them in rising order, from 0 on, function i across covers the columns from knot i to
  * just before knot i + p + 1, and there is one for every p + 2 knots in a row. Up it is the same
  * with the rows, degree_up and the corners up. The support of a function is the rectangle of both,
- * made of cells of its own level. Functions are numbered like cells, row by row, with
- * wallmirror_functions_across to a row. Cell 5 and function 5 name different things.
+ * made of cells of its own level. Functions are numbered like cells, level by level, row by row.
+ * Cell 5 and function 5 name different things.
  *
  * Without corners that is n + p functions across, of which function i covers columns max(0, i - p)
  * to min(n - 1, i).
@@ -42,6 +42,12 @@
  * are 3, 4, 9, 10. With degree_across 2 and a corner before column 1 the knots across of level 0
  * are 0 0 0 1 1 2 3 3 3, and six functions cover columns 0, 0, 0 to 1, 1 to 2, 1 to 2 and 2.
  *
+ * Places. Some calls take a plan and no tables. wallmirror_level answers the first cell and the
+ * first function of a level and how many there are across and up, wallmirror_place where a cell
+ * lies, wallmirror_cell_at which cell lies at a place, and wallmirror_support which cells a
+ * function covers. In the example above cell 9 lies on level 1 in row 1, column 0, and function 9
+ * covers the cells of level 1 in row 0, columns 0 and 1.
+ *
  * Admissibility. In class m, not 0, a refined cell of level j with j - m + 1 at least 0 has a
  * neighbourhood: the cells of level j - m + 1 that, across as well as up, are covered by a common
  * function of that level with its ancestor there. Without corners these are the cells whose column
@@ -52,11 +58,11 @@
  * Levels over a cell. A function is over a cell where its support and the cell have a point in
  * common, whatever their levels. In class m, not 0, the active functions over an active cell of
  * level k all have levels from k - m + 1 to k. Functions of finer levels are passive there, those
- * of coarser ones deactivated. So who draws or sums the functions over a cell has at most m levels
- * to look at, and on each the functions over the cell's ancestor there: degree_across + 1 of them
- * in a row across and degree_up + 1 up. Those over column x begin with function
- * x + (degree_across - 1) * c, where c corners are on lines 1 to x of that level; up it is the
- * same.
+ * of coarser ones deactivated. So a program that draws or sums the functions over a cell has at
+ * most m levels to look at, and on each the functions over the cell's ancestor there:
+ * degree_across + 1 of them in a row across and degree_up + 1 up. Those over column x begin with
+ * function x + (degree_across - 1) * c, where c corners are on lines 1 to x of that level; up it is
+ * the same.
  *
  * Undo. Keep the lists of each call, cut to the answered lengths. To take a run of calls back, give
  * the kept cell lists from the last call to the first, as marks, each to the opposite call by
@@ -189,11 +195,15 @@
 extern "C" {
 #endif
 
-/* Of this header. */
+/* The version of this header, and the same as one number: major * 1000000 + minor * 1000 + patch.
+ * The library answers its own with wallmirror_version. */
 #define WALLMIRROR_VERSION_MAJOR 0
-#define WALLMIRROR_VERSION_MINOR 8
+#define WALLMIRROR_VERSION_MINOR 9
 #define WALLMIRROR_VERSION_PATCH 0
-#define WALLMIRROR_VERSION "0.8.0"
+#define WALLMIRROR_VERSION "0.9.0"
+#define WALLMIRROR_VERSION_NUMBER \
+    (WALLMIRROR_VERSION_MAJOR * 1000000 + WALLMIRROR_VERSION_MINOR * 1000 + \
+     WALLMIRROR_VERSION_PATCH)
 
 /* The most cells a mesh may have on all levels together, and the most functions such a mesh has:
  * buffers of these sizes serve every plan. */
@@ -215,9 +225,18 @@ extern "C" {
 /* The most stack that any call takes, in bytes: what a thread must have left when it calls. */
 #define WALLMIRROR_STACK_BYTES 262144
 
-/* The plan of a mesh, passed by value. It is the same in every call on that mesh. The corners stand
- * last: an initialiser of six numbers, as {3, 1, 3, 1, 1, 2}, leaves both 0 and so has none, though
- * some compilers warn of what it leaves out. */
+/* The plan of a mesh, passed by value. It is the same in every call on that mesh. Make it with
+ * WALLMIRROR_PLAN and set the corners by name:
+ *
+ *     WallmirrorPlan plan = WALLMIRROR_PLAN(3, 1, 3, 1, 1, 2);
+ *     plan.corners_across = 1u << 1;
+ *
+ * Later versions may add fields. The macro gives each of them the value that leaves a plan what it
+ * was, so a program that uses it need only be compiled again. A designated initialiser, as
+ * {.columns = 3, .rows = 1, .levels = 3, ...}, keeps each number at its field too; but a field that
+ * it does not name is 0, which means no corners, and may be out of range for a later field
+ * (refusal 1). Numbers listed in braces without names leave a later field 0 likewise, or take its
+ * place. */
 typedef struct WallmirrorPlan {
     uint32_t columns;             /* of level 0, 1 to 16 */
     uint32_t rows;                /* of level 0, 1 to 16 */
@@ -228,6 +247,11 @@ typedef struct WallmirrorPlan {
     uint32_t corners_across;      /* bit k, 1 to columns - 1: a corner before column k */
     uint32_t corners_up;          /* bit k, 1 to rows - 1: a corner before row k */
 } WallmirrorPlan;
+
+/* The initialiser of a plan with these six numbers and without corners. It may stand wherever an
+ * initialiser may, also outside of functions. */
+#define WALLMIRROR_PLAN(columns, rows, levels, degree_across, degree_up, admissibility_class) \
+    {(columns), (rows), (levels), (degree_across), (degree_up), (admissibility_class), 0, 0}
 
 /* A byte of the cell table. */
 enum WallmirrorCell {
@@ -254,8 +278,8 @@ enum WallmirrorRefusal {
     WALLMIRROR_PLAN_OUT_OF_RANGE = 1,
     /* all levels together have more than WALLMIRROR_MAX_CELLS cells */
     WALLMIRROR_TOO_MANY_CELLS = 2,
-    /* a table has not the length that the plan gives it; of the calls with heights also, after 6:
-     * the heights are not as many as the functions */
+    /* a table does not have the length that the plan gives it; of the calls with heights also,
+     * after 6: the heights are not as many as the functions */
     WALLMIRROR_TABLE_LENGTH = 3,
     /* the cell bytes are not a mesh: another byte than 0, 1, 2, an absent cell of level 0, a refined
      * cell with an absent child, any other cell with a child that is not absent, or a refined cell
@@ -278,7 +302,7 @@ enum WallmirrorRefusal {
     /* the function list is shorter than the functions it must name */
     WALLMIRROR_FUNCTION_LIST_TOO_SHORT = 11,
     /* a number of the file is cut off, has more than three groups or more than it needs, or is a
-     * difference of 0; behind the last cell a number stands alone, or both corner numbers are 0 */
+     * difference of 0; after the last cell a number stands alone, or both corner numbers are 0 */
     WALLMIRROR_MALFORMED_FILE = 12,
     /* bytes follow the two corner numbers of the file */
     WALLMIRROR_TRAILING_BYTES = 13,
@@ -294,6 +318,56 @@ enum WallmirrorRefusal {
      * WALLMIRROR_MAX_HEIGHT_MM either way */
     WALLMIRROR_CARRIED_HEIGHT_OUT_OF_RANGE = 17
 };
+
+/* What a number that a call answered means, in words. The texts last as long as the program. */
+static inline const char *wallmirror_refusal_text(uint32_t number)
+{
+    switch (number) {
+    case WALLMIRROR_ACCEPTED:
+        return "accepted";
+    case WALLMIRROR_PLAN_OUT_OF_RANGE:
+        return "a number of the plan is out of range (columns and rows 1 to 16, levels 1 to 8, "
+               "degrees 1 to 4, class 0 or 2 to 8, corners between two columns or rows)";
+    case WALLMIRROR_TOO_MANY_CELLS:
+        return "all levels together have more than 21845 cells";
+    case WALLMIRROR_TABLE_LENGTH:
+        return "a table does not have the length that the plan gives it, or the heights are not as "
+               "many as the functions";
+    case WALLMIRROR_NOT_A_MESH:
+        return "the cell table is not a mesh";
+    case WALLMIRROR_NOT_ADMISSIBLE:
+        return "the mesh is not admissible for the class of the plan";
+    case WALLMIRROR_WRONG_FUNCTION_BYTE:
+        return "a byte of the function table is not the one that the cells fix";
+    case WALLMIRROR_MARK_OUT_OF_RANGE:
+        return "a mark is not the number of a cell or function of the plan";
+    case WALLMIRROR_MARK_OF_WRONG_KIND:
+        return "a mark is not of the kind that the call takes";
+    case WALLMIRROR_MARK_OF_LAST_LEVEL:
+        return "a mark is of the last level, which cannot be refined";
+    case WALLMIRROR_CELL_LIST_TOO_SHORT:
+        return "the cell list is too short for the cells that change, the lent bytes for the file, "
+               "or the lent doubles for the corners of the cells";
+    case WALLMIRROR_FUNCTION_LIST_TOO_SHORT:
+        return "the function list is too short for the functions that change";
+    case WALLMIRROR_MALFORMED_FILE:
+        return "a number of the file is cut off, longer than it may be, or a difference of 0, or "
+               "its corners are a number alone or both 0";
+    case WALLMIRROR_TRAILING_BYTES:
+        return "bytes follow the two corner numbers of the file";
+    case WALLMIRROR_PLAN_WITHOUT_HEIGHTS:
+        return "heights are for plans of degrees 1 and 2 and at most four levels";
+    case WALLMIRROR_POINT_OR_HEIGHT_OUT_OF_RANGE:
+        return "the point lies beyond the mesh, or the height of an active function is more than "
+               "65536 mm either way";
+    case WALLMIRROR_TOO_MANY_CELLS_TO_PROJECT:
+        return "all levels together have more than 1024 cells, which is too many for the projector";
+    case WALLMIRROR_CARRIED_HEIGHT_OUT_OF_RANGE:
+        return "the height that is carried to an active function is more than 65536 mm either way";
+    default:
+        return "no refusal has this number";
+    }
+}
 
 /* What wallmirror_count answers. After a refusal all but the number are 0. */
 typedef struct WallmirrorCount {
@@ -336,72 +410,84 @@ typedef struct WallmirrorCorners {
     uint32_t corners; /* how many were written, of three doubles each; 0 after a refusal */
 } WallmirrorCorners;
 
-/* Whether the plan is one that wallmirror_open takes (refusals 1 and 2 do not apply). */
+/* What wallmirror_level answers. All 0 where the plan is refused or does not have the level. */
+typedef struct WallmirrorLevel {
+    uint32_t first_cell;       /* the number of its first cell */
+    uint32_t columns;
+    uint32_t rows;
+    uint32_t first_function;   /* the number of its first function */
+    uint32_t functions_across; /* as many stand in a row */
+    uint32_t functions_up;     /* so many rows there are */
+} WallmirrorLevel;
+
+/* What wallmirror_place answers. All 0 where the plan is refused or does not have the cell. */
+typedef struct WallmirrorPlace {
+    uint32_t found;  /* 1 */
+    uint32_t level;
+    uint32_t row;    /* of the level, from 0 */
+    uint32_t column; /* of the level, from 0 */
+} WallmirrorPlace;
+
+/* What wallmirror_cell_at answers. All 0 where the plan is refused or does not have the place. */
+typedef struct WallmirrorCellAt {
+    uint32_t found; /* 1 */
+    uint32_t cell;
+} WallmirrorCellAt;
+
+/* What wallmirror_support answers: a rectangle of cells of one level, with its first row and column
+ * and those where it has ended. All 0 where the plan is refused or does not have the function. */
+typedef struct WallmirrorSupport {
+    uint32_t found;        /* 1 */
+    uint32_t level;        /* of the function and of the cells */
+    uint32_t first_row;
+    uint32_t end_row;      /* the one after the last */
+    uint32_t first_column;
+    uint32_t end_column;   /* the one after the last */
+} WallmirrorSupport;
+
+/* The version of the library, to be compared with WALLMIRROR_VERSION_NUMBER. Where they differ the
+ * program was compiled with the header of another version, and nothing is said of what other calls
+ * do then. */
+uint32_t wallmirror_version(void);
+
+/* 0 for a plan that wallmirror_open takes, otherwise 1 or 2. */
+uint32_t wallmirror_plan_refusal(WallmirrorPlan plan);
+
 static inline int wallmirror_plan_is_valid(WallmirrorPlan plan)
 {
-    if (plan.columns < 1 || plan.columns > 16 || plan.rows < 1 || plan.rows > 16 ||
-        plan.levels < 1 || plan.levels > 8 ||
-        plan.degree_across < 1 || plan.degree_across > 4 ||
-        plan.degree_up < 1 || plan.degree_up > 4 ||
-        plan.admissibility_class == 1 || plan.admissibility_class > 8 ||
-        /* columns and rows are at most 16 here */
-        (plan.corners_across & ~((1u << plan.columns) - 2u)) != 0 ||
-        (plan.corners_up & ~((1u << plan.rows) - 2u)) != 0)
-        return 0;
-    /* 1 + 4 + ... + 4^(levels-1) cells for each cell of level 0 */
-    return plan.columns * plan.rows * (((1u << (2 * plan.levels)) - 1) / 3) <= WALLMIRROR_MAX_CELLS;
+    return wallmirror_plan_refusal(plan) == WALLMIRROR_ACCEPTED;
 }
 
-/* The length of the cell table, and the most entries a cell list needs.
- * 0 for a plan that is out of range or has too many cells. */
-static inline size_t wallmirror_cells_len(WallmirrorPlan plan)
-{
-    if (!wallmirror_plan_is_valid(plan))
-        return 0;
-    return (size_t)plan.columns * plan.rows * (((1u << (2 * plan.levels)) - 1) / 3);
-}
+/* The length of the cell table, and the most entries that a cell list needs; and those of the
+ * function table and a function list. 0 for a plan that is refused. */
+size_t wallmirror_cells_len(WallmirrorPlan plan);
+size_t wallmirror_functions_len(WallmirrorPlan plan);
 
-/* The functions over so many cells: as many more as the degree, and degree - 1 for each corner. */
-static inline size_t wallmirror_functions_over(uint32_t cells, uint32_t degree, uint32_t corners)
-{
-    size_t functions = (size_t)cells + degree;
-    for (; corners != 0; corners &= corners - 1)
-        functions += degree - 1;
-    return functions;
-}
+/* The cells and functions of a level. The cell in row r, column c has the number
+ * first_cell + r * columns + c; the function in row j, column i has the number
+ * first_function + j * functions_across + i. */
+WallmirrorLevel wallmirror_level(WallmirrorPlan plan, uint32_t level);
 
-/* The functions across on a level, which are those in a row of the function table. The function in
- * row j, column i of a level comes after those of the levels before it, as number
- * j * wallmirror_functions_across + i among those of its own.
- * 0 for a plan that is out of range or has too many cells, and for a level that it has not. */
+/* The functions across on a level, and those up. 0 where wallmirror_level answers 0. */
 static inline size_t wallmirror_functions_across(WallmirrorPlan plan, uint32_t level)
 {
-    if (!wallmirror_plan_is_valid(plan) || level >= plan.levels)
-        return 0;
-    return wallmirror_functions_over(plan.columns << level, plan.degree_across,
-                                     plan.corners_across);
+    return wallmirror_level(plan, level).functions_across;
 }
 
-/* The functions up on a level, which are the rows of its part of the function table. 0 likewise. */
 static inline size_t wallmirror_functions_up(WallmirrorPlan plan, uint32_t level)
 {
-    if (!wallmirror_plan_is_valid(plan) || level >= plan.levels)
-        return 0;
-    return wallmirror_functions_over(plan.rows << level, plan.degree_up, plan.corners_up);
+    return wallmirror_level(plan, level).functions_up;
 }
 
-/* The length of the function table, and the most entries a function list needs.
- * 0 for a plan that is out of range or has too many cells. */
-static inline size_t wallmirror_functions_len(WallmirrorPlan plan)
-{
-    size_t total = 0;
-    uint32_t level;
-    if (!wallmirror_plan_is_valid(plan))
-        return 0;
-    for (level = 0; level < plan.levels; level++)
-        total += wallmirror_functions_across(plan, level) * wallmirror_functions_up(plan, level);
-    return total;
-}
+/* Where a cell lies. */
+WallmirrorPlace wallmirror_place(WallmirrorPlan plan, uint32_t cell);
+
+/* The cell at a place. */
+WallmirrorCellAt wallmirror_cell_at(WallmirrorPlan plan, uint32_t level, uint32_t row,
+                                    uint32_t column);
+
+/* What a function covers. */
+WallmirrorSupport wallmirror_support(WallmirrorPlan plan, uint32_t function);
 
 /* The doubles that wallmirror_corners writes for a mesh: twelve for each active cell. */
 static inline size_t wallmirror_corners_len(const uint8_t *cells, size_t cells_len)

@@ -7,8 +7,9 @@
 
 #include "wallmirror.h"
 
-/* The plans of the two meshes, with the corner and without it. */
-static const WallmirrorPlan plans[2] = {{3, 1, 2, 2, 1, 0, 1u << 1, 0}, {3, 1, 2, 2, 1, 0, 0, 0}};
+/* The plans of the two meshes; the first one gets its corner in main. */
+static WallmirrorPlan plans[2] = {WALLMIRROR_PLAN(3, 1, 2, 2, 1, 0),
+                                  WALLMIRROR_PLAN(3, 1, 2, 2, 1, 0)};
 static const char *const names[2] = {"a corner before column 1", "no corner"};
 
 /* The function of the first row that has a height: with the corner the one that covers both its
@@ -21,7 +22,8 @@ static int32_t heights[2][WALLMIRROR_MAX_FUNCTIONS]; /* all 0 to begin with */
 
 static int refused(const char *what, uint32_t number)
 {
-    fprintf(stderr, "%s: refusal %u\n", what, (unsigned)number);
+    fprintf(stderr, "%s: refusal %u, %s\n", what, (unsigned)number,
+            wallmirror_refusal_text(number));
     return 1;
 }
 
@@ -64,6 +66,7 @@ int main(void)
 {
     uint32_t across;
     int which;
+    plans[0].corners_across = 1u << 1; /* before column 1 */
     for (which = 0; which < 2; which++) {
         if (change(which) != 0)
             return 1;

@@ -37,7 +37,8 @@ static void free_tables(struct mesh *mesh)
 
 static int refused(const char *what, uint32_t number)
 {
-    fprintf(stderr, "%s: refusal %u\n", what, (unsigned)number);
+    fprintf(stderr, "%s: refusal %u, %s\n", what, (unsigned)number,
+            wallmirror_refusal_text(number));
     return 0;
 }
 
@@ -112,7 +113,7 @@ static int draw(struct mesh *mesh)
 {
     static const uint32_t marks[2] = {0, 3};
     static uint32_t cell_list[WALLMIRROR_MAX_CELLS], function_list[WALLMIRROR_MAX_FUNCTIONS];
-    WallmirrorPlan plan = {3, 1, 3, 1, 1, 2, 0, 0};
+    WallmirrorPlan plan = WALLMIRROR_PLAN(3, 1, 3, 1, 1, 2);
     uint32_t number;
     int i;
     if (!make_tables(mesh, plan))
@@ -144,7 +145,7 @@ static int compare(const struct mesh *saved, const struct mesh *loaded)
 int main(void)
 {
     static const char path[] = "wallmirror-example.mesh";
-    struct mesh drawn = {{0, 0, 0, 0, 0, 0, 0, 0}, NULL, NULL, 0, 0}, loaded = drawn;
+    static struct mesh drawn, loaded; /* without tables to begin with */
     int done = 0;
     if (draw(&drawn) && save(&drawn, path)) {
         done = load(&loaded, path) && compare(&drawn, &loaded);

@@ -7,7 +7,7 @@
 
 #include "wallmirror.h"
 
-static const WallmirrorPlan plan = {3, 2, 3, 2, 1, 0, 0, 0};
+static const WallmirrorPlan plan = WALLMIRROR_PLAN(3, 2, 3, 2, 1, 0);
 static uint8_t cells[WALLMIRROR_MAX_CELLS], functions[WALLMIRROR_MAX_FUNCTIONS];
 static uint32_t cell_list[WALLMIRROR_MAX_CELLS], function_list[WALLMIRROR_MAX_FUNCTIONS];
 static size_t t, f;
@@ -15,13 +15,11 @@ static size_t t, f;
 typedef WallmirrorAnswer Call(WallmirrorPlan, uint8_t *, size_t, uint8_t *, size_t,
                               const uint32_t *, size_t, uint32_t *, size_t, uint32_t *, size_t);
 
-/* The number of a function: those of the levels above, then row by row. */
-static uint32_t function_at(uint32_t level, size_t row, size_t column)
+/* The number of a function. On a level they are numbered row by row. */
+static uint32_t function_at(uint32_t level, uint32_t row, uint32_t column)
 {
-    size_t number = row * wallmirror_functions_across(plan, level) + column;
-    while (level-- > 0)
-        number += wallmirror_functions_across(plan, level) * wallmirror_functions_up(plan, level);
-    return (uint32_t)number;
+    WallmirrorLevel at = wallmirror_level(plan, level);
+    return at.first_function + row * at.functions_across + column;
 }
 
 static WallmirrorAnswer run(Call *call, const char *name, const uint32_t *marks, size_t len)

@@ -7,23 +7,22 @@
 
 #include "wallmirror.h"
 
-static const WallmirrorPlan plan = {4, 4, 2, 2, 2, 2, 0, 0};
+static const WallmirrorPlan plan = WALLMIRROR_PLAN(4, 4, 2, 2, 2, 2);
 static uint8_t cells[WALLMIRROR_MAX_CELLS], functions[WALLMIRROR_MAX_FUNCTIONS];
 static uint32_t cell_list[WALLMIRROR_MAX_CELLS], function_list[WALLMIRROR_MAX_FUNCTIONS];
 static int32_t heights[WALLMIRROR_MAX_FUNCTIONS]; /* all 0 to begin with */
 
-/* The number of a function: those of the levels above, then row by row. */
-static uint32_t function_at(uint32_t level, size_t row, size_t column)
+/* The number of a function. On a level they are numbered row by row. */
+static uint32_t function_at(uint32_t level, uint32_t row, uint32_t column)
 {
-    size_t number = row * wallmirror_functions_across(plan, level) + column;
-    while (level-- > 0)
-        number += wallmirror_functions_across(plan, level) * wallmirror_functions_up(plan, level);
-    return (uint32_t)number;
+    WallmirrorLevel at = wallmirror_level(plan, level);
+    return at.first_function + row * at.functions_across + column;
 }
 
 static int refused(const char *what, uint32_t number)
 {
-    fprintf(stderr, "%s: refusal %u\n", what, (unsigned)number);
+    fprintf(stderr, "%s: refusal %u, %s\n", what, (unsigned)number,
+            wallmirror_refusal_text(number));
     return 1;
 }
 
@@ -32,8 +31,8 @@ int main(void)
     static const uint32_t marks[4] = {5, 6, 9, 10}; /* the four cells in the middle */
     size_t t = wallmirror_cells_len(plan), f = wallmirror_functions_len(plan);
     /* Points are counted in eighths of a cell of the last level. */
-    uint32_t far_across = 8 * (plan.columns << (plan.levels - 1));
-    uint32_t far_up = 8 * (plan.rows << (plan.levels - 1));
+    WallmirrorLevel last = wallmirror_level(plan, plan.levels - 1);
+    uint32_t far_across = 8 * last.columns, far_up = 8 * last.rows;
     uint32_t number, across;
 
     number = wallmirror_open(plan, cells, t, functions, f);

@@ -8,14 +8,15 @@
 
 #include "wallmirror.h"
 
-static const WallmirrorPlan plan = {3, 1, 3, 1, 1, 2, 0, 0};
+static const WallmirrorPlan plan = WALLMIRROR_PLAN(3, 1, 3, 1, 1, 2);
 static uint8_t cells[WALLMIRROR_MAX_CELLS], functions[WALLMIRROR_MAX_FUNCTIONS];
 static uint32_t cell_list[WALLMIRROR_MAX_CELLS], function_list[WALLMIRROR_MAX_FUNCTIONS];
 static int32_t heights[WALLMIRROR_MAX_FUNCTIONS]; /* all 0 to begin with */
 
 static int refused(const char *what, uint32_t number)
 {
-    fprintf(stderr, "%s: refusal %u\n", what, (unsigned)number);
+    fprintf(stderr, "%s: refusal %u, %s\n", what, (unsigned)number,
+            wallmirror_refusal_text(number));
     return 1;
 }
 

@@ -6,8 +6,8 @@ static uint32_t cell_list[WALLMIRROR_MAX_CELLS], function_list[WALLMIRROR_MAX_FU
 
 int main(void)
 {
-    /* columns, rows, levels, two degrees, class, corners across and up */
-    WallmirrorPlan plan = {3, 1, 3, 1, 1, 2, 0, 0};
+    /* columns, rows, levels, degrees across and up, class */
+    WallmirrorPlan plan = WALLMIRROR_PLAN(3, 1, 3, 1, 1, 2);
     size_t t = wallmirror_cells_len(plan), f = wallmirror_functions_len(plan);
     uint32_t mark = 0;
     uint32_t opened = wallmirror_open(plan, cells, t, functions, f);

@@ -10,7 +10,7 @@
 
 enum { ACROSS = 8 * 10 }; /* the far edge, in eighths of a cell of level 1 */
 
-static const WallmirrorPlan plan = {5, 4, 2, 2, 2, 2, 0, 0};
+static const WallmirrorPlan plan = WALLMIRROR_PLAN(5, 4, 2, 2, 2, 2);
 static uint8_t cells[WALLMIRROR_MAX_CELLS], functions[WALLMIRROR_MAX_FUNCTIONS];
 static uint32_t cell_list[WALLMIRROR_MAX_CELLS], function_list[WALLMIRROR_MAX_FUNCTIONS];
 static int32_t heights[WALLMIRROR_MAX_FUNCTIONS]; /* all 0 to begin with */
@@ -18,7 +18,8 @@ static size_t t, f;
 
 static int refused(const char *what, uint32_t number)
 {
-    fprintf(stderr, "%s: refusal %u\n", what, (unsigned)number);
+    fprintf(stderr, "%s: refusal %u, %s\n", what, (unsigned)number,
+            wallmirror_refusal_text(number));
     return 1;
 }
 
@@ -45,9 +46,7 @@ int main(void)
 {
     /* cells 1 to 3 of rows 0 to 2, which is the support of function 3 of row 2 */
     static const uint32_t marks[9] = {1, 2, 3, 6, 7, 8, 11, 12, 13};
-    size_t width = wallmirror_functions_across(plan, 0);
-    size_t finer = wallmirror_functions_across(plan, 1);
-    size_t coarse = width * wallmirror_functions_up(plan, 0);
+    WallmirrorLevel coarse = wallmirror_level(plan, 0), fine = wallmirror_level(plan, 1);
     double before[ACROSS + 1], after[ACROSS + 1], then[ACROSS + 1];
     uint32_t number, across, differ = 0;
     WallmirrorAnswer answer;
@@ -57,9 +56,9 @@ int main(void)
     number = wallmirror_open(plan, cells, t, functions, f);
     if (number != WALLMIRROR_ACCEPTED)
         return refused("open", number);
-    heights[2 * width + 3] = 120; /* on level 0 in millimetres */
-    heights[2 * width + 2] = 60;
-    heights[3 * width + 4] = -30;
+    heights[2 * coarse.functions_across + 3] = 120; /* on level 0 in millimetres */
+    heights[2 * coarse.functions_across + 2] = 60;
+    heights[3 * coarse.functions_across + 4] = -30;
     number = along(before);
     if (number != WALLMIRROR_ACCEPTED)
         return refused("height", number);
@@ -76,7 +75,7 @@ int main(void)
         return refused("height", number);
 
     /* function 6 of row 4 on level 1, in sixteenths of a millimetre */
-    heights[coarse + 4 * finer + 6] += 24 * 16;
+    heights[fine.first_function + 4 * fine.functions_across + 6] += 24 * 16;
     number = along(then);
     if (number != WALLMIRROR_ACCEPTED)
         return refused("height", number);

@@ -10,7 +10,7 @@
 
 enum { CALLS = 2, CELLS = 63, FUNCTIONS = 94 };
 
-static const WallmirrorPlan plan = {3, 1, 3, 1, 1, 2, 0, 0};
+static const WallmirrorPlan plan = WALLMIRROR_PLAN(3, 1, 3, 1, 1, 2);
 static uint8_t cells[CELLS], functions[FUNCTIONS];
 
 /* The lists of one call, cut to the answered lengths. */

@@ -271,13 +271,15 @@ int main(void)
 {
     /* the last four with corners, two of them with as many functions as there can be, and as there
      * can be with heights */
-    static const WallmirrorPlan plans[] = {{3, 1, 3, 1, 1, 0, 0, 0},
-                                           {2, 3, 4, 2, 1, 2, 0, 0},
-                                           {4, 4, 5, 3, 3, 3, 0, 0},
-                                           {3, 4, 4, 2, 3, 2, 2, 12},
-                                           {3, 4, 4, 2, 2, 2, 2, 12},
-                                           {16, 16, 4, 4, 4, 2, 65534, 65534},
-                                           {16, 16, 4, 2, 2, 2, 65534, 65534}};
+    enum { PLANS = 7 };
+    static const uint32_t corners[PLANS][2] = {{0, 0},  {0, 0},  {0, 0},
+                                               {2, 12}, {2, 12}, {65534, 65534}, {65534, 65534}};
+    WallmirrorPlan plans[PLANS] = {
+        WALLMIRROR_PLAN(3, 1, 3, 1, 1, 0),   WALLMIRROR_PLAN(2, 3, 4, 2, 1, 2),
+        WALLMIRROR_PLAN(4, 4, 5, 3, 3, 3),   WALLMIRROR_PLAN(3, 4, 4, 2, 3, 2),
+        WALLMIRROR_PLAN(3, 4, 4, 2, 2, 2),   WALLMIRROR_PLAN(16, 16, 4, 4, 4, 2),
+        WALLMIRROR_PLAN(16, 16, 4, 2, 2, 2),
+    };
     struct sigaction action;
     size_t i;
     memset(&action, 0, sizeof action);
@@ -286,7 +288,9 @@ int main(void)
     sigemptyset(&action.sa_mask);
     if (sigaction(SIGSEGV, &action, NULL) != 0 || sigaction(SIGBUS, &action, NULL) != 0)
         return 2;
-    for (i = 0; i < sizeof plans / sizeof *plans; i++) {
+    for (i = 0; i < PLANS; i++) {
+        plans[i].corners_across = corners[i][0];
+        plans[i].corners_up = corners[i][1];
         if (!season(plans[i])) {
             fprintf(stderr, "order: no tables for plan %lu\n", (unsigned long)i);
             return 2;

@@ -239,9 +239,10 @@ static void season(WallmirrorPlan plan)
 /* Plans that are not taken, and a mesh that is not admissible. */
 static void try_others(void)
 {
-    static const WallmirrorPlan large = {7, 7, 3, 1, 1, 0, 0, 0}, deep = {3, 1, 5, 2, 2, 0, 0, 0},
-                                cubic = {4, 3, 4, 2, 3, 2, 2, 0}, graded = {3, 1, 3, 1, 1, 2, 0, 0};
-    WallmirrorPlan ungraded = graded;
+    static const WallmirrorPlan large = WALLMIRROR_PLAN(7, 7, 3, 1, 1, 0),
+                                deep = WALLMIRROR_PLAN(3, 1, 5, 2, 2, 0),
+                                graded = WALLMIRROR_PLAN(3, 1, 3, 1, 1, 2);
+    WallmirrorPlan cubic = WALLMIRROR_PLAN(4, 3, 4, 2, 3, 2), ungraded = graded;
     static const uint32_t marks[2] = {0, 3}; /* class 2 would refine cell 1 too */
     uint32_t cell_list[63], function_list[94];
     int i;
@@ -250,6 +251,7 @@ static void try_others(void)
                 WALLMIRROR_TOO_MANY_CELLS_TO_PROJECT);
     open_mesh(deep);
     try_refused(deep, wallmirror_corners_len(cells, cells_len), WALLMIRROR_PLAN_WITHOUT_HEIGHTS);
+    cubic.corners_across = 2;
     open_mesh(cubic);
     try_refused(cubic, wallmirror_corners_len(cells, cells_len), WALLMIRROR_PLAN_WITHOUT_HEIGHTS);
     ungraded.admissibility_class = 0;
@@ -264,11 +266,13 @@ static void try_others(void)
 int main(void)
 {
     /* the last has as many corners as there can be once it is refined */
-    static const WallmirrorPlan plans[] = {{1, 1, 1, 1, 1, 0, 0, 0},
-                                           {3, 1, 3, 1, 1, 0, 0, 0},
-                                           {2, 3, 4, 2, 1, 2, 0, 4},
-                                           {12, 1, 4, 2, 2, 2, 2, 0},
-                                           {14, 14, 2, 2, 2, 2, 16382, 16382}};
+    enum { PLANS = 5 };
+    static const uint32_t corners[PLANS][2] = {{0, 0}, {0, 0}, {0, 4}, {2, 0}, {16382, 16382}};
+    WallmirrorPlan plans[PLANS] = {
+        WALLMIRROR_PLAN(1, 1, 1, 1, 1, 0),  WALLMIRROR_PLAN(3, 1, 3, 1, 1, 0),
+        WALLMIRROR_PLAN(2, 3, 4, 2, 1, 2),  WALLMIRROR_PLAN(12, 1, 4, 2, 2, 2),
+        WALLMIRROR_PLAN(14, 14, 2, 2, 2, 2),
+    };
     struct sigaction action;
     size_t i;
     memset(&action, 0, sizeof action);
@@ -280,8 +284,11 @@ int main(void)
         fprintf(stderr, "output: no pages\n");
         return 2;
     }
-    for (i = 0; i < sizeof plans / sizeof *plans; i++)
+    for (i = 0; i < PLANS; i++) {
+        plans[i].corners_across = corners[i][0];
+        plans[i].corners_up = corners[i][1];
         season(plans[i]);
+    }
     try_others();
     printf("%lu calls accepted, each with its corners written and nothing else\n", accepted);
     for (i = 0; i < sizeof refused / sizeof *refused; i++)

@@ -1,9 +1,9 @@
 /*
- * The lengths that the header computes are those that the library takes, for every plan in range
- * and for the numbers just outside, with corners and without, its macros agree with each other, its
- * structs are laid out as the library has them, the longest file is as long as it says, the
- * greatest height is taken and no greater one, and so are the most cells for the projector. The
- * output is to be that of sizes.expected.
+ * The lengths that the library answers are those that it takes, for every plan in range and for the
+ * numbers just outside, with corners and without; the header's macros agree with each other and
+ * with the library's version, its structs are laid out as the library has them, the longest file is
+ * as long as it says, the greatest height is taken and no greater one, and so are the most cells
+ * for the projector. The output is to be that of sizes.expected.
  */
 #include <stddef.h>
 #include <stdio.h>
@@ -36,7 +36,10 @@ static void try_plan(WallmirrorPlan plan)
     size_t t = wallmirror_cells_len(plan), f = wallmirror_functions_len(plan);
     uint32_t number = wallmirror_open(plan, cells, t, functions, f);
     try_projected(plan, t, number);
-    if (!wallmirror_plan_is_valid(plan)) {
+    if (wallmirror_plan_refusal(plan) != number ||
+        wallmirror_plan_is_valid(plan) != (number == WALLMIRROR_ACCEPTED))
+        wrong++;
+    if (number != WALLMIRROR_ACCEPTED) {
         refused++;
         if (t != 0 || f != 0 || (number != WALLMIRROR_PLAN_OUT_OF_RANGE &&
                                  number != WALLMIRROR_TOO_MANY_CELLS))
@@ -48,8 +51,7 @@ static void try_plan(WallmirrorPlan plan)
         most_cells = t;
     if (f > most_functions)
         most_functions = f;
-    if (number != WALLMIRROR_ACCEPTED ||
-        wallmirror_open(plan, cells, t + 1, functions, f) != WALLMIRROR_TABLE_LENGTH ||
+    if (wallmirror_open(plan, cells, t + 1, functions, f) != WALLMIRROR_TABLE_LENGTH ||
         wallmirror_open(plan, cells, t, functions, f + 1) != WALLMIRROR_TABLE_LENGTH)
         wrong++;
 }
@@ -59,7 +61,8 @@ static void try_version(void)
     char version[40];
     sprintf(version, "%d.%d.%d", WALLMIRROR_VERSION_MAJOR, WALLMIRROR_VERSION_MINOR,
             WALLMIRROR_VERSION_PATCH);
-    if (strcmp(version, WALLMIRROR_VERSION) != 0)
+    if (strcmp(version, WALLMIRROR_VERSION) != 0 ||
+        wallmirror_version() != WALLMIRROR_VERSION_NUMBER)
         wrong++;
 }
 
@@ -93,6 +96,25 @@ static void try_structs(void)
     if (sizeof(WallmirrorCorners) != 8 || offsetof(WallmirrorCorners, number) != 0 ||
         offsetof(WallmirrorCorners, corners) != 4)
         wrong++;
+    if (sizeof(WallmirrorLevel) != 24 || offsetof(WallmirrorLevel, first_cell) != 0 ||
+        offsetof(WallmirrorLevel, columns) != 4 || offsetof(WallmirrorLevel, rows) != 8 ||
+        offsetof(WallmirrorLevel, first_function) != 12 ||
+        offsetof(WallmirrorLevel, functions_across) != 16 ||
+        offsetof(WallmirrorLevel, functions_up) != 20)
+        wrong++;
+    if (sizeof(WallmirrorPlace) != 16 || offsetof(WallmirrorPlace, found) != 0 ||
+        offsetof(WallmirrorPlace, level) != 4 || offsetof(WallmirrorPlace, row) != 8 ||
+        offsetof(WallmirrorPlace, column) != 12)
+        wrong++;
+    if (sizeof(WallmirrorCellAt) != 8 || offsetof(WallmirrorCellAt, found) != 0 ||
+        offsetof(WallmirrorCellAt, cell) != 4)
+        wrong++;
+    if (sizeof(WallmirrorSupport) != 24 || offsetof(WallmirrorSupport, found) != 0 ||
+        offsetof(WallmirrorSupport, level) != 4 || offsetof(WallmirrorSupport, first_row) != 8 ||
+        offsetof(WallmirrorSupport, end_row) != 12 ||
+        offsetof(WallmirrorSupport, first_column) != 16 ||
+        offsetof(WallmirrorSupport, end_column) != 20)
+        wrong++;
 }
 
 static int same_plan(WallmirrorPlan a, WallmirrorPlan b)
@@ -103,16 +125,19 @@ static int same_plan(WallmirrorPlan a, WallmirrorPlan b)
            a.corners_across == b.corners_across && a.corners_up == b.corners_up;
 }
 
-/* Every cell of seven levels but the last is refined: 5460 cells, one byte each behind the plan and
- * two bytes of count, and behind them two for the corners. */
+/* Every cell of seven levels but the last is refined: 5460 cells, one byte each after the plan and
+ * two bytes of count, and after them two for the corners. */
 static void try_longest_file(void)
 {
     static const uint8_t head[9] = {4, 1, 7, 4, 3, 2, 0x80 | 5460 % 128, 5460 / 128, 0};
     static uint8_t file[WALLMIRROR_MAX_FILE_BYTES], written[WALLMIRROR_MAX_FILE_BYTES + 1];
-    WallmirrorPlan plan = {4, 1, 7, 4, 3, 2, 10, 0};
-    size_t t = wallmirror_cells_len(plan), f = wallmirror_functions_len(plan);
+    WallmirrorPlan plan = WALLMIRROR_PLAN(4, 1, 7, 4, 3, 2);
+    size_t t, f;
     WallmirrorRead first, second;
     WallmirrorWritten short_of_one, whole;
+    plan.corners_across = 10;
+    t = wallmirror_cells_len(plan);
+    f = wallmirror_functions_len(plan);
     memset(file, 1, sizeof file);
     memcpy(file, head, sizeof head);
     file[sizeof file - 2] = 10;
@@ -151,9 +176,11 @@ static WallmirrorHeight height_at(WallmirrorPlan plan, int32_t last, uint32_t ac
  * there is nothing beyond the edges, and no height where a degree is 3. */
 static void try_heights(void)
 {
-    WallmirrorPlan plan = {16, 2, 1, 2, 1, 0, 1u << 15, 2};
+    WallmirrorPlan plan = WALLMIRROR_PLAN(16, 2, 1, 2, 1, 0);
     WallmirrorHeight answer;
     int side;
+    plan.corners_across = 1u << 15;
+    plan.corners_up = 1u << 1;
     for (side = -1; side <= 1; side += 2) {
         answer = height_at(plan, side * WALLMIRROR_MAX_HEIGHT_MM, 8 * 16, 8 * 2);
         if (answer.number != WALLMIRROR_ACCEPTED ||
@@ -182,9 +209,12 @@ static void try_most_corners(void)
     static int32_t heights[WALLMIRROR_MAX_FUNCTIONS]; /* all 0 */
     static uint32_t marks[14 * 14], cell_list[14 * 14], function_list[WALLMIRROR_MAX_FUNCTIONS];
     static double out[WALLMIRROR_MAX_CORNER_DOUBLES];
-    WallmirrorPlan plan = {14, 14, 2, 2, 2, 2, (1u << 14) - 2, (1u << 14) - 2};
-    size_t t = wallmirror_cells_len(plan), f = wallmirror_functions_len(plan), doubles, i;
+    WallmirrorPlan plan = WALLMIRROR_PLAN(14, 14, 2, 2, 2, 2);
+    size_t t, f, doubles, i;
     WallmirrorCorners answer;
+    plan.corners_across = plan.corners_up = (1u << 14) - 2;
+    t = wallmirror_cells_len(plan);
+    f = wallmirror_functions_len(plan);
     for (i = 0; i < 14 * 14; i++)
         marks[i] = (uint32_t)i;
     for (i = 0; i < WALLMIRROR_MAX_CORNER_DOUBLES; i++)
@@ -221,7 +251,7 @@ static uint32_t corners_of(uint32_t n, int set)
 static void try_corners(void)
 {
     static const uint32_t degrees[4][2] = {{1, 1}, {2, 1}, {3, 4}, {4, 4}};
-    WallmirrorPlan plan = {0, 0, 0, 0, 0, 2, 0, 0};
+    WallmirrorPlan plan = WALLMIRROR_PLAN(0, 0, 0, 0, 0, 2);
     int i, across, up;
     for (plan.columns = 1; plan.columns <= 16; plan.columns++)
         for (plan.rows = 1; plan.rows <= 16; plan.rows++)
@@ -243,7 +273,7 @@ static void try_corners(void)
 /* Each bit alone: those of lines between two columns (or rows) are taken. */
 static void try_bits(void)
 {
-    WallmirrorPlan across = {1, 1, 2, 2, 2, 0, 0, 0}, up = across;
+    WallmirrorPlan across = WALLMIRROR_PLAN(1, 1, 2, 2, 2, 0), up = across;
     uint32_t n, bit;
     for (n = 1; n <= 16; n++) {
         across.columns = up.rows = n;
@@ -260,7 +290,7 @@ static void try_bits(void)
 
 int main(void)
 {
-    WallmirrorPlan plan = {0, 0, 0, 0, 0, 0, 0, 0};
+    WallmirrorPlan plan = WALLMIRROR_PLAN(0, 0, 0, 0, 0, 0);
     try_version();
     try_structs();
     try_longest_file();
@@ -283,9 +313,11 @@ int main(void)
            (unsigned long)most_functions);
     if (most_cells != WALLMIRROR_MAX_CELLS || most_functions != WALLMIRROR_MAX_FUNCTIONS)
         wrong++;
-    printf("version %s, at most %lu bytes of stack and %lu of a file, heights to %lu mm\n",
-           WALLMIRROR_VERSION, (unsigned long)WALLMIRROR_STACK_BYTES,
-           (unsigned long)WALLMIRROR_MAX_FILE_BYTES, (unsigned long)WALLMIRROR_MAX_HEIGHT_MM);
+    printf("version %s, %lu of header and library\n", WALLMIRROR_VERSION,
+           (unsigned long)wallmirror_version());
+    printf("at most %lu bytes of stack and %lu of a file, heights to %lu mm\n",
+           (unsigned long)WALLMIRROR_STACK_BYTES, (unsigned long)WALLMIRROR_MAX_FILE_BYTES,
+           (unsigned long)WALLMIRROR_MAX_HEIGHT_MM);
     /* no plan has just as many cells as there may be */
     printf("the projector takes at most %lu cells, plans up to %lu, and %lu doubles are enough\n",
            (unsigned long)WALLMIRROR_MAX_PROJECTED_CELLS, (unsigned long)most_projected,

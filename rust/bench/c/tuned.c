@@ -22,6 +22,15 @@ struct layout {
     size_t functions_across[MOST_LEVELS], functions_at[MOST_LEVELS + 1];
 };
 
+/* The functions over so many cells: as many more as the degree, and degree - 1 for each corner. */
+static size_t functions_over(size_t cells, uint32_t degree, uint32_t corners)
+{
+    size_t functions = cells + degree;
+    for (; corners != 0; corners &= corners - 1)
+        functions += degree - 1;
+    return functions;
+}
+
 static uint32_t lay_out(struct layout *at, WallmirrorPlan plan)
 {
     uint32_t level;
@@ -31,7 +40,8 @@ static uint32_t lay_out(struct layout *at, WallmirrorPlan plan)
         plan.corners_across >> plan.columns != 0 || plan.corners_up >> plan.rows != 0 ||
         ((plan.corners_across | plan.corners_up) & 1) != 0)
         return WALLMIRROR_PLAN_OUT_OF_RANGE;
-    if (!wallmirror_plan_is_valid(plan))
+    /* 1 + 4 + ... + 4^(levels-1) cells for each cell of level 0 */
+    if (plan.columns * plan.rows * (((1u << 2 * plan.levels) - 1) / 3) > WALLMIRROR_MAX_CELLS)
         return WALLMIRROR_TOO_MANY_CELLS;
     at->levels = plan.levels;
     at->across = plan.degree_across;
@@ -45,10 +55,11 @@ static uint32_t lay_out(struct layout *at, WallmirrorPlan plan)
         at->columns[level] = columns;
         at->rows[level] = rows;
         at->cells_at[level + 1] = at->cells_at[level] + columns * rows;
-        at->functions_across[level] = wallmirror_functions_across(plan, level);
+        at->functions_across[level] =
+            functions_over(columns, plan.degree_across, plan.corners_across);
         at->functions_at[level + 1] =
-            at->functions_at[level] +
-            at->functions_across[level] * wallmirror_functions_up(plan, level);
+            at->functions_at[level] + at->functions_across[level] *
+                                          functions_over(rows, plan.degree_up, plan.corners_up);
     }
     return 0;
 }
