@@ -1,8 +1,9 @@
-//! The wrapper's own meshes, its seasons, and the places of a plan.
+//! The wrapper's own meshes and its seasons.
 //!
 //! Runs of calls of all four kinds, refused ones among them, are made on a `Mesh` and in a `Season`
 //! beside lent tables, whose calls are held to the model one by one; then the season is taken back.
-//! Damaged meshes are refused as lent tables are. Places and supports are those of the model.
+//! Damaged meshes are refused as lent tables are. The first mark at fault is the one that the model
+//! refuses.
 
 use differential::surface::{damage, random_heights, with_heights, Fill, DAMAGES, DEGREES};
 use differential::{
@@ -11,9 +12,8 @@ use differential::{
 };
 use model::Plan;
 use std::collections::BTreeSet;
-use std::ops::Range;
 use wallmirror::{
-    Call, Cell, Function, Lists, Made, Mesh, Place, Refusal, Season, Support, Undone, MAX_CELLS,
+    Call, Cell, Function, Lists, Made, Mesh, Refusal, Season, Undone, MAX_CELLS,
     MAX_CORNER_DOUBLES, MAX_FILE_BYTES, MAX_FUNCTIONS,
 };
 use Kind::*;
@@ -474,120 +474,72 @@ fn tables_of_any_length_are_refused() {
     }
 }
 
-/// A plan with one number out of range, for each number and some values.
-fn out_of_range(plan: Plan) -> Vec<Plan> {
-    let far = [u32::MAX, u32::MAX - 1, 1 << 31, 33, 32];
-    let mut plans = vec![];
-    for value in far.into_iter().chain([0, 17]) {
-        plans.extend([Plan { columns: value, ..plan }, Plan { rows: value, ..plan }]);
-        plans.extend([Plan { levels: value, ..plan }, Plan { degree_across: value, ..plan }]);
-        plans.push(Plan { degree_up: value, ..plan });
+// ---- Marks at fault ----
+
+/// The first mark for which the model refuses the call, and its refusal: that of the first part of
+/// the list that is refused with 7, 8 or 9.
+fn first_fault(tables: &Tables, kind: Kind, marks: &[u32]) -> Option<(usize, u32)> {
+    let Tables { plan, cells, functions } = tables;
+    (0..marks.len()).find_map(|i| {
+        let room = (cells.len(), functions.len());
+        let refused =
+            kind.of_model()(*plan, cells, functions, &marks[..=i], room.0, room.1).err()?;
+        (7..=9).contains(&refused).then_some((i, refused))
+    })
+}
+
+/// Marks that the call takes, with some that it may not take anywhere among them.
+fn marks_with_faults(random: &mut Random, tables: &Tables, kind: Kind) -> Vec<u32> {
+    let mut marks = marks(random, tables, kind);
+    marks.truncate(40);
+    let total = if kind.by_functions() { tables.functions.len() } else { tables.cells.len() };
+    for _ in 0..random.below(4) {
+        let any = random.below(total + 3) as u32;
+        marks.insert(random.below(marks.len() + 1), random.pick(&[any, any, any, u32::MAX]));
     }
-    for value in far.into_iter().chain([1, 9]) {
-        plans.push(Plan { class: value, ..plan });
-    }
-    for value in [1, 1 << 31, u32::MAX, 1 << plan.columns.max(plan.rows)] {
-        plans.extend([Plan { corners_across: value, ..plan }, Plan { corners_up: value, ..plan }]);
-    }
-    plans
+    marks
 }
 
 #[test]
-fn plans_out_of_range_have_nothing() {
-    let place = Place { level: 0, row: 0, column: 0 };
-    let mut plans = out_of_range(plan([3, 2, 3, 2, 1, 2, 2, 2]));
-    plans.extend([plan([16, 16, 5, 1, 1, 0]), plan([1, 2, 8, 1, 1, 0])]);
-    for plan in plans {
-        let refused = model::open(plan, 0, 0).expect_err("a plan that is refused");
-        assert!(refused < 3, "{plan:?}");
-        let of_wrapper = of_wrapper(plan);
-        assert_eq!(Mesh::open(of_wrapper), Err(refusal(refused)), "{plan:?}");
-        assert_eq!(of_wrapper.place(Cell(0)), None, "{plan:?}");
-        assert_eq!(of_wrapper.cell_at(place), None, "{plan:?}");
-        assert_eq!(of_wrapper.support(Function(0)), None, "{plan:?}");
-        assert_eq!((of_wrapper.cells_on(0), of_wrapper.functions_on(0)), (None, None), "{plan:?}");
+fn the_first_mark_at_fault() {
+    let mut random = Random::new(805);
+    let (mut seen, mut later) = ([0; 10], 0);
+    for turn in 0..1200 {
+        let degrees = (turn % 4 + 1, turn / 4 % 4 + 1);
+        let class = random.pick(&[0, 0, 2, 3]);
+        let plan = random_plan(&mut random, degrees, class, 150);
+        let tables = random_start(&mut random, plan);
+        let kind = random.pick(&Kind::ALL);
+        let marks = marks_with_faults(&mut random, &tables, kind);
+        let (mesh, call) = (owned(&tables), call_of(kind, &marks));
+        let fault = first_fault(&tables, kind, &marks);
+        let answer = mesh.clone().make(&call);
+        let at = mesh.first_fault(&call);
+        assert_eq!(at, fault.map(|(at, _)| at), "{kind:?} {marks:?} {plan:?}");
+        assert_eq!(answer.err(), fault.map(|(_, number)| refusal(number)), "{kind:?} {marks:?}");
+        assert_eq!(mesh, owned(&tables));
+        seen[fault.map_or(0, |(_, number)| number as usize)] += 1;
+        later += usize::from(at.is_some_and(|at| at > 1));
     }
+    assert!(
+        [0, 7, 8, 9].iter().all(|&number| seen[number] > 50) && later > 50,
+        "{seen:?} {later}"
+    );
 }
 
-// ---- Places ----
-
-/// Every cell and every function is where the model has it, and there are no others.
-fn expect_places(plan: Plan) {
-    let of_wrapper = of_wrapper(plan);
-    for (number, model::Cell { level, row, column }) in (0..).zip(plan.cells()) {
-        let place = Place { level, row, column };
-        assert_eq!(of_wrapper.place(Cell(number)), Some(place), "{plan:?}");
-        assert_eq!(of_wrapper.cell_at(place), Some(Cell(number)), "{plan:?}");
-    }
-    for (number, model::Function { level, row, column }) in (0..).zip(plan.functions()) {
-        let rows = plan.up(level).covered(row);
-        let columns = plan.across(level).covered(column);
-        let support = Some(Support { level, rows, columns });
-        assert_eq!(of_wrapper.support(Function(number)), support, "{number} {plan:?}");
-    }
-    for more in [0, 1, u32::MAX / 2, u32::MAX] {
-        let beyond = |total: usize| (total as u32).saturating_add(more);
-        assert_eq!(of_wrapper.place(Cell(beyond(plan.cell_total()))), None, "{plan:?}");
-        assert_eq!(of_wrapper.support(Function(beyond(plan.function_total()))), None, "{plan:?}");
-    }
-    for level in (0..plan.levels + 2).chain([32, u32::MAX]) {
-        expect_level(plan, level);
-        expect_nothing_beyond(plan, level);
-    }
-}
-
-/// The numbers of a level are those of its cells and functions.
-fn expect_level(plan: Plan, level: u32) {
-    let numbers = |levels: Vec<u32>| -> Vec<u32> {
-        (0..).zip(levels).filter(|&(_, of)| of == level).map(|(number, _)| number).collect()
-    };
-    let cells = numbers(plan.cells().map(|cell| cell.level).collect());
-    let functions = numbers(plan.functions().map(|function| function.level).collect());
-    let listed = |range: Option<Range<u32>>| range.map_or(vec![], |range| range.collect());
-    assert_eq!(listed(of_wrapper(plan).cells_on(level)), cells, "{level} {plan:?}");
-    assert_eq!(listed(of_wrapper(plan).functions_on(level)), functions, "{level} {plan:?}");
-}
-
-/// No cell lies beyond the far edges, nor on a level that the plan has not.
-fn expect_nothing_beyond(plan: Plan, level: u32) {
-    let wide = |count: u32| if level < plan.levels { count << level } else { 0 };
-    let (rows, columns) = (wide(plan.rows), wide(plan.columns));
-    for far in [0, 1, u32::MAX] {
-        let places = [
-            Place { level, row: rows.saturating_add(far), column: 0 },
-            Place { level, row: 0, column: columns.saturating_add(far) },
-            Place { level, row: u32::MAX, column: u32::MAX },
-        ];
-        for place in places {
-            assert_eq!(of_wrapper(plan).cell_at(place), None, "{place:?} {plan:?}");
+/// Where the tables are refused no mark is at fault.
+#[test]
+fn tables_at_fault() {
+    let mut random = Random::new(806);
+    let fresh = opened([3, 1, 3, 1, 1, 2]);
+    let heights = vec![0; fresh.functions.len()];
+    for round in 0..60 {
+        let mut tables = fresh.clone();
+        damage(&mut random, round % DAMAGES, &fresh, &mut tables, &mut heights.clone());
+        for kind in Kind::ALL.into_iter().filter(|_| tables.check() != 0) {
+            for marks in [vec![], vec![0], vec![u32::MAX], vec![0, 1, 2, u32::MAX]] {
+                assert_eq!(owned(&tables).first_fault(&call_of(kind, &marks)), None);
+            }
         }
-    }
-}
-
-#[test]
-fn places_and_supports() {
-    let mut random = Random::new(804);
-    let mut cornered = 0;
-    for degrees in (1..=4).flat_map(|across| (1..=4).map(move |up| (across, up))) {
-        for most in [20, 100, 400, 400, 1500, 1500] {
-            let plan = random_plan(&mut random, degrees, 0, most);
-            cornered += usize::from(has_corners(plan));
-            expect_places(plan);
-        }
-    }
-    assert!(cornered > 30, "{cornered}");
-}
-
-/// The most levels, the most cells and the most functions that there may be.
-#[test]
-fn places_and_supports_of_the_largest() {
-    for numbers in [
-        [1, 1, 8, 4, 4, 2, 0, 0],
-        [16, 16, 4, 1, 2, 0, 0, 0],
-        [16, 16, 4, 4, 4, 2, all_corners(16), all_corners(16)],
-        [16, 1, 6, 3, 4, 8, all_corners(16), 0],
-        [1, 16, 6, 2, 3, 0, 0, 1 << 15 | 2],
-    ] {
-        expect_places(plan(numbers));
     }
 }

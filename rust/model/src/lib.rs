@@ -235,7 +235,7 @@ fn are_between(corners: u32, n: u32) -> bool {
 // ---- The two tables ----
 
 /// Refusals 1 and 2.
-fn refuse_plan(plan: Plan) -> Result<(), u32> {
+pub fn refuse_plan(plan: Plan) -> Result<(), u32> {
     let in_range = (1..=16).contains(&plan.columns)
         && (1..=16).contains(&plan.rows)
         && (1..=8).contains(&plan.levels)

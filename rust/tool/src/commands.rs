@@ -32,7 +32,7 @@ pub fn change(file: &OsStr, call: Call) -> Result<String, Failure> {
     match wall.make(call.clone())? {
         Ok(lists) => Ok(format!("0;{}\n", words::lists(&lists))),
         Err(refusal) => {
-            let at_fault = words::at_fault(wall.mesh(), &call);
+            let at_fault = words::at_fault(wall.mesh(), &call, refusal);
             Err(Failure::refused(refusal, at_fault).printing(format!("{};;\n", refusal.number())))
         }
     }

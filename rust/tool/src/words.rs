@@ -135,16 +135,9 @@ pub fn number(text: &str) -> Option<u32> {
     digits.then(|| text.parse().ok())?
 }
 
-/// What is wrong with the mark for which a call was refused.
-///
-/// The library tries the marks in list order, so it is the last one of the shortest list that is
-/// refused, and every longer list is refused too: halving finds it.
-pub fn at_fault(mesh: &Mesh, refused: &Call) -> Option<String> {
-    let (word, marks) = (word(refused), marks(refused));
-    let refusal_of = |many: usize| mesh.clone().make(&call(word, marks[..many].to_vec())?).err();
-    let lengths: Vec<usize> = (1..=marks.len()).collect();
-    let at = lengths.partition_point(|&many| refusal_of(many).is_none());
-    let (mark, refusal) = (*marks.get(at)?, refusal_of(at + 1)?);
+/// What is wrong with the mark for which a call was refused so.
+pub fn at_fault(mesh: &Mesh, refused: &Call, refusal: Refusal) -> Option<String> {
+    let mark = marks(refused)[mesh.first_fault(refused)?];
     let (kind, table) = match refused {
         Call::RefineCells(_) | Call::CoarsenCells(_) => ("cell", &mesh.cells),
         Call::RefineFunctions(_) | Call::CoarsenFunctions(_) => ("function", &mesh.functions),

@@ -3,7 +3,7 @@
 //! and coarsened again; and the heights of the surface are printed along a line across the corner.
 
 use std::process::ExitCode;
-use wallmirror::{Cell, Function, Mesh, Plan, Refusal};
+use wallmirror::{Cell, Function, Heights, Mesh, Plan, Refusal};
 
 fn main() -> ExitCode {
     match run() {
@@ -63,9 +63,9 @@ fn print_list(call: &str, functions: &[Function]) {
 /// without it the one that covers the same columns.
 fn print_heights(plan: Plan, smooth: Plan) -> Result<(), Refusal> {
     let (cornered, smooth) = (Mesh::open(plan)?, Mesh::open(smooth)?);
-    let with_height = |mesh: &Mesh, function: usize| {
-        let mut heights = vec![0; mesh.functions.len()];
-        heights[function] = 64; // millimetres
+    let with_height = |mesh: &Mesh, function: u32| {
+        let mut heights = Heights::of(mesh);
+        heights[Function(function)] = 64; // millimetres
         heights
     };
     let (edge, bulge) = (with_height(&cornered, 2), with_height(&smooth, 1));

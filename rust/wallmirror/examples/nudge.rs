@@ -2,10 +2,12 @@
 //! the hold goes, a bulge and the hold on it get their heights, and then the hold rises a little.
 
 use std::process::ExitCode;
-use wallmirror::{Cell, Mesh, Plan, Refusal};
+use wallmirror::{Cell, Function, Heights, Mesh, Plan, Refusal};
 
-const BULGE: usize = 2 * 6 + 2; // function 2 of row 2 on level 0, which has 6 by 6
-const HOLD: usize = 6 * 6 + 4 * 10 + 4; // function 4 of row 4 on level 1, which has 10 by 10
+/// Function 2 of row 2 on level 0, which has 6 by 6.
+const BULGE: Function = Function(2 * 6 + 2);
+/// Function 4 of row 4 on level 1, which has 10 by 10.
+const HOLD: Function = Function(6 * 6 + 4 * 10 + 4);
 const NUDGE: i32 = 5; // on level 1 in sixteenths of a millimetre
 
 fn main() -> ExitCode {
@@ -28,7 +30,7 @@ fn refined() -> Result<Mesh, Refusal> {
 }
 
 fn nudge(mesh: &Mesh) -> Result<(), Refusal> {
-    let mut before = vec![0; mesh.functions.len()];
+    let mut before = Heights::of(mesh);
     (before[BULGE], before[HOLD]) = (160, 24 * 16); // 160 mm and 24 mm
     let mut after = before.clone();
     after[HOLD] += NUDGE;

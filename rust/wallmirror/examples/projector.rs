@@ -5,7 +5,7 @@
 
 use std::collections::BTreeMap;
 use std::process::ExitCode;
-use wallmirror::{Cell, Corner, Mesh, Place, Plan, Refusal};
+use wallmirror::{Cell, Corner, Function, Heights, Mesh, Place, Plan, Refusal};
 
 /// With degrees 1 each function is highest where two lines of its level meet, and all others of the
 /// level are 0 there.
@@ -16,8 +16,7 @@ const PLAN: Plan = Plan {
     degree_across: 1,
     degree_up: 1,
     admissibility_class: 2,
-    corners_across: 0,
-    corners_up: 0,
+    ..Plan::SMALLEST // no corners
 };
 const LAST: u32 = PLAN.levels - 1;
 
@@ -100,14 +99,15 @@ fn refined() -> Result<Mesh, Refusal> {
 }
 
 /// Level by level, each active function gets what the surface lacks where it is highest.
-fn fitted(mesh: &Mesh) -> Result<Vec<i32>, Refusal> {
-    let mut heights = vec![0; mesh.functions.len()];
-    let mut function = 0;
+fn fitted(mesh: &Mesh) -> Result<Heights, Refusal> {
+    let mut heights = Heights::of(mesh);
     for level in 0..PLAN.levels {
         let side = 1 << (LAST - level);
-        for row in 0..PLAN.functions_up(level).unwrap() as u32 {
-            for column in 0..PLAN.functions_across(level).unwrap() as u32 {
-                if mesh.functions[function] == 1 {
+        let at = PLAN.level(level).unwrap();
+        for row in 0..at.functions_up {
+            for column in 0..at.functions_across {
+                let function = Function(at.first_function + row * at.functions_across + column);
+                if mesh.functions[function.0 as usize] == 1 {
                     let (across, up) = (column * side, row * side);
                     let is = mesh.height(&heights, 8 * across, 8 * up)?;
                     let (x, y) = (f64::from(across), f64::from(up));
@@ -115,7 +115,6 @@ fn fitted(mesh: &Mesh) -> Result<Vec<i32>, Refusal> {
                     // The unit of level k is 16^-k mm.
                     heights[function] = (lacks * f64::from(1 << (4 * level))).round() as i32;
                 }
-                function += 1;
             }
         }
     }

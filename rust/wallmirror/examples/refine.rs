@@ -7,7 +7,7 @@
 
 use std::fmt::Write;
 use std::process::ExitCode;
-use wallmirror::{Cell, Function, Mesh, Place, Plan, Refusal};
+use wallmirror::{Cell, Function, Heights, Mesh, Place, Plan, Refusal};
 
 /// Six by four cells. Level 0 has 8 by 6 functions, level 1 has 14 by 10.
 const PLAN: Plan = Plan {
@@ -17,8 +17,7 @@ const PLAN: Plan = Plan {
     degree_across: 2,
     degree_up: 2,
     admissibility_class: 2,
-    corners_across: 0,
-    corners_up: 0,
+    ..Plan::SMALLEST // no corners
 };
 
 /// The far edges, in eighths of a cell of level 1, in which points are counted.
@@ -26,13 +25,13 @@ const ACROSS: u32 = 8 * 12;
 const UP: u32 = 8 * 8;
 
 const UNDER_HOLD: Function = Function(2 * 8 + 4); // function 4 of row 2 on level 0
-const HOLD: usize = 8 * 6 + 4 * 14 + 8; // function 8 of row 4 on level 1
+const HOLD: Function = Function(8 * 6 + 4 * 14 + 8); // function 8 of row 4 on level 1
 
 /// A mesh, and a height for each of its functions.
 #[derive(Clone)]
 struct Wall {
     mesh: Mesh,
-    heights: Vec<i32>,
+    heights: Heights,
 }
 
 fn main() -> ExitCode {
@@ -80,10 +79,10 @@ fn run() -> Result<String, Refusal> {
 /// The coarsest mesh, with a bulge of heights in millimetres.
 fn bulge() -> Result<Wall, Refusal> {
     let mesh = Mesh::open(PLAN)?;
-    let mut heights = vec![0; mesh.functions.len()];
-    for (row, column) in (0..6i32).flat_map(|row| (0..8i32).map(move |column| (row, column))) {
-        let distance = 3 * (column - 4).pow(2) + 4 * (row - 3).pow(2);
-        heights[(row * 8 + column) as usize] = (120 - 6 * distance).max(0);
+    let mut heights = Heights::of(&mesh);
+    for (row, column) in (0..6u32).flat_map(|row| (0..8u32).map(move |column| (row, column))) {
+        let distance = 3 * column.abs_diff(4).pow(2) + 4 * row.abs_diff(3).pow(2);
+        heights[Function(row * 8 + column)] = (120 - 6 * distance as i32).max(0);
     }
     Ok(Wall { mesh, heights })
 }
@@ -91,9 +90,9 @@ fn bulge() -> Result<Wall, Refusal> {
 impl Wall {
     /// How many functions are active, and how many of them have a height.
     fn carried_by(&self) -> String {
-        let active = |function: &usize| self.mesh.functions[*function] == 1;
-        let active: Vec<usize> = (0..self.heights.len()).filter(active).collect();
-        let high = active.iter().filter(|&&function| self.heights[function] != 0).count();
+        let each = self.mesh.functions.iter().zip(self.heights.iter());
+        let active: Vec<i32> = each.filter(|(&byte, _)| byte == 1).map(|(_, &h)| h).collect();
+        let high = active.iter().filter(|&&height| height != 0).count();
         format!("{} active functions, {high} with a height", active.len())
     }
 

@@ -1,4 +1,4 @@
-//! The calls as `include/wallmirror.h` declares them, for those who need raw pointers. What each
+//! The calls as `include/wallmirror.h` declares them, for programs that need raw pointers. What each
 //! does is said at the safe function of its name. Numbers that are answered are 0 or that of a
 //! [`crate::Refusal`].
 
@@ -71,6 +71,52 @@ pub struct Height {
 pub struct Corners {
     pub number: u32,
     pub corners: u32,
+}
+
+/// What [`wallmirror_level`] answers. All 0 where the plan is refused or does not have the level.
+#[repr(C)]
+#[derive(Clone, Copy, Debug, Default, PartialEq, Eq)]
+pub struct Level {
+    pub first_cell: u32,
+    pub columns: u32,
+    pub rows: u32,
+    pub first_function: u32,
+    pub functions_across: u32,
+    pub functions_up: u32,
+}
+
+/// What [`wallmirror_place`] answers. All 0 where the plan is refused or does not have the cell.
+#[repr(C)]
+#[derive(Clone, Copy, Debug, Default, PartialEq, Eq)]
+pub struct Place {
+    /// 1.
+    pub found: u32,
+    pub level: u32,
+    pub row: u32,
+    pub column: u32,
+}
+
+/// What [`wallmirror_cell_at`] answers. All 0 where the plan is refused or does not have the place.
+#[repr(C)]
+#[derive(Clone, Copy, Debug, Default, PartialEq, Eq)]
+pub struct CellAt {
+    /// 1.
+    pub found: u32,
+    pub cell: u32,
+}
+
+/// What [`wallmirror_support`] answers: from the first row and column up to those at the end, which
+/// are not in it. All 0 where the plan is refused or does not have the function.
+#[repr(C)]
+#[derive(Clone, Copy, Debug, Default, PartialEq, Eq)]
+pub struct Support {
+    /// 1.
+    pub found: u32,
+    pub level: u32,
+    pub first_row: u32,
+    pub end_row: u32,
+    pub first_column: u32,
+    pub end_column: u32,
 }
 
 /// A refining or coarsening call.
@@ -182,6 +228,30 @@ changes_with_heights! {
 }
 
 unsafe extern "C" {
+    /// As [`crate::version`].
+    pub safe fn wallmirror_version() -> u32;
+
+    /// As [`crate::Plan::check`]: 0, 1 or 2.
+    pub safe fn wallmirror_plan_refusal(plan: Plan) -> u32;
+
+    /// As [`crate::Plan::cells`], or 0.
+    pub safe fn wallmirror_cells_len(plan: Plan) -> usize;
+
+    /// As [`crate::Plan::functions`], or 0.
+    pub safe fn wallmirror_functions_len(plan: Plan) -> usize;
+
+    /// As [`crate::Plan::level`].
+    pub safe fn wallmirror_level(plan: Plan, level: u32) -> Level;
+
+    /// As [`crate::Plan::place`].
+    pub safe fn wallmirror_place(plan: Plan, cell: u32) -> Place;
+
+    /// As [`crate::Plan::cell_at`].
+    pub safe fn wallmirror_cell_at(plan: Plan, level: u32, row: u32, column: u32) -> CellAt;
+
+    /// As [`crate::Plan::support`].
+    pub safe fn wallmirror_support(plan: Plan, function: u32) -> Support;
+
     /// As [`crate::open`].
     ///
     /// # Safety

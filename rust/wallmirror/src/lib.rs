@@ -55,7 +55,7 @@
 //! just before knot i + p + 1, and there is one for every p + 2 knots in a row. Up it is the same
 //! with the rows, the degree up and the corners up. The support of a function is the rectangle of
 //! both, made of cells of its own level; [`Plan::support`] tells it. Functions are numbered like
-//! cells, row by row, with [`Plan::functions_across`] to a row.
+//! cells, level by level, row by row; [`Plan::level`] tells how many there are.
 //!
 //! Without corners that is n + p functions across, of which function i covers columns max(0, i - p)
 //! to min(n - 1, i).
@@ -106,9 +106,9 @@
 //! A function is over a cell where its support and the cell have a point in common, whatever their
 //! levels. In class m, not 0, the active functions over an active cell of level k all have levels
 //! from k - m + 1 to k. Functions of finer levels are passive there, those of coarser ones
-//! deactivated. So who draws or sums the functions over a cell has at most m levels to look at, and
-//! on each the functions over the cell's ancestor there: `degree_across` + 1 of them in a row
-//! across and `degree_up` + 1 up. Those over column x begin with function
+//! deactivated. So a program that draws or sums the functions over a cell has at most m levels to
+//! look at, and on each the functions over the cell's ancestor there: `degree_across` + 1 of them in
+//! a row across and `degree_up` + 1 up. Those over column x begin with function
 //! x + (`degree_across` - 1) · c, where c corners are on lines 1 to x of that level; up it is the
 //! same.
 //!
@@ -196,23 +196,24 @@
 //! functions, of the function's height times its value there. The value is that of a B-spline
 //! across times that of one up, over the knots of the function's level as above. The heights of the
 //! functions are whole numbers, one for each function of each level, in the order of their numbers;
-//! on level k the unit is 16^-k mm. Whatever stands there for a function that is not active is
-//! ignored. A point is two whole numbers, across and up, in eighths of a cell of the last level,
-//! from 0 to the far edge: 8 · columns · 2^(levels - 1) across and 8 · rows · 2^(levels - 1) up.
-//! The far edges are included; the last function has the value 1 there.
+//! on level k the unit is 16^-k mm. [`Heights`] has them, indexed by [`Function`]. Whatever stands
+//! there for a function that is not active is ignored. A point is two whole numbers, across and up,
+//! in eighths of a cell of the last level, from 0 to the far edge: 8 · columns · 2^(levels - 1)
+//! across and 8 · rows · 2^(levels - 1) up. The far edges are included; the last function has the
+//! value 1 there.
 //!
 //! With degrees 1 and 2 and at most four levels the height in mm is a multiple of
 //! 2^-(10 + 4 · levels), and what [`height`] answers is the sum itself, with no bit rounded away.
 //!
 //! ```
-//! # use wallmirror::{Cell, Mesh, Plan};
+//! # use wallmirror::{Cell, Function, Heights, Mesh, Plan};
 //! let plan = Plan { columns: 3, levels: 3, admissibility_class: 2, ..Plan::default() };
 //! let mut mesh = Mesh::open(plan)?;
 //! mesh.refine_cells(&[Cell(0)])?;
-//! let mut heights = vec![0; mesh.functions.len()];
-//! heights[1] = 10; // of level 0: 10 mm
-//! heights[9] = 8; // of level 1: 8/16 mm
-//! heights[0] = i32::MAX; // deactivated
+//! let mut heights = Heights::of(&mesh);
+//! heights[Function(1)] = 10; // of level 0: 10 mm
+//! heights[Function(9)] = 8; // of level 1: 8/16 mm
+//! heights[Function(0)] = i32::MAX; // deactivated
 //! // Half of function 1, and all of function 9.
 //! assert_eq!(mesh.height(&heights, 16, 0), Ok(5.5));
 //! # Ok::<(), wallmirror::Refusal>(())
@@ -227,11 +228,12 @@
 //! may be subtracted: the difference is exact.
 //!
 //! ```
-//! # use wallmirror::{Mesh, Plan};
+//! # use wallmirror::{Function, Heights, Mesh, Plan};
 //! let mesh = Mesh::open(Plan { columns: 3, levels: 3, ..Plan::default() })?;
-//! let before = vec![7; mesh.functions.len()];
+//! let mut before = Heights::of(&mesh);
+//! before.fill(7);
 //! let mut after = before.clone();
-//! after[1] -= 4; // of level 0, over the points 0 to 64 across
+//! after[Function(1)] -= 4; // of level 0, over the points 0 to 64 across
 //! for across in 0..=96 {
 //!     let by = mesh.height(&after, across, 0)? - mesh.height(&before, across, 0)?;
 //!     assert!((-4.0..=0.0).contains(&by));
@@ -255,17 +257,18 @@
 //! active after gets 0.
 //!
 //! ```
-//! # use wallmirror::{Cell, Function, Mesh, Plan};
+//! # use wallmirror::{Cell, Function, Heights, Mesh, Plan};
 //! # let plan = Plan { columns: 3, levels: 3, admissibility_class: 2, ..Plan::default() };
 //! # let mut mesh = Mesh::open(plan)?;
 //! mesh.refine_cells(&[Cell(0)])?;
-//! let mut heights = vec![0; mesh.functions.len()];
-//! (heights[1], heights[9]) = (10, 8); // 10 mm, and 8/16 mm
+//! let mut heights = Heights::of(&mesh);
+//! (heights[Function(1)], heights[Function(9)]) = (10, 8); // 10 mm, and 8/16 mm
 //! assert_eq!(mesh.height(&heights, 16, 0), Ok(5.5));
 //! let lists = mesh.refine_cells_with_heights(&mut heights, &[Cell(1)])?;
 //! // Function 1 is 1/2 of functions 9 and 11 and 1 of function 10, and half of that in the next row.
 //! assert_eq!(lists.functions, [Function(1), Function(5)]);
-//! assert_eq!([1, 9, 10, 11, 16, 17, 18].map(|f| heights[f]), [0, 88, 160, 80, 40, 80, 40]);
+//! let carried = [1, 9, 10, 11, 16, 17, 18].map(|function| heights[Function(function)]);
+//! assert_eq!(carried, [0, 88, 160, 80, 40, 80, 40]);
 //! assert_eq!(mesh.height(&heights, 16, 0), Ok(5.5));
 //! # Ok::<(), wallmirror::Refusal>(())
 //! ```
@@ -285,12 +288,12 @@
 //! these numbers are exact.
 //!
 //! ```
-//! # use wallmirror::{Cell, Corner, Mesh, Plan};
+//! # use wallmirror::{Cell, Corner, Function, Heights, Mesh, Plan};
 //! # let plan = Plan { columns: 3, levels: 3, admissibility_class: 2, ..Plan::default() };
 //! # let mut mesh = Mesh::open(plan)?;
 //! mesh.refine_cells(&[Cell(0)])?;
-//! let mut heights = vec![0; mesh.functions.len()];
-//! (heights[1], heights[9]) = (10, 8);
+//! let mut heights = Heights::of(&mesh);
+//! (heights[Function(1)], heights[Function(9)]) = (10, 8);
 //! let corners = mesh.corners(&heights)?;
 //! // Cells 1, 2, 3, 4, 9 and 10 are active; these are the corners of cell 3.
 //! assert_eq!(corners.len(), 4 * 6);
@@ -322,12 +325,14 @@
 use std::fmt;
 
 pub mod ffi;
+mod heights;
 mod mesh;
 mod places;
 mod season;
 
+pub use heights::Heights;
 pub use mesh::{Call, Lists, Mesh};
-pub use places::{Place, Support};
+pub use places::{Level, Place, Support};
 pub use season::{Made, Season, Undone};
 
 /// The examples of the documentation, run with the others.
@@ -336,6 +341,10 @@ pub use season::{Made, Season, Undone};
 pub struct Documentation;
 
 /// The plan of a mesh. Any numbers may stand in it; the calls refuse those out of range.
+///
+/// Later versions may add fields. A plan that ends in `..Plan::default()`, or in a constant in
+/// `..Plan::SMALLEST`, then still compiles and is the same plan; one that lists all fields does not
+/// compile.
 #[derive(Clone, Copy, Debug, PartialEq, Eq, Hash)]
 pub struct Plan {
     /// Columns of level 0, 1 to 16.
@@ -356,9 +365,29 @@ pub struct Plan {
     pub corners_up: u32,
 }
 
-impl Default for Plan {
+impl Plan {
     /// The smallest plan, in which each number is the least that it may be: one column, row and
-    /// level, degrees 1, class 0 and no corners.
+    /// level, degrees 1, class 0 and no corners. It is [`Plan::default`], for constants.
+    ///
+    /// ```
+    /// # use wallmirror::Plan;
+    /// const PLAN: Plan = Plan { columns: 3, levels: 3, ..Plan::SMALLEST };
+    /// assert_eq!(PLAN, Plan { columns: 3, levels: 3, ..Plan::default() });
+    /// ```
+    pub const SMALLEST: Plan = Plan {
+        columns: 1,
+        rows: 1,
+        levels: 1,
+        degree_across: 1,
+        degree_up: 1,
+        admissibility_class: 0,
+        corners_across: 0,
+        corners_up: 0,
+    };
+}
+
+impl Default for Plan {
+    /// [`Plan::SMALLEST`].
     ///
     /// ```
     /// # use wallmirror::Plan;
@@ -367,21 +396,25 @@ impl Default for Plan {
     /// assert_eq!((plan.corners_across, plan.corners_up), (0, 0));
     /// ```
     fn default() -> Plan {
-        Plan {
-            columns: 1,
-            rows: 1,
-            levels: 1,
-            degree_across: 1,
-            degree_up: 1,
-            admissibility_class: 0,
-            corners_across: 0,
-            corners_up: 0,
-        }
+        Plan::SMALLEST
     }
 }
 
 /// The version of this crate, which is that of the C header.
 pub const VERSION: &str = env!("CARGO_PKG_VERSION");
+
+/// The version of the library that is linked, as one number: major · 1,000,000 + minor · 1,000 +
+/// patch. It is to be that of [`VERSION`]; where it is not, nothing is said of what other calls do.
+///
+/// ```
+/// # use wallmirror::{version, VERSION};
+/// let number = version();
+/// let parts = [number / 1_000_000, number / 1_000 % 1_000, number % 1_000];
+/// assert_eq!(parts.map(|part| part.to_string()).join("."), VERSION);
+/// ```
+pub fn version() -> u32 {
+    ffi::wallmirror_version()
+}
 
 /// The most cells that a mesh may have on all levels together.
 pub const MAX_CELLS: usize = 21_845;
@@ -409,71 +442,6 @@ pub const MAX_CORNER_DOUBLES: usize = 12_288;
 pub const STACK_BYTES: usize = 262_144;
 
 impl Plan {
-    /// The length of the cell table, and the most entries that a cell list needs. `None` for a plan
-    /// that is out of range or has more than [`MAX_CELLS`] cells.
-    ///
-    /// ```
-    /// # use wallmirror::Plan;
-    /// let plan = Plan { columns: 3, levels: 3, admissibility_class: 2, ..Plan::default() };
-    /// assert_eq!(plan.cells(), Some(63));
-    /// assert_eq!(plan.functions(), Some(94));
-    /// assert_eq!(Plan { columns: 17, ..plan }.cells(), None);
-    /// ```
-    pub fn cells(self) -> Option<usize> {
-        let in_range = (1..=16).contains(&self.columns)
-            && (1..=16).contains(&self.rows)
-            && (1..=8).contains(&self.levels)
-            && (1..=4).contains(&self.degree_across)
-            && (1..=4).contains(&self.degree_up)
-            && (self.admissibility_class == 0 || (2..=8).contains(&self.admissibility_class))
-            // A shift by at most 16.
-            && self.corners_across & !((1 << self.columns) - 2) == 0
-            && self.corners_up & !((1 << self.rows) - 2) == 0;
-        if !in_range {
-            return None;
-        }
-        let of_level = |level| (self.columns << level) as usize * (self.rows << level) as usize;
-        let cells = (0..self.levels).map(of_level).sum();
-        (cells <= MAX_CELLS).then_some(cells)
-    }
-
-    /// The length of the function table, and the most entries that a function list needs. `None`
-    /// where [`Plan::cells`] is.
-    pub fn functions(self) -> Option<usize> {
-        self.cells()?;
-        (0..self.levels)
-            .map(|level| Some(self.functions_across(level)? * self.functions_up(level)?))
-            .sum()
-    }
-
-    /// The functions across on a level, which are those in a row of the function table. The
-    /// function in row j, column i of a level comes after those of the levels before it, as number
-    /// j · `functions_across` + i among those of its own. `None` where [`Plan::cells`] is, and for
-    /// a level that the plan has not.
-    pub fn functions_across(self, level: u32) -> Option<usize> {
-        self.cells()?;
-        (level < self.levels)
-            .then(|| functions_over(self.columns << level, self.degree_across, self.corners_across))
-    }
-
-    /// The functions up on a level, which are the rows of its part of the function table. `None`
-    /// likewise.
-    ///
-    /// ```
-    /// # use wallmirror::Plan;
-    /// let plan = Plan { columns: 3, rows: 2, degree_across: 3, degree_up: 2, ..Plan::default() };
-    /// assert_eq!((plan.functions_across(0), plan.functions_up(0)), (Some(3 + 3), Some(2 + 2)));
-    /// // Two more for a corner across, one more for a corner up.
-    /// let plan = Plan { corners_across: 1 << 2, corners_up: 1 << 1, ..plan };
-    /// assert_eq!((plan.functions_across(0), plan.functions_up(0)), (Some(8), Some(5)));
-    /// assert_eq!((plan.functions(), plan.functions_up(1)), (Some(8 * 5), None));
-    /// ```
-    pub fn functions_up(self, level: u32) -> Option<usize> {
-        self.cells()?;
-        (level < self.levels)
-            .then(|| functions_over(self.rows << level, self.degree_up, self.corners_up))
-    }
-
     fn raw(self) -> ffi::Plan {
         ffi::Plan {
             columns: self.columns,
@@ -501,11 +469,6 @@ impl Plan {
     }
 }
 
-/// The functions over so many cells: as many more as the degree, and degree - 1 for each corner.
-fn functions_over(cells: u32, degree: u32, corners: u32) -> usize {
-    (cells + degree + (degree - 1) * corners.count_ones()) as usize
-}
-
 /// The number of a cell: from 0, level by level, row by row.
 #[repr(transparent)]
 #[derive(Clone, Copy, Debug, Default, PartialEq, Eq, PartialOrd, Ord, Hash)]
@@ -519,16 +482,20 @@ pub struct Function(pub u32);
 /// Why a call was refused. Where several apply, the first of this order is given: 12; 1, 2; then 16,
 /// of [`corners`] alone; 3 to 6; then 3 of the heights, 14, 15; then the marks in list order, each
 /// tried for 7, 8, 9; then 10, 11; then 13, or 17.
+///
+/// Later versions may add refusals, so a `match` needs an arm for the others.
 #[derive(Clone, Copy, Debug, PartialEq, Eq, Hash)]
 #[repr(u32)]
+#[non_exhaustive]
 pub enum Refusal {
     /// A number of the plan is out of range: columns and rows are 1 to 16, levels 1 to 8, degrees 1
     /// to 4, the class is 0 or 2 to 8, and corners have bits 1 to columns - 1, or to rows - 1.
     PlanOutOfRange = 1,
     /// All levels together have more than [`MAX_CELLS`] cells.
     TooManyCells = 2,
-    /// The cell table has not [`Plan::cells`] bytes, or the function table not [`Plan::functions`].
-    /// Of the calls with heights also, after 6: the heights are not as many as the functions.
+    /// The cell table does not have [`Plan::cells`] bytes, or the function table does not have
+    /// [`Plan::functions`]. Of the calls with heights also, after 6: the heights are not as many as
+    /// the functions.
     TableLength = 3,
     /// The cell bytes are not a mesh: another byte than 0, 1, 2, an absent cell of level 0, a
     /// refined cell with an absent child, any other cell with a child that is not absent, or a
@@ -553,7 +520,7 @@ pub enum Refusal {
     /// The function list has fewer entries than functions change.
     FunctionListTooShort = 11,
     /// A number of the file is cut off, has more than three groups or more than it needs, or is a
-    /// difference of 0; behind the last cell a number stands alone, or both corner numbers are 0.
+    /// difference of 0; after the last cell a number stands alone, or both corner numbers are 0.
     MalformedFile = 12,
     /// Bytes follow the two corner numbers of the file.
     TrailingBytes = 13,
@@ -571,7 +538,7 @@ pub enum Refusal {
 
 impl Refusal {
     /// All refusals in the order of their numbers.
-    pub const ALL: [Refusal; 17] = [
+    pub const ALL: &[Refusal] = &[
         Refusal::PlanOutOfRange,
         Refusal::TooManyCells,
         Refusal::TableLength,
@@ -602,25 +569,31 @@ impl Refusal {
     /// # use wallmirror::Refusal;
     /// assert_eq!(Refusal::from_number(8), Some(Refusal::MarkOfWrongKind));
     /// assert_eq!(Refusal::from_number(0), None);
+    /// ```
+    pub fn from_number(number: u32) -> Option<Refusal> {
+        Refusal::ALL.iter().copied().find(|refusal| refusal.number() == number)
+    }
+
+    /// What was wrong, in the words of the C header's `wallmirror_refusal_text`. Displayed, the
+    /// number stands before them.
+    ///
+    /// ```
+    /// # use wallmirror::Refusal;
+    /// let refusal = Refusal::MarkOfWrongKind;
+    /// assert_eq!(refusal.text(), "a mark is not of the kind that the call takes");
     /// assert_eq!(
-    ///     Refusal::MarkOfWrongKind.to_string(),
+    ///     refusal.to_string(),
     ///     "refusal 8: a mark is not of the kind that the call takes",
     /// );
     /// ```
-    pub fn from_number(number: u32) -> Option<Refusal> {
-        Refusal::ALL.into_iter().find(|refusal| refusal.number() == number)
-    }
-}
-
-impl fmt::Display for Refusal {
-    fn fmt(&self, f: &mut fmt::Formatter<'_>) -> fmt::Result {
-        let message = match self {
+    pub fn text(self) -> &'static str {
+        match self {
             Refusal::PlanOutOfRange => {
                 "a number of the plan is out of range (columns and rows 1 to 16, levels 1 to 8, degrees 1 to 4, class 0 or 2 to 8, corners between two columns or rows)"
             }
             Refusal::TooManyCells => "all levels together have more than 21845 cells",
             Refusal::TableLength => {
-                "a table has not the length that the plan gives it, or the heights are not as many as the functions"
+                "a table does not have the length that the plan gives it, or the heights are not as many as the functions"
             }
             Refusal::NotAMesh => "the cell table is not a mesh",
             Refusal::NotAdmissible => "the mesh is not admissible for the class of the plan",
@@ -652,8 +625,13 @@ impl fmt::Display for Refusal {
             Refusal::CarriedHeightOutOfRange => {
                 "the height that is carried to an active function is more than 65536 mm either way"
             }
-        };
-        write!(f, "refusal {}: {message}", self.number())
+        }
+    }
+}
+
+impl fmt::Display for Refusal {
+    fn fmt(&self, f: &mut fmt::Formatter<'_>) -> fmt::Result {
+        write!(f, "refusal {}: {}", self.number(), self.text())
     }
 }
 
@@ -1206,11 +1184,28 @@ mod tests {
             assert!(header.contains(&format!("#define WALLMIRROR_{name} {number}\n")), "{name}");
         }
         assert!(header.contains(&format!("#define WALLMIRROR_VERSION \"{VERSION}\"\n")));
+        let parts: Vec<u32> = VERSION.split('.').map(|part| part.parse().unwrap()).collect();
+        for (name, part) in ["MAJOR", "MINOR", "PATCH"].iter().zip(&parts) {
+            assert!(header.contains(&format!("#define WALLMIRROR_VERSION_{name} {part}\n")));
+        }
+        assert_eq!(version(), parts[0] * 1_000_000 + parts[1] * 1_000 + parts[2]);
+    }
+
+    /// A C test compares this file with what the header's function says.
+    #[test]
+    fn the_header_has_the_same_texts() {
+        let said = include_str!("../../../tests/c/texts.expected");
+        let mut lines = vec!["0: accepted".to_string()];
+        let text = |refusal: &Refusal| format!("{}: {}", refusal.number(), refusal.text());
+        lines.extend(Refusal::ALL.iter().map(text));
+        let others = [Refusal::ALL.len() as u32 + 1, u32::MAX];
+        lines.extend(others.map(|number| format!("{number}: no refusal has this number")));
+        assert_eq!(said.lines().collect::<Vec<_>>(), lines);
     }
 
     #[test]
     fn refusals_have_their_numbers() {
-        for (i, refusal) in Refusal::ALL.into_iter().enumerate() {
+        for (i, &refusal) in Refusal::ALL.iter().enumerate() {
             assert_eq!(refusal.number() as usize, i + 1);
             assert_eq!(Refusal::from_number(refusal.number()), Some(refusal));
             assert!(refusal.to_string().starts_with(&format!("refusal {}: ", i + 1)));

@@ -55,6 +55,14 @@ impl Call {
         matches!(self, Call::RefineCells(_) | Call::RefineFunctions(_))
     }
 
+    /// How many marks it has.
+    fn marks(&self) -> usize {
+        match self {
+            Call::RefineCells(marks) | Call::CoarsenCells(marks) => marks.len(),
+            Call::RefineFunctions(marks) | Call::CoarsenFunctions(marks) => marks.len(),
+        }
+    }
+
     /// The call that takes this one back, by the cells that this one listed.
     ///
     /// ```
@@ -167,6 +175,51 @@ impl Mesh {
             Call::CoarsenCells(marks) => self.coarsen_cells(marks),
             Call::CoarsenFunctions(marks) => self.coarsen_functions(marks),
         }
+    }
+
+    /// The first mark for which a call is refused with 7, 8 or 9: its index in the list of marks.
+    /// `None` where the call is not refused so. With heights or without, it is the same mark.
+    ///
+    /// ```
+    /// # use wallmirror::{Call, Cell, Mesh, Plan, Refusal};
+    /// let mut mesh = Mesh::open(Plan { columns: 3, levels: 3, ..Plan::default() })?;
+    /// // Cell 5 is of level 1 and absent; there is no cell 63.
+    /// let call = Call::RefineCells([0, 2, 5, 1, 63].map(Cell).to_vec());
+    /// assert_eq!(mesh.make(&call), Err(Refusal::MarkOfWrongKind));
+    /// assert_eq!(mesh.first_fault(&call), Some(2));
+    /// assert_eq!(mesh.first_fault(&Call::RefineCells(vec![Cell(0), Cell(2)])), None);
+    /// # Ok::<(), Refusal>(())
+    /// ```
+    pub fn first_fault(&self, call: &Call) -> Option<usize> {
+        // The marks are tried in list order, so it is the last of the shortest part of the list that
+        // is refused, and every longer part is refused too: halving finds it.
+        let mut mesh = self.clone();
+        let lengths: Vec<usize> = (0..=call.marks()).collect();
+        let faultless = lengths.partition_point(|&many| !mesh.finds_fault(call, many));
+        (faultless <= call.marks()).then(|| faultless - 1)
+    }
+
+    /// Whether one of the first marks is at fault. Nothing changes: with empty lists a call that
+    /// would change something is refused with 10 or 11, after 7 to 9.
+    fn finds_fault(&mut self, call: &Call, many: usize) -> bool {
+        let (plan, cells, functions) = (self.plan, &mut self.cells[..], &mut self.functions[..]);
+        let answer = match call {
+            Call::RefineCells(marks) => {
+                refine_cells(plan, cells, functions, &marks[..many], &mut [], &mut [])
+            }
+            Call::RefineFunctions(marks) => {
+                refine_functions(plan, cells, functions, &marks[..many], &mut [], &mut [])
+            }
+            Call::CoarsenCells(marks) => {
+                coarsen_cells(plan, cells, functions, &marks[..many], &mut [], &mut [])
+            }
+            Call::CoarsenFunctions(marks) => {
+                coarsen_functions(plan, cells, functions, &marks[..many], &mut [], &mut [])
+            }
+        };
+        let of_marks =
+            [Refusal::MarkOutOfRange, Refusal::MarkOfWrongKind, Refusal::MarkOfLastLevel];
+        answer.is_err_and(|refusal| of_marks.contains(&refusal))
     }
 
     /// Refines by cells and carries the heights, as [`refine_cells_with_heights`] says. Refuses 1 to
