@@ -521,10 +521,7 @@ fn the_first_mark_at_fault() {
         seen[fault.map_or(0, |(_, number)| number as usize)] += 1;
         later += usize::from(at.is_some_and(|at| at > 1));
     }
-    assert!(
-        [0, 7, 8, 9].iter().all(|&number| seen[number] > 50) && later > 50,
-        "{seen:?} {later}"
-    );
+    assert!([0, 7, 8, 9].iter().all(|&number| seen[number] > 50) && later > 50, "{seen:?} {later}");
 }
 
 /// Where the tables are refused no mark is at fault.

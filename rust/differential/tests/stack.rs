@@ -1,5 +1,5 @@
 //! The stack that a call takes is at most `STACK_BYTES`: measured on a painted stack, tried on one
-//! that has not a byte more, and tried on a thread.
+//! without a byte more, and tried on a thread.
 
 use differential::scenario::{self, Scenario};
 use differential::{raw, Kind, Tables};
@@ -22,6 +22,7 @@ fn each_call(scenarios: &[Scenario], mut visit: impl FnMut(&str, &str, Ready)) {
         for tables in [&scenario.to_refine, &scenario.to_coarsen] {
             each_call_without_marks(tables, &scenario.to_string(), &mut visit);
         }
+        each_call_on_a_plan(&scenario.to_refine, &scenario.to_string(), &mut visit);
         for kind in Kind::ALL {
             let tables = scenario.before(kind);
             let markable = tables.markable(kind);
@@ -40,6 +41,32 @@ fn each_call(scenarios: &[Scenario], mut visit: impl FnMut(&str, &str, Ready)) {
 
 fn has_heights(plan: Plan) -> bool {
     plan.levels <= 4 && plan.degree_across <= 2 && plan.degree_up <= 2
+}
+
+/// Of places, the last one and one beyond. These calls answer no number; 0 stands for what is right.
+fn each_call_on_a_plan(tables: &Tables, place: &str, visit: &mut impl FnMut(&str, &str, Ready)) {
+    let (plan, t, f) = (tables.plan, tables.cells.len(), tables.functions.len());
+    let (raw, last) = (raw(plan), plan.levels - 1);
+    let model::Cell { row, column, .. } = plan.cell_at(t - 1);
+    visit("refusal of a plan", place, &mut || ffi::wallmirror_plan_refusal(raw));
+    visit("length of the cells", place, &mut || (ffi::wallmirror_cells_len(raw) != t).into());
+    visit("length of the functions", place, &mut || {
+        (ffi::wallmirror_functions_len(raw) != f).into()
+    });
+    for beyond in [0, 1] {
+        visit("level", place, &mut || {
+            ((ffi::wallmirror_level(raw, last + beyond).columns == 0) != (beyond == 1)).into()
+        });
+        visit("place", place, &mut || {
+            (ffi::wallmirror_place(raw, t as u32 - 1 + beyond).found == beyond).into()
+        });
+        visit("cell at a place", place, &mut || {
+            (ffi::wallmirror_cell_at(raw, last, row, column + beyond).found == beyond).into()
+        });
+        visit("support", place, &mut || {
+            (ffi::wallmirror_support(raw, f as u32 - 1 + beyond).found == beyond).into()
+        });
+    }
 }
 
 fn each_call_without_marks(

@@ -104,7 +104,7 @@ impl Season {
     }
 
     /// Refines by cells and carries the heights, as [`Mesh::refine_cells_with_heights`] does. It is
-    /// taken back like the call without heights. The heights are not: who wants them back keeps them.
+    /// taken back like the call without heights. The heights are not; to have them back, keep them.
     pub fn refine_cells_with_heights(
         &mut self,
         heights: &mut [i32],
