@@ -45,7 +45,8 @@
  * Places. Some calls take a plan and no tables. wallmirror_level answers the first cell and the
  * first function of a level and how many there are across and up, wallmirror_place where a cell
  * lies, wallmirror_cell_at which cell lies at a place, and wallmirror_support which cells a
- * function covers. In the example above cell 9 lies on level 1 in row 1, column 0, and function 9
+ * function covers. Where the plan is refused, or does not have what is asked for, all that they
+ * answer is 0. In the example above cell 9 lies on level 1 in row 1, column 0, and function 9
  * covers the cells of level 1 in row 0, columns 0 and 1.
  *
  * Admissibility. In class m, not 0, a refined cell of level j with j - m + 1 at least 0 has a
@@ -268,9 +269,9 @@ enum WallmirrorFunction {
     WALLMIRROR_FUNCTION_DEACTIVATED = 2
 };
 
-/* The number that every call answers. Where several apply, the first of this order is given:
- * 12; 1, 2; then 16, of wallmirror_corners alone; 3 to 6; then 3 of the heights, 14, 15; then the
- * marks in list order, each tried for 7, 8, 9; then 10, 11; then 13, or 17. */
+/* The number that every call on a mesh answers. Where several apply, the first of this order is
+ * given: 12; 1, 2; then 16, of wallmirror_corners alone; 3 to 6; then 3 of the heights, 14, 15;
+ * then the marks in list order, each tried for 7, 8, 9; then 10, 11; then 13, or 17. */
 enum WallmirrorRefusal {
     WALLMIRROR_ACCEPTED = 0,
     /* a number of the plan is out of range, or a bit of its corners marks no line between two
@@ -416,8 +417,8 @@ typedef struct WallmirrorLevel {
     uint32_t columns;
     uint32_t rows;
     uint32_t first_function;   /* the number of its first function */
-    uint32_t functions_across; /* as many stand in a row */
-    uint32_t functions_up;     /* so many rows there are */
+    uint32_t functions_across; /* in a row */
+    uint32_t functions_up;     /* rows of them */
 } WallmirrorLevel;
 
 /* What wallmirror_place answers. All 0 where the plan is refused or does not have the cell. */
