@@ -314,6 +314,9 @@ fn heights_by_function() {
             heights[Function(function)] = 3 * function as i32 + 1;
         }
         let numbers: Vec<i32> = (0..plan.function_total() as i32).map(|f| 3 * f + 1).collect();
+        for (&number, function) in numbers.iter().zip(0..) {
+            assert_eq!(heights[Function(function)], number, "{function} {plan:?}");
+        }
         assert_eq!(Heights::from(numbers.clone()), heights);
         assert_eq!(Vec::from(heights), numbers);
     }
