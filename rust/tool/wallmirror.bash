@@ -7,7 +7,7 @@ _wallmirror_files()
     compopt -o filenames 2>/dev/null
     while IFS= read -r name; do
         case $name in
-            *.wallmirror-new) ;;
+            *.wallmirror-new | *.wallmirror-old) ;;
             *.journal) [ "$2" = lost ] && [ ! -e "${name%.journal}" ] && COMPREPLY+=("${name%.journal}") ;;
             *) if [ "$2" != lost ] || [ -d "$name" ]; then COMPREPLY+=("$name"); fi ;;
         esac
@@ -17,7 +17,7 @@ _wallmirror_files()
 _wallmirror()
 {
     local word=${COMP_WORDS[COMP_CWORD]} before=${COMP_WORDS[COMP_CWORD - 1]} command=${COMP_WORDS[1]}
-    local commands="new info split join fsplit fjoin back log draw export restore help" words=
+    local commands="new info split join fsplit fjoin back log draw export restore accept help" words=
     COMPREPLY=()
     if [ "$COMP_CWORD" -eq 1 ]; then
         words="$commands --help --version"

@@ -44,6 +44,9 @@ pub enum Command {
     Restore {
         file: OsString,
     },
+    Accept {
+        file: OsString,
+    },
 }
 
 /// Reads what stands behind the name of the program.
@@ -92,6 +95,7 @@ fn of_topic(topic: &'static Topic, rest: Vec<OsString>) -> Result<Command, Failu
         },
         Kind::Export => Command::Export { file: given.file()?, out: given.out.take() },
         Kind::Restore => Command::Restore { file: given.file()? },
+        Kind::Accept => Command::Accept { file: given.file()? },
     };
     given.nothing_left()?;
     Ok(command)

@@ -2,7 +2,7 @@
 //! locked.
 
 use crate::drawing::{self, Changes};
-use crate::failure::Failure;
+use crate::failure::{self, Failure};
 use crate::store::{self, Folder};
 use crate::wall::{self, Wall};
 use crate::{report, vtk, words};
@@ -19,11 +19,11 @@ pub fn new(file: &OsStr, plan: Plan) -> Result<String, Failure> {
 }
 
 pub fn info(file: &OsStr) -> Result<String, Failure> {
-    report::info(&Wall::open(file)?)
+    report::info(&Wall::look(file)?)
 }
 
 pub fn log(file: &OsStr) -> Result<String, Failure> {
-    Ok(report::log(&Wall::open(file)?))
+    Ok(report::log(&Wall::look(file)?))
 }
 
 /// Makes a call, with the answer of the session program.
@@ -41,6 +41,12 @@ pub fn change(file: &OsStr, call: Call) -> Result<String, Failure> {
 /// Walks the last calls back, or all.
 pub fn back(file: &OsStr, count: Option<u32>) -> Result<String, Failure> {
     let mut wall = Wall::open(file)?;
+    if !wall.has_journal() {
+        return Err(Failure::bad(format!(
+            "nothing is known of the season of '{}', so nothing was walked back: there is no journal beside it; put the right one there",
+            wall.name()
+        )));
+    }
     let calls = wall.season().calls().len();
     let count = match count {
         None if calls == 0 => {
@@ -68,14 +74,14 @@ pub fn back(file: &OsStr, count: Option<u32>) -> Result<String, Failure> {
     }
 }
 
-/// That the bytes on the disk are those of the first wall.
+/// That the bytes on the disk are those of the wall that the journal begins with.
 fn first_again(wall: &Wall) -> Result<String, Failure> {
     let bytes = same_bytes(wall, wall.season().first())?;
     let bytes = words::count(bytes, "byte");
-    Ok(format!("{} is the first wall, byte for byte ({bytes})", wall.name()))
+    Ok(format!("{} is the wall that its journal begins with, byte for byte ({bytes})", wall.name()))
 }
 
-/// That they are those of the wall that the calls left make of the first one, as it was compared.
+/// That they are those of the wall that the calls left make of that one, as it was compared.
 fn as_after(wall: &Wall) -> Result<String, Failure> {
     same_bytes(wall, wall.mesh())?;
     let last = wall.journal().numbers().last().unwrap_or(&0);
@@ -98,6 +104,19 @@ pub fn restore(file: &OsStr) -> Result<String, Failure> {
     Ok(format!("{}: the wall after {calls} of its journal\n", wall.name()))
 }
 
+/// Keeps the wall as it is, and lets its journal lead to it.
+pub fn accept(file: &OsStr) -> Result<String, Failure> {
+    let (wall, new) = Wall::accept(file)?;
+    let name = wall.name();
+    Ok(match new {
+        None => format!("{name} is the wall that its journal leads to; nothing was added\n"),
+        Some(_) if wall.journal().entries().is_empty() => {
+            format!("{name}: its journal begins with the wall as it is\n")
+        }
+        Some(new) => report::added(&wall, new),
+    })
+}
+
 /// The picture of the wall, or nothing if it went to a file.
 pub fn draw(
     file: &OsStr,
@@ -105,17 +124,20 @@ pub fn draw(
     functions: bool,
     changed: bool,
 ) -> Result<String, Failure> {
-    let wall = Wall::open(file)?;
-    let [split, joined] = changes(wall.journal().before(), wall.mesh());
-    let has_changed = !wall.journal().entries().is_empty();
-    let changed = (changed && has_changed).then_some(Changes { split: &split, joined: &joined });
+    let wall = Wall::look(file)?;
+    if changed && !wall.has_journal() {
+        failure::say(&format!("nothing is known of the last change of '{}', so none is outlined: there is no journal beside it", wall.name()));
+    }
+    let before = wall.journal().before().filter(|_| changed);
+    let [split, joined] = before.map_or([vec![], vec![]], |before| changes(before, wall.mesh()));
+    let changed = before.map(|_| Changes { split: &split, joined: &joined });
     let name = short_name(file);
     let picture = drawing::svg(&name, wall.mesh(), &drawing::Options { functions, changed });
     give(wall, out, picture)
 }
 
 pub fn export(file: &OsStr, out: Option<&OsStr>) -> Result<String, Failure> {
-    let wall = Wall::open(file)?;
+    let wall = Wall::look(file)?;
     let text = vtk::vtk(&short_name(file), wall.mesh());
     give(wall, out, text)
 }
@@ -162,7 +184,7 @@ fn give(wall: Wall, out: Option<&OsStr>, text: String) -> Result<String, Failure
             if wall::is_kept(path) {
                 return Err(not_over("a wall or a journal, which is not written over"));
             }
-            folder.replace(&[(path, text.as_bytes())])?;
+            folder.replace(&[(path, text.as_bytes())], path)?;
         }
     }
     Ok(String::new())

@@ -24,6 +24,7 @@ pub enum Kind {
     Draw,
     Export,
     Restore,
+    Accept,
     Help,
 }
 
@@ -44,8 +45,9 @@ macro_rules! answer {
         "
 Prints the answer as the session program does: its number, the cells that became split or ceased
 to be, and the functions that became deactivated or ceased to be, parted by semicolons. Where it
-is 0, the wall is changed and the call is in the journal. Any other number is a refusal: nothing
-is changed, and the exit status is 1.
+is 0, the wall is changed and the call is in the journal, which begins with the wall as it was
+found if there was none. Any other number is a refusal: nothing is changed, and the exit status
+is 1.
 "
     };
 }
@@ -69,7 +71,7 @@ their numbers under the pointer.
     answer!(),
 );
 
-pub static TOPICS: [Topic; 12] = [
+pub static TOPICS: [Topic; 13] = [
     Topic {
         name: "new",
         kind: Kind::New,
@@ -79,7 +81,7 @@ pub static TOPICS: [Topic; 12] = [
 Makes a wall of A by B cells (1 to 16 each) with L levels (1 to 8), degrees P across and Q up
 (1 to 4 each) and class M (0, or 2 to 8), and writes its file. Bit k of EDGES-ACROSS makes the
 line before column k a corner, bit k of EDGES-UP the one before row k. There must not be a file
-of that name yet.
+of that name yet, nor a journal, which is begun here.
 ",
     },
     Topic {
@@ -89,7 +91,7 @@ of that name yet.
         about: "say what the wall is",
         text: "\
 Prints the plan, how many cells and functions each level has, the answer of the library's check,
-and how many calls can be walked back.
+and how many calls can be walked back; without a journal, that nothing is known of the season.
 ",
     },
     Topic {
@@ -128,8 +130,8 @@ and how many calls can be walked back.
         text: "\
 Gives the cells that each call listed to the opposite call, the last one first, and compares what
 that names with what the call did. Then the bytes of the file are compared: after all calls with
-those of the first wall, which the journal has, otherwise with those of the wall that the calls
-left make of it.
+those of the wall that the journal begins with, otherwise with those of the wall that the calls
+left make of it. Without a journal nothing is walked back, and the exit status is 2.
 ",
     },
     Topic {
@@ -172,8 +174,20 @@ standard output or in a file. Lengths are in cells of the last level.
         usage: "FILE",
         about: "write a missing wall anew from its journal",
         text: "\
-Makes the calls of FILE.journal once more on its first wall and writes the wall to which they
-lead. There must not be a file of that name.
+Makes the calls of FILE.journal once more on the wall that it begins with, and writes the wall to
+which they lead. There must not be a file of that name.
+",
+    },
+    Topic {
+        name: "accept",
+        kind: Kind::Accept,
+        usage: "FILE",
+        about: "keep the wall of another program, and let its journal lead to it",
+        text: "\
+For a wall that its journal does not lead to, as after calls of another program: adds calls to the
+journal that lead to the wall as it is, joins and then splits, and prints them. They need not be
+those that were made. The wall's file stays as it is, and all calls can be walked back. Where there
+is no journal, one begins with the wall as it is.
 ",
     },
     Topic {

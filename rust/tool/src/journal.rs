@@ -1,4 +1,5 @@
-//! The journal of a season: a text with the first wall's file and a line for each change since.
+//! The journal of a wall: a text with the file of the wall that it begins with, and a line for each
+//! change since.
 //!
 //! ```text
 //! wallmirror journal 1: 03 01 03 01 01 02 00
@@ -7,9 +8,9 @@
 //! back 1
 //! ```
 //!
-//! The head has the bytes of the first wall's file. A call has its line as in a session, and its two
-//! lists; `back` has how many of the calls before it that were not yet taken back it takes back. A
-//! journal is only ever added to.
+//! The head has the bytes of that file. A call has its line as in a session, and its two lists; `back`
+//! has how many of the calls before it that were not yet taken back it takes back. A journal is only
+//! ever added to. What was before its first wall it does not know.
 
 use crate::words;
 use wallmirror::{Call, Cell, Function, Lists, Made, Mesh, Refusal, Season, Undone};
@@ -74,8 +75,8 @@ pub struct Journal {
     /// Of the season's calls, counted with those that were taken back.
     numbers: Vec<usize>,
     text: String,
-    /// The wall before the last entry, or the first wall.
-    before: Mesh,
+    /// The wall before the last entry.
+    before: Option<Mesh>,
 }
 
 impl Journal {
@@ -84,9 +85,8 @@ impl Journal {
         let bytes: Vec<String> =
             first.to_file()?.iter().map(|byte| format!("{byte:02x}")).collect();
         let text = format!("{HEAD} {}\n", bytes.join(" "));
-        let before = first.clone();
         let season = Season::new(first)?;
-        Ok(Journal { season, entries: vec![], made: 0, numbers: vec![], text, before })
+        Ok(Journal { season, entries: vec![], made: 0, numbers: vec![], text, before: None })
     }
 
     /// Makes the calls of a journal once more, and answers the journal if they list what it says, or
@@ -98,13 +98,13 @@ impl Journal {
         let head = lines.next().and_then(|(head, _)| first_file(head));
         let first = head.ok_or("line 1 is not the head of a journal")?;
         let first = Mesh::from_file(&first).map_err(|refusal| {
-            format!("the first wall in line 1 is none ({})", words::refusal(refusal))
+            format!("the wall in line 1 is none ({})", words::refusal(refusal))
         })?;
         let mut journal = Journal::begin(first).map_err(|refusal| refusal.to_string())?;
         let mut lines = lines.peekable();
         while let Some((line, number)) = lines.next() {
             if lines.peek().is_none() {
-                journal.before = journal.season.mesh().clone();
+                journal.before = Some(journal.season.mesh().clone());
             }
             journal.add_read(line).map_err(|wrong| format!("line {number} {wrong}"))?;
         }
@@ -142,9 +142,22 @@ impl Journal {
         &self.numbers
     }
 
-    /// The wall before the last entry, or the first wall.
-    pub fn before(&self) -> &Mesh {
-        &self.before
+    /// The wall before the last entry. `None` if there is no entry.
+    pub fn before(&self) -> Option<&Mesh> {
+        self.before.as_ref()
+    }
+
+    /// How many entries came after this was the wall, for the last time. `None` if it never was.
+    pub fn entries_since(&self, mesh: &Mesh) -> Option<usize> {
+        let mut again = Journal::begin(self.season.first().clone()).ok()?;
+        let mut last = (again.season.mesh() == mesh).then_some(0);
+        for line in self.text.lines().skip(1) {
+            again.add_read(line).ok()?;
+            if again.season.mesh() == mesh {
+                last = Some(again.entries.len());
+            }
+        }
+        last.map(|last| self.entries.len() - last)
     }
 
     /// What the calls that were not taken back make of the first wall.
@@ -166,8 +179,21 @@ impl Journal {
     pub fn make(&mut self, call: Call) -> Result<Lists, Refusal> {
         let before = self.season.mesh().clone();
         let lists = self.add_call(call)?;
-        self.before = before;
+        self.before = Some(before);
         Ok(lists)
+    }
+
+    /// Makes calls by cells that lead to another wall of the same plan, and adds them. The cells that
+    /// are split here alone are joined, the finest first; then those that are split there alone are
+    /// split, the coarsest first. The cells that are split in both are those of a wall of the class,
+    /// so each call changes its marks and nothing else.
+    pub fn lead_to(&mut self, mesh: &Mesh) -> Result<(), Refusal> {
+        let from = self.season.mesh().clone();
+        let levels = 0..mesh.plan.levels;
+        let joins = levels.clone().rev().map(|level| words::join(split_in(&from, mesh, level)));
+        let splits = levels.map(|level| words::split(split_in(mesh, &from, level)));
+        let mut calls = joins.chain(splits).filter(|call| !words::marks(call).is_empty());
+        calls.try_for_each(|call| self.make(call).map(drop))
     }
 
     fn add_call(&mut self, call: Call) -> Result<Lists, Refusal> {
@@ -183,7 +209,7 @@ impl Journal {
     pub fn back(&mut self, count: usize) -> Option<Vec<Undone>> {
         let before = self.season.mesh().clone();
         let undone = self.add_back(count)?;
-        self.before = before;
+        self.before = Some(before);
         Some(undone)
     }
 
@@ -202,6 +228,13 @@ impl Journal {
         self.text.push('\n');
         self.entries.push(entry);
     }
+}
+
+/// The cells of a level that are split in the one wall and not in the other.
+fn split_in(one: &Mesh, other: &Mesh, level: u32) -> Vec<u32> {
+    let cells = one.plan.cells_on(level).unwrap_or(0..0);
+    let is_split = |mesh: &Mesh, cell: u32| mesh.cells[cell as usize] == 2;
+    cells.filter(|&cell| is_split(one, cell) && !is_split(other, cell)).collect()
 }
 
 /// The bytes of the first wall's file in the head.

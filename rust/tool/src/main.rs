@@ -54,6 +54,7 @@ fn run(command: Command) -> Result<String, Failure> {
         }
         Command::Export { file, out } => commands::export(&file, out.as_deref()),
         Command::Restore { file } => commands::restore(&file),
+        Command::Accept { file } => commands::accept(&file),
     }
 }
 

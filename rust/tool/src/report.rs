@@ -10,7 +10,6 @@ use wallmirror::{Made, Mesh, Plan, Undone};
 pub fn info(wall: &Wall) -> Result<String, Failure> {
     let mesh = wall.mesh();
     let count = mesh.count().map_err(|refusal| Failure::refused(refusal, None))?;
-    let bytes = words::count(wall.file()?.len(), "byte");
     let mut text =
         format!("{}: {}\n{}", wall.name(), words::plan_and_corners(mesh.plan), table(mesh));
     text += &format!("area: {} of the last level\n", words::count(count.area, "cell"));
@@ -21,9 +20,19 @@ pub fn info(wall: &Wall) -> Result<String, Failure> {
         ),
         Err(refusal) => format!("check: {}, {}\n", refusal.number(), words::refusal(refusal)),
     };
-    text += &format!("file: {bytes}\n");
-    let calls = words::count(wall.season().calls().len(), "call");
-    Ok(text + &format!("season: {calls} to walk back\n"))
+    let file = match wall.is_half_made() {
+        true => "half-made, and the next change finishes it first".to_string(),
+        false => words::count(wall.file()?.len(), "byte"),
+    };
+    let season = match wall.has_journal() {
+        true => calls_left(wall),
+        false => "nothing is known of it, since there is no journal beside the wall".to_string(),
+    };
+    Ok(text + &format!("file: {file}\nseason: {season}\n"))
+}
+
+fn calls_left(wall: &Wall) -> String {
+    format!("{} to walk back", words::count(wall.season().calls().len(), "call"))
 }
 
 fn graded(plan: Plan) -> String {
@@ -60,23 +69,40 @@ fn part(table: &[u8], numbers: Option<Range<u32>>) -> &[u8] {
 }
 
 pub fn log(wall: &Wall) -> String {
-    let entries = wall.journal().entries();
+    let head = format!("{}: {}\n", wall.name(), words::plan_and_corners(wall.mesh().plan));
+    let end = match wall.has_journal() {
+        true => calls_left(wall),
+        false => "nothing is known of its season: there is no journal beside it".to_string(),
+    };
+    format!("{head}{}{end}\n", lines(wall).concat())
+}
+
+/// The journal behind its head.
+fn lines(wall: &Wall) -> Vec<String> {
     let kept = wall.journal().numbers();
-    let mut text = format!("{}: {}\n", wall.name(), words::plan_and_corners(wall.mesh().plan));
     let mut number = 0;
-    for entry in entries {
-        text += &match entry {
-            Entry::Back(count) => format!("      back {count}\n"),
-            Entry::Call(made) => {
-                number += 1;
-                let kept = kept.binary_search(&number).is_ok();
-                let gone = if kept { "" } else { " (walked back)" };
-                format!("{number:>5} {}{gone}\n", call(made))
-            }
-        };
-    }
-    let calls = words::count(wall.season().calls().len(), "call");
-    text + &format!("{calls} to walk back\n")
+    let mut line = |entry: &Entry| match entry {
+        Entry::Back(count) => format!("      back {count}\n"),
+        Entry::Call(made) => {
+            number += 1;
+            let kept = kept.binary_search(&number).is_ok();
+            let gone = if kept { "" } else { " (walked back)" };
+            format!("{number:>5} {}{gone}\n", call(made))
+        }
+    };
+    wall.journal().entries().iter().map(&mut line).collect()
+}
+
+/// The lines of the journal from one on, which lead to the wall as it was found.
+pub fn added(wall: &Wall, from: usize) -> String {
+    let (name, lines) = (wall.name(), &lines(wall)[from..]);
+    let calls = words::count(lines.len(), "call");
+    let lead = if lines.len() == 1 { "leads" } else { "lead" };
+    format!(
+        "{}{name}: {calls} added to its journal that {lead} to it; {}\n",
+        lines.concat(),
+        calls_left(wall)
+    )
 }
 
 fn call(Made { call, lists }: &Made) -> String {

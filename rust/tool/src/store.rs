@@ -15,6 +15,9 @@ pub const JOURNAL: &str = ".journal";
 /// The ending of a new file that has not yet taken its name.
 const NEW: &str = ".wallmirror-new";
 
+/// The ending of an old file that is about to be put back.
+const OLD: &str = ".wallmirror-old";
+
 /// A folder that one command has to itself, as long as the value lives.
 pub struct Folder {
     handle: File,
@@ -47,54 +50,72 @@ impl Folder {
 
     /// Replaces files by new ones, in this order. All are written before the first takes its name, so
     /// that a full disk changes nothing; then each name has the old bytes or the new ones at every
-    /// moment. When this returns, the new ones are on the disk, or the old ones are back, unless a
-    /// failure says otherwise. A file that was not there gets the permissions of the last one.
-    pub fn replace(&self, files: &[(&Path, &[u8])]) -> Result<(), Failure> {
-        let replaced = self.write_and_name(files);
-        if replaced.is_err() {
-            // What is left would be overwritten next time.
-            for (path, _) in files {
-                let _ = fs::remove_file(new_of(path));
-            }
-        }
-        replaced
-    }
-
-    fn write_and_name(&self, files: &[(&Path, &[u8])]) -> Result<(), Failure> {
+    /// moment, and as long as a file has not taken its name, it lies beside. When this returns, the new
+    /// ones are on the disk, or the old ones are back, unless a failure says otherwise. A file that was
+    /// not there gets the permissions of the one that it is to be like.
+    pub fn replace(&self, files: &[(&Path, &[u8])], like: &Path) -> Result<(), Failure> {
         files.iter().try_for_each(|(path, _)| may_be_written(path))?;
         let old = files.iter().map(|(path, _)| read(path, usize::MAX - 1));
         let old = old.collect::<Result<Vec<_>, _>>()?;
-        let like = files.last().map_or(Path::new(""), |(path, _)| path);
+        let mut named = 0;
+        let Err(failure) = self.write_and_name(files, like, &mut named) else {
+            return Ok(());
+        };
+        if !self.put_back(&files[..named], &old) {
+            // What lies beside is needed to finish the change.
+            let said = "; nor could the old file be put back: look at it before you go on";
+            return Err(failure.adding(said));
+        }
+        // What is left would be overwritten next time.
+        for (path, _) in files {
+            let _ = fs::remove_file(new_of(path));
+        }
+        Err(failure)
+    }
+
+    /// Counts those that have taken their names.
+    fn write_and_name(
+        &self,
+        files: &[(&Path, &[u8])],
+        like: &Path,
+        named: &mut usize,
+    ) -> Result<(), Failure> {
         files.iter().try_for_each(|(path, bytes)| write_new(path, bytes, like))?;
-        let mut named = vec![];
-        let replaced = files.iter().zip(old).try_for_each(|((path, _), old)| {
+        // All lie beside on the disk before the first takes its name.
+        self.sync().map_err(|error| cannot_write(like, &error))?;
+        files.iter().try_for_each(|(path, _)| {
             let renamed = fs::rename(new_of(path), path).and_then(|()| {
-                named.push((*path, old));
+                *named += 1;
                 self.sync()
             });
             renamed.map_err(|error| cannot_write(path, &error))
-        });
-        replaced.map_err(|failure| match self.put_back(named) {
-            true => failure,
-            false => {
-                failure.adding("; nor could the old file be put back: look at it before you go on")
-            }
         })
     }
 
-    /// Puts the old files back, the last one first, as if the command had been cut off ever earlier.
-    /// Answers whether all are there again.
-    fn put_back(&self, named: Vec<(&Path, Option<Vec<u8>>)>) -> bool {
+    /// Puts the old files back, the last one first, as if the command had been cut off ever earlier: a
+    /// new file lies beside again before the old one takes its name. Answers whether all are there
+    /// again.
+    fn put_back(&self, named: &[(&Path, &[u8])], old: &[Option<Vec<u8>>]) -> bool {
         // An earlier file must not go back before a later one.
-        named.into_iter().rev().all(|(path, old)| {
-            let is_back = match old {
-                None => fs::remove_file(path).is_ok(),
-                Some(bytes) => {
-                    write_new(path, &bytes, path).is_ok() && fs::rename(new_of(path), path).is_ok()
+        named.iter().zip(old).rev().all(|((path, new), old)| {
+            write_new(path, new, path).is_ok()
+                && self.sync().is_ok()
+                && match old {
+                    None => fs::remove_file(path).is_ok(),
+                    Some(bytes) => {
+                        write_beside(&beside(path, OLD), bytes, path).is_ok()
+                            && fs::rename(beside(path, OLD), path).is_ok()
+                    }
                 }
-            };
-            is_back && self.sync().is_ok()
+                && self.sync().is_ok()
         })
+    }
+
+    /// Gives its name to the new file that lies beside.
+    pub fn finish(&self, path: &Path) -> Result<(), Failure> {
+        may_be_written(path)?;
+        let named = fs::rename(new_of(path), path).and_then(|()| self.sync());
+        named.map_err(|error| cannot_write(path, &error))
     }
 
     /// Waits until the names are on the disk.
@@ -146,22 +167,34 @@ fn new_of(path: &Path) -> PathBuf {
     beside(path, NEW)
 }
 
+/// At most so many bytes, and one more, of the new file of a path that has not yet taken its name.
+/// `None` if no such file lies beside, or if it is a link or the like.
+pub fn half_made(path: &Path, most: usize) -> Result<Option<Vec<u8>>, Failure> {
+    let new = new_of(path);
+    match fs::symlink_metadata(&new) {
+        Ok(file) if file.is_file() => read(&new, most),
+        _ => Ok(None),
+    }
+}
+
 /// Writes the new file of a path, with owner and permissions of the old one, or of one like it.
 fn write_new(path: &Path, bytes: &[u8], like: &Path) -> Result<(), Failure> {
-    let write = || -> io::Result<()> {
-        let new = new_of(path);
-        // What was left there may be another's, or a link to somewhere else.
-        let _ = fs::remove_file(&new);
-        let mut file = File::create_new(&new)?;
-        if let Ok(old) = fs::metadata(path).or_else(|_| fs::metadata(like)) {
-            // It stays the owner's, where the one who writes it may give it away.
-            let _ = fchown(&file, Some(old.uid()), Some(old.gid()));
-            file.set_permissions(old.permissions())?;
-        }
-        file.write_all(bytes)?;
-        file.sync_all()
-    };
-    write().map_err(|error| cannot_write(path, &error))
+    // What was left there may be another's, or a link to somewhere else.
+    let _ = fs::remove_file(beside(path, OLD));
+    let like = if fs::metadata(path).is_ok() { path } else { like };
+    write_beside(&new_of(path), bytes, like).map_err(|error| cannot_write(path, &error))
+}
+
+fn write_beside(path: &Path, bytes: &[u8], like: &Path) -> io::Result<()> {
+    let _ = fs::remove_file(path);
+    let mut file = File::create_new(path)?;
+    if let Ok(old) = fs::metadata(like) {
+        // It stays the owner's, where the one who writes it may give it away.
+        let _ = fchown(&file, Some(old.uid()), Some(old.gid()));
+        file.set_permissions(old.permissions())?;
+    }
+    file.write_all(bytes)?;
+    file.sync_all()
 }
 
 pub fn cannot_write(path: &Path, error: &io::Error) -> Failure {
@@ -205,7 +238,7 @@ pub fn read(path: &Path, most: usize) -> Result<Option<Vec<u8>>, Failure> {
 /// Whether a name is one that the files beside a wall have.
 pub fn is_reserved(path: &Path) -> bool {
     let name = path.file_name().unwrap_or_default().as_encoded_bytes();
-    name.ends_with(JOURNAL.as_bytes()) || name.ends_with(NEW.as_bytes())
+    [JOURNAL, NEW, OLD].iter().any(|ending| name.ends_with(ending.as_bytes()))
 }
 
 /// The same path with an ending.

@@ -5,8 +5,9 @@
 
 mod common;
 
-use common::{assert_one_line, command, done, ran, run, words, Folder};
-use std::collections::BTreeSet;
+use common::{assert_one_line, command, done, ran, run, words, Content, Folder};
+use std::collections::{BTreeMap, BTreeSet};
+use std::ffi::OsString;
 use std::fs;
 use std::os::unix::fs::PermissionsExt;
 use std::os::unix::process::ExitStatusExt;
@@ -15,25 +16,31 @@ use std::process::{Command, Output};
 
 const WALL: &str = "march.wall";
 const JOURNAL: &str = "march.wall.journal";
+const HALF_MADE: &str = "march.wall.wallmirror-new";
 const NEW: &str = "new march.wall 3 1 3 1 1 2";
 
 /// A command that changes files, with what is there before.
 struct Change {
     before: &'static [&'static str],
-    /// What is removed or put back then.
     damage: Damage,
     line: &'static str,
 }
 
+/// What is removed or put back before the command.
+#[derive(Clone, Copy, PartialEq, Eq)]
 enum Damage {
     None,
     /// The wall is removed.
     NoWall,
-    /// The wall lacks the last line of the journal, as if a command had been cut off.
+    /// The journal is removed.
+    NoJournal,
+    /// The wall lacks the last line of the journal, as if another program had taken it back.
     OlderWall,
+    /// The same, and the new wall lies beside, as if a command had been cut off.
+    HalfMade,
 }
 
-const CHANGES: [Change; 9] = [
+const CHANGES: [Change; 13] = [
     Change { before: &[], damage: Damage::None, line: NEW },
     Change { before: &[NEW], damage: Damage::None, line: "split march.wall 0" },
     Change {
@@ -45,8 +52,12 @@ const CHANGES: [Change; 9] = [
     Change { before: &TWO, damage: Damage::None, line: "back march.wall 1" },
     Change { before: &TWO, damage: Damage::None, line: "back march.wall" },
     Change { before: &TWO, damage: Damage::NoWall, line: "restore march.wall" },
-    Change { before: &TWO, damage: Damage::OlderWall, line: "info march.wall" },
-    Change { before: &TWO, damage: Damage::OlderWall, line: "join march.wall 1 3" },
+    Change { before: &TWO, damage: Damage::NoJournal, line: "join march.wall 1 3" },
+    Change { before: &TWO, damage: Damage::NoJournal, line: "accept march.wall" },
+    Change { before: &TWO, damage: Damage::OlderWall, line: "accept march.wall" },
+    Change { before: &TWO, damage: Damage::HalfMade, line: "accept march.wall" },
+    Change { before: &TWO, damage: Damage::HalfMade, line: "join march.wall 1 3" },
+    Change { before: &TWO, damage: Damage::HalfMade, line: "back march.wall 1" },
 ];
 
 const TWO: [&str; 3] = [NEW, "split march.wall 0", "split march.wall 3"];
@@ -62,18 +73,16 @@ impl State {
     fn of(folder: &Folder) -> State {
         State { wall: folder.find(WALL), journal: folder.find(JOURNAL) }
     }
-
-    fn put(&self, folder: &Folder) {
-        folder.put(WALL, &self.wall);
-        folder.put(JOURNAL, &self.journal);
-    }
 }
 
-/// What the command finds, what it leaves when nothing disturbs it, and the first wall.
+/// What the command finds, what it leaves when nothing disturbs it, and the wall that the journal
+/// begins with.
 struct Expected {
     old: State,
     new: State,
-    /// The wall to which the old journal leads.
+    /// The half-made wall that it finds.
+    half_made: Option<Vec<u8>>,
+    /// The wall that it changes: the one of the old journal, if that is not to be left.
     between: Option<Vec<u8>>,
     first: Option<Vec<u8>>,
 }
@@ -88,37 +97,74 @@ impl Change {
             between = folder.find(WALL);
             first = first.or_else(|| between.clone());
         }
+        let half_made = between.clone().filter(|_| self.damage == Damage::HalfMade);
         match self.damage {
             Damage::None => {}
             Damage::NoWall => folder.put(WALL, &None),
-            Damage::OlderWall => folder.put(WALL, &older),
+            Damage::NoJournal => {
+                folder.put(JOURNAL, &None);
+                first = between.clone();
+            }
+            Damage::OlderWall => {
+                folder.put(WALL, &older);
+                between = older;
+            }
+            Damage::HalfMade => folder.put(WALL, &older),
         }
+        folder.put(HALF_MADE, &half_made);
         let old = State::of(&folder);
         let (_, err, status) = run(&folder, words(self.line));
         assert_eq!(status, 0, "{}: {err}", self.line);
         let new = State::of(&folder);
-        Expected { first: first.or_else(|| new.wall.clone()), old, new, between }
+        assert_eq!(folder.names(), [WALL, JOURNAL], "{}", self.line);
+        Expected { first: first.or_else(|| new.wall.clone()), old, new, half_made, between }
+    }
+
+    /// Whether the files are as they were and do not fit, so that the command is to be given again.
+    fn is_to_be_given(&self, expected: &Expected, found: &State) -> bool {
+        let does_not_fit = match self.damage {
+            Damage::None => self.before.is_empty(),
+            Damage::NoWall | Damage::OlderWall => true,
+            Damage::NoJournal | Damage::HalfMade => false,
+        };
+        does_not_fit && *found == expected.old
     }
 }
 
 impl Expected {
-    /// All that a command may leave that is cut off: a wall that its journal was ahead of is mended
-    /// first, then the journal changes, then the wall.
-    fn states(&self) -> BTreeSet<State> {
-        let Expected { old, new, between, .. } = self;
-        let mended = State { wall: between.clone(), ..old.clone() };
-        let ahead = State { wall: between.clone(), ..new.clone() };
-        // A wall that is made or restored has no time in between.
-        let made = old.wall.is_none();
-        let all = if made { vec![old, new] } else { vec![old, &mended, &ahead, new] };
-        all.into_iter().cloned().collect()
+    /// What the command finds. What others left beside stays there.
+    fn put(&self, folder: &Folder) {
+        folder.put(WALL, &self.old.wall);
+        folder.put(JOURNAL, &self.old.journal);
+        if self.half_made.is_some() {
+            folder.put(HALF_MADE, &self.half_made);
+        }
     }
 
-    /// Whether the journal is ahead of the wall.
-    fn is_ahead(&self, found: &State) -> bool {
+    /// After the change of a command that was cut off before is finished.
+    fn finished(&self) -> State {
+        State { wall: self.between.clone(), ..self.old.clone() }
+    }
+
+    /// All that a command may leave that is cut off: a half-made wall is finished first, then the
+    /// journal changes, then the wall.
+    fn states(&self) -> BTreeSet<State> {
+        let ahead = State { wall: self.between.clone(), ..self.new.clone() };
+        let restored = self.old.wall.is_none() && self.old.journal.is_some();
+        let finished = if restored { self.new.clone() } else { self.finished() };
+        [self.old.clone(), finished, ahead, self.new.clone()].into()
+    }
+
+    /// Whether the journal is ahead of the wall. Then the wall that it leads to must lie beside.
+    fn is_ahead(&self, folder: &Folder) -> bool {
+        let found = State::of(folder);
         let leads_to =
             if found.journal == self.new.journal { &self.new.wall } else { &self.between };
-        found.wall.is_some() && found.wall != *leads_to
+        let is_ahead = found.wall != *leads_to && (found != self.old || self.half_made.is_some());
+        if is_ahead {
+            assert_eq!(folder.find(HALF_MADE), *leads_to);
+        }
+        is_ahead
     }
 }
 
@@ -168,49 +214,95 @@ impl Crash {
     }
 }
 
-/// What every command finds that comes after one that was cut off: a wall and its journal, or the
-/// journal ahead, which is mended with a word about it; and the way back to the first wall.
-fn goes_on(folder: &Folder, change: &Change, expected: &Expected, found: &State) {
-    for line in ["info march.wall", "split march.wall 2", "back march.wall"] {
-        found.put(folder);
-        if found.wall.is_none() {
-            // There is no wall yet, and so the command is given again.
-            done(folder, change.line);
-        }
-        let (_, err, status) = run(folder, words(line));
-        assert_eq!(status, 0, "{line} after {}: {err}", change.line);
-        if !expected.is_ahead(found) {
-            assert_eq!(err, "", "{line} after {}", change.line);
-        } else {
-            assert_one_line(&err);
-            assert!(err.contains("lacked the last change of its journal"), "{err}");
-        }
-        let now = State::of(folder);
-        if line.starts_with("info") {
-            assert!(!expected.is_ahead(&now) && expected.states().contains(&now), "{now:?}");
-        }
-        done(folder, "back march.wall");
-        assert_eq!(folder.find(WALL), expected.first, "{line} after {}", change.line);
+/// All files of a folder, to be put there again.
+type Files = BTreeMap<OsString, Content>;
+
+fn put_all(folder: &Folder, files: &Files) {
+    for name in folder.names() {
+        fs::remove_file(folder.path(name)).expect("a file");
+    }
+    for (name, content) in files {
+        let Content::File(bytes, _) = content else { panic!("{name:?}") };
+        folder.write(name, bytes);
     }
 }
 
-/// Cuts the command off at each call. Answers what it left then, and how many calls there are.
-fn cut_off(crash: &Crash, change: &Change, how: &str) -> (BTreeSet<State>, usize) {
+/// A command that reads tells what it finds after one that was cut off, and writes nothing.
+fn is_read(folder: &Folder, change: &Change, expected: &Expected) {
+    let (ahead, files) = (expected.is_ahead(folder), folder.all());
+    let to_be_given = change.is_to_be_given(expected, &State::of(folder));
+    for command in ["info", "log", "draw", "export"] {
+        let (out, err, status) = run(folder, [command, WALL]);
+        assert_eq!(folder.all(), files, "{command} after {}", change.line);
+        assert_eq!((status, out.is_empty()), if to_be_given { (2, true) } else { (0, false) });
+        if ahead || to_be_given {
+            assert_one_line(&err);
+            let said =
+                if ahead { "is half-made, as after a command that was cut off" } else { "; " };
+            assert!(err.contains(said), "{command} after {}: {err}", change.line);
+        } else {
+            assert_eq!(err, "", "{command} after {}", change.line);
+        }
+    }
+}
+
+/// A command that changes something finishes what was cut off, with a word about it, and there is the
+/// way back to the wall that the journal begins with.
+fn goes_on(folder: &Folder, change: &Change, expected: &Expected) {
+    let (ahead, files, found) = (expected.is_ahead(folder), folder.all(), State::of(folder));
+    for line in ["split march.wall 2", "accept march.wall", "back march.wall"] {
+        put_all(folder, &files);
+        let again = change.is_to_be_given(expected, &found);
+        if again {
+            done(folder, change.line);
+        }
+        let (_, err, status) = run(folder, words(line));
+        let no_journal = found.journal.is_none() && !again;
+        let after = format!("{line} after {}: {err}", change.line);
+        assert_eq!(status, if no_journal && line.starts_with("back") { 2 } else { 0 }, "{after}");
+        if ahead {
+            assert_one_line(&err);
+            assert!(err.contains("was half-made") && err.contains("finished now"), "{after}");
+        } else if no_journal && !line.starts_with("accept") {
+            assert_one_line(&err);
+            assert!(err.contains("had no journal") || err.contains("nothing is known"), "{after}");
+        } else {
+            assert_eq!(err, "", "{after}");
+        }
+        if status == 0 {
+            done(folder, "info march.wall");
+            done(folder, "back march.wall");
+            assert_eq!(folder.find(WALL), expected.first, "{after}");
+        }
+        // A change leaves nothing beside.
+        assert!(!line.starts_with("split") || folder.names() == [WALL, JOURNAL], "{after}");
+    }
+}
+
+/// Cuts the command off at each call. Answers what it left then, in how many of these the journal was
+/// ahead, and how many calls there are.
+fn cut_off(crash: &Crash, change: &Change, how: &str) -> (BTreeSet<State>, usize, usize) {
     let expected = change.expected();
     let folder = Folder::new();
-    let mut met = BTreeSet::new();
+    let (mut met, mut ahead) = (BTreeSet::new(), BTreeSet::new());
     for at in 1.. {
         // What earlier ones left behind stays there and is to do no harm.
-        expected.old.put(&folder);
+        expected.put(&folder);
         let output = crash.run(&folder, change.line, how, at);
         let found = State::of(&folder);
         if output.status.success() {
             assert_eq!(found, expected.new, "{}", change.line);
-            return (met, at - 1);
+            return (met, ahead.len(), at - 1);
         }
         assert_eq!(output.status.signal(), Some(9), "{} at {at}: {output:?}", change.line);
         assert!(expected.states().contains(&found), "{} at {at}: {found:?}", change.line);
-        goes_on(&folder, change, &expected, &found);
+        if expected.is_ahead(&folder) {
+            ahead.insert(found.clone());
+        }
+        let files = folder.all();
+        is_read(&folder, change, &expected);
+        goes_on(&folder, change, &expected);
+        put_all(&folder, &files);
         met.insert(found);
     }
     unreachable!("a command has so many calls")
@@ -218,16 +310,27 @@ fn cut_off(crash: &Crash, change: &Change, how: &str) -> (BTreeSet<State>, usize
 
 /// The command cut off at each call meets each state that it may leave, the journal ahead among them.
 fn cut_off_everywhere(crash: &Crash, change: &Change) {
-    let (met, calls) = cut_off(crash, change, "kill");
+    let (met, ahead, calls) = cut_off(crash, change, "kill");
     let expected = change.expected();
     assert_eq!(met, expected.states(), "{}", change.line);
-    let ahead = met.iter().filter(|found| expected.is_ahead(found)).count();
-    let mends = usize::from(matches!(change.damage, Damage::OlderWall));
-    let changes = usize::from(expected.old.journal != expected.new.journal);
-    assert_eq!(ahead, mends + changes, "{}", change.line);
-    let (met, writes) = cut_off(crash, change, "half");
-    assert!(writes >= 1 && met.contains(&expected.old), "{}", change.line);
+    let finishes = usize::from(expected.half_made.is_some());
+    let Expected { old, new, between, .. } = &expected;
+    let changes = usize::from(old.journal != new.journal && new.wall != *between);
+    assert_eq!(ahead, finishes + changes, "{}", change.line);
+    let (_, _, writes) = cut_off(crash, change, "half");
+    assert_eq!(writes, change.writes(&expected), "{}", change.line);
     println!("{}: cut off at {calls} calls and inside {writes} writes", change.line);
+}
+
+impl Change {
+    /// How many files it writes: journal and wall, one of them, or none if it only gives a name.
+    fn writes(&self, Expected { old, new, .. }: &Expected) -> usize {
+        match self.line.split(' ').next() {
+            Some("restore") => 1,
+            Some("accept") => usize::from(old.journal != new.journal),
+            _ => 2,
+        }
+    }
 }
 
 #[test]
@@ -240,16 +343,14 @@ fn commands_that_are_cut_off() {
     });
 }
 
-/// The disk is full at one call: nothing is changed, and nothing is left behind. Answers how many
-/// calls there are.
+/// The disk is full at one call: nothing is changed, but that a half-made wall may have been finished
+/// before, and nothing more is left behind. Answers how many calls there are.
 fn fail(crash: &Crash, change: &Change) -> usize {
     let expected = change.expected();
     let folder = Folder::new();
-    // A wall that the journal was ahead of may have been mended before.
-    let mended = State { wall: expected.between.clone(), ..expected.old.clone() };
     for at in 1.. {
-        expected.old.put(&folder);
-        let names = folder.names();
+        expected.put(&folder);
+        let mut names = folder.names();
         let (out, err, status) = ran(crash.run(&folder, change.line, "fail", at));
         let found = State::of(&folder);
         if status == 0 {
@@ -257,16 +358,21 @@ fn fail(crash: &Crash, change: &Change) -> usize {
             return at - 1;
         }
         assert_eq!(status, 2, "{} at {at}", change.line);
-        let (mending, said) = match err.split_once('\n') {
-            Some((mending, said)) if !said.is_empty() => (mending, said),
-            _ => ("", &err[..]),
-        };
-        assert_one_line(said);
-        assert_eq!(!mending.is_empty(), found != expected.old && found == mended, "{err}");
         // Only what is read last, after all was written, comes too late.
         let too_late = err.ends_with("; the calls were walked back\n") && found == expected.new;
         assert_eq!(!out.is_empty(), too_late, "{} at {at}", change.line);
-        assert!(found == expected.old || found == mended || too_late, "{} at {at}", change.line);
+        let finished = expected.half_made.is_some() && found != expected.old;
+        if finished {
+            assert!(too_late || found == expected.finished(), "{} at {at}", change.line);
+            assert!(
+                err.contains("is finished now") || err.contains("to finish it failed"),
+                "{err}"
+            );
+            names.retain(|name| name != HALF_MADE);
+        } else {
+            assert!(too_late || found == expected.old, "{} at {at}", change.line);
+            assert_one_line(&err);
+        }
         assert!(too_late || folder.names() == names, "{} at {at}", change.line);
     }
     unreachable!("a command has so many calls")
@@ -287,10 +393,9 @@ fn a_full_disk() {
 fn fail_for_good(crash: &Crash, change: &Change) -> usize {
     let expected = change.expected();
     let folder = Folder::new();
-    let mended = State { wall: expected.between.clone(), ..expected.old.clone() };
     let mut times = 0;
     for at in 1.. {
-        expected.old.put(&folder);
+        expected.put(&folder);
         let (out, err, status) = ran(crash.run(&folder, change.line, "dead", at));
         let found = State::of(&folder);
         if status == 0 {
@@ -302,8 +407,10 @@ fn fail_for_good(crash: &Crash, change: &Change) -> usize {
         // What is read last comes too late.
         let too_late = err.ends_with("; the calls were walked back\n") && found == expected.new;
         assert_eq!(!out.is_empty(), too_late, "{} at {at}", change.line);
-        let as_it_was = found == expected.old || (found == mended && !told);
+        let as_it_was = found == expected.old || (found == expected.finished() && !told);
         assert_eq!(told, !as_it_was && !too_late, "{} at {at}: {err}", change.line);
+        // What the next command needs lies beside.
+        expected.is_ahead(&folder);
         times += usize::from(told);
     }
     unreachable!("a command has so many calls")
@@ -315,7 +422,7 @@ fn a_disk_that_fails_for_good() {
     for change in &CHANGES {
         let times = fail_for_good(&crash, change);
         println!("{}: could not put the old files back {times} times", change.line);
-        assert!(times > 0, "{}", change.line);
+        assert_eq!(times > 0, change.writes(&change.expected()) > 0, "{}", change.line);
     }
 }
 
@@ -325,7 +432,7 @@ fn fail_and_cut_off(crash: &Crash, change: &Change, at: usize) -> usize {
     let expected = change.expected();
     let folder = Folder::new();
     for then in at + 1.. {
-        expected.old.put(&folder);
+        expected.put(&folder);
         let more = [("CRASH_AT", at), ("CRASH_THEN", then)];
         let output = crash.run_with(&folder, change.line, "fail", &more);
         let found = State::of(&folder);
@@ -334,6 +441,10 @@ fn fail_and_cut_off(crash: &Crash, change: &Change, at: usize) -> usize {
             return then - at - 1;
         }
         assert!(expected.states().contains(&found), "{} at {at}, {then}", change.line);
+        is_read(&folder, change, &expected);
+        let files = folder.all();
+        goes_on(&folder, change, &expected);
+        put_all(&folder, &files);
     }
     unreachable!("a command has so many calls")
 }
@@ -352,23 +463,26 @@ fn cut_off_while_old_files_are_put_back() {
     }
 }
 
-/// A file is on the disk before it gets its name, and the journal has its name there before the wall.
+/// All files lie beside on the disk before the first gets its name, and the journal has its name there
+/// before the wall.
 #[test]
 fn files_are_on_the_disk_in_order() {
     let crash = Crash::compile();
     for change in &CHANGES {
         let expected = change.expected();
         let folder = Folder::new();
-        expected.old.put(&folder);
+        expected.put(&folder);
         let mut calls = crash.calls(&folder, change.line);
         calls.retain(|name| ["write", "fsync", "rename"].contains(&name.as_str()));
         let mut in_order = vec![];
-        if expected.old.wall != expected.between || expected.old.wall.is_none() {
-            in_order.extend(["write", "fsync", "rename", "fsync"]);
+        if expected.half_made.is_some() {
+            in_order.extend(["rename", "fsync"]);
         }
-        if expected.old.journal != expected.new.journal {
-            in_order.extend(["write", "fsync", "write", "fsync"]);
-            in_order.extend(["rename", "fsync", "rename", "fsync"]);
+        let writes = change.writes(&expected);
+        if writes > 0 {
+            in_order.extend(["write", "fsync"].repeat(writes));
+            in_order.push("fsync");
+            in_order.extend(["rename", "fsync"].repeat(writes));
         }
         assert_eq!(calls, in_order, "{}", change.line);
     }
@@ -384,12 +498,12 @@ fn folders_that_cannot_do_all() {
     let folder = Folder::new();
     let change = &CHANGES[2];
     let expected = change.expected();
-    expected.old.put(&folder);
+    expected.put(&folder);
     let calls = crash.calls(&folder, change.line);
     let mut borne = vec![];
     for (name, at) in calls.iter().zip(1..) {
         for error in [UNSUPPORTED, INVALID, NO_LOCKS] {
-            expected.old.put(&folder);
+            expected.put(&folder);
             let more = [("CRASH_AT", at), ("CRASH_ERROR", error)];
             let (_, err, status) = ran(crash.run_with(&folder, change.line, "fail", &more));
             let left = if status == 0 { &expected.new } else { &expected.old };
@@ -397,7 +511,7 @@ fn folders_that_cannot_do_all() {
             borne.extend((status == 0).then_some((name.as_str(), error)));
         }
     }
-    let waits = [("fsync", UNSUPPORTED), ("fsync", INVALID)].repeat(2);
+    let waits = [("fsync", UNSUPPORTED), ("fsync", INVALID)].repeat(3);
     let locks = vec![("flock", UNSUPPORTED), ("flock", NO_LOCKS)];
     assert_eq!(borne, [locks, waits].concat());
 }
