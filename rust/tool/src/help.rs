@@ -216,7 +216,7 @@ pub fn overview() -> String {
         text += &format!("  {command:width$}{gap}  {about}\n");
     }
     text + "\nThe journal of a wall is FILE.journal. 'wallmirror COMMAND --help' says more of a command,
-'wallmirror --version' tells the version. A FILE that begins with '-' is given behind '--'.
+'wallmirror --version' tells the version. A FILE that begins with '-' is given after '--'.
 Exit status: 0, 1 for a refusal of the library, 2 for bad input or files.
 "
 }

@@ -122,7 +122,7 @@ impl Wall {
                     1 => "change".to_string(),
                     _ => words::count(entries, "change"),
                 };
-                format!("lacks the last {changes} of its journal, as after calls of another program or as an older copy does")
+                format!("lacks the last {changes} of its journal, as after calls of another program or with an older copy")
             }
         };
         Failure::bad(format!("'{name}' {seen}; put the right file back, or 'wallmirror accept' keeps the wall and adds calls that lead to it to the journal, or move the wall away and 'wallmirror restore' writes the one of the journal"))

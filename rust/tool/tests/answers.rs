@@ -191,5 +191,8 @@ fn many_marks() {
     let report = done(&folder, "back march.wall");
     assert!(report.contains("call 1, split 255 254 253"), "{report}");
     assert!(report.contains("(512 in all): join 0 1 2"), "{report}");
-    assert!(report.ends_with("is the first wall, byte for byte (13 bytes)\n"), "{report}");
+    assert!(
+        report.ends_with("is the wall that its journal begins with, byte for byte (13 bytes)\n"),
+        "{report}"
+    );
 }

@@ -13,12 +13,12 @@ use std::process::{Command, Stdio};
 const NEW: &str = "new march.wall 3 1 3 1 1 2";
 
 /// The commands that read a wall.
-const READING: [&str; 9] =
-    ["info", "split", "join", "fsplit", "fjoin", "back", "log", "draw", "export"];
+const READING: [&str; 10] =
+    ["info", "split", "join", "fsplit", "fjoin", "back", "log", "draw", "export", "accept"];
 
-const ALL: [&str; 12] = [
+const ALL: [&str; 13] = [
     "new", "info", "split", "join", "fsplit", "fjoin", "back", "log", "draw", "export", "restore",
-    "help",
+    "accept", "help",
 ];
 
 /// A folder in which these lines were run.
@@ -46,12 +46,13 @@ fn set_mode(folder: &Folder, name: &str, mode: u32) {
 #[test]
 fn calls_and_the_way_back() {
     let folder = after(&[NEW]);
-    assert_eq!(folder.names(), ["march.wall"]);
+    assert_eq!(folder.names(), ["march.wall", "march.wall.journal"]);
     assert_eq!(folder.read("march.wall"), [3, 1, 3, 1, 1, 2, 0]);
-    // What only reads begins no journal.
-    for command in ["info", "log", "draw", "export", "back"] {
+    assert_eq!(folder.read("march.wall.journal"), b"wallmirror journal 1: 03 01 03 01 01 02 00\n");
+    let before = folder.all();
+    for command in ["info", "log", "draw", "export", "back", "accept"] {
         done(&folder, &format!("{command} march.wall"));
-        assert_eq!(folder.names(), ["march.wall"], "{command}");
+        assert_eq!(folder.all(), before, "{command}");
     }
     for (line, printed) in [
         ("split march.wall 0", "0;0;0 4\n"),
@@ -75,10 +76,8 @@ fn calls_and_the_way_back() {
     done(&folder, "back march.wall");
     assert_eq!(folder.read("march.wall"), [3, 1, 3, 1, 1, 2, 0]);
     let again = done(&folder, "back march.wall");
-    assert_eq!(
-        again,
-        "nothing to walk back: march.wall is the first wall, byte for byte (7 bytes)\n"
-    );
+    let said = "march.wall is the wall that its journal begins with, byte for byte (7 bytes)";
+    assert_eq!(again, format!("nothing to walk back: {said}\n"));
     assert_eq!(folder.names(), ["march.wall", "march.wall.journal"]);
 }
 
@@ -119,7 +118,7 @@ fn command_lines_that_are_wrong() {
         bad(&folder, line, &["there is no command '", "'wallmirror --help' lists them"]);
     }
     bad(&folder, "help new info", &["too many words; usage: wallmirror help"]);
-    for command in &ALL[..11] {
+    for command in &ALL[..12] {
         let usage = format!("; usage: wallmirror {command} FILE");
         for arguments in [&[*command][..], &[command, ""], &[command, "--"]] {
             let missing = "the name of the wall's file is missing";
@@ -130,7 +129,7 @@ fn command_lines_that_are_wrong() {
             bad(&folder, &format!("{command} {option} march.wall"), &[&said, &usage]);
         }
     }
-    for command in ["info", "log", "draw", "export", "restore"] {
+    for command in ["info", "log", "draw", "export", "restore", "accept"] {
         let said = ["'0' is one word too many; usage: wallmirror ", command];
         bad(&folder, &format!("{command} march.wall 0"), &said);
     }
@@ -275,12 +274,14 @@ fn new_walls_that_cannot_be_made() {
         bad(name, &[&format!("there is a file '{name}' already; move it away or give")]);
     }
     fs::rename(folder.path("march.wall"), folder.path("moved")).expect("a file");
-    bad("march.wall", &["there is a journal 'march.wall.journal' already; move it away or give"]);
+    bad("march.wall", &["there is a journal 'march.wall.journal' already; 'wallmirror restore'"]);
     bad("no/a.wall", &["there is no folder 'no'; make it first or give the file another name"]);
     for name in ["..", "april/.."] {
         bad(name, &[&format!("'{name}' is no name for a file; give another one")]);
     }
-    for name in ["may.wall.journal", "may.wall.wallmirror-new", "april/.journal"] {
+    for name in
+        ["may.wall.journal", "may.wall.wallmirror-new", "may.wallmirror-old", "april/.journal"]
+    {
         bad(name, &[&format!("'{name}' has the ending of what lies beside a wall; give")]);
     }
     bad("may.wall/", &["'may.wall/' is a folder, not a file; usage: "]);
@@ -309,8 +310,10 @@ fn leftovers_do_no_harm() {
         folder.write(name, vec![b'x'; 10_000]);
         set_mode(&folder, name, 0o400);
     }
+    folder.write("march.wall.wallmirror-old", "x");
     done(&folder, "info march.wall");
     done(&folder, "back march.wall");
+    assert_eq!(folder.names(), ["march.wall", "march.wall.journal", "other"]);
     assert_eq!(folder.read("march.wall"), [3, 1, 3, 1, 1, 2, 0]);
     assert_eq!(mode(&folder, "march.wall"), mode(&folder, "other"));
     // A folder of that name is in the way.
@@ -381,9 +384,13 @@ fn permissions_stay() {
     assert_eq!(mode(&folder, "a.svg"), 0o664);
     // A journal is begun with those of its wall.
     done(&folder, "new april.wall 1 1 2 1 1 0");
-    set_mode(&folder, "april.wall", 0o600);
-    done(&folder, "split april.wall 0");
-    assert_eq!((mode(&folder, "april.wall"), mode(&folder, "april.wall.journal")), (0o600, 0o600));
+    for command in ["split", "accept"] {
+        fs::remove_file(folder.path("april.wall.journal")).expect("a file");
+        set_mode(&folder, "april.wall", 0o600);
+        assert_eq!(run(&folder, [command, "april.wall"]).2, 0);
+        let modes = ["april.wall", "april.wall.journal"].map(|name| mode(&folder, name));
+        assert_eq!(modes, [0o600, 0o600], "{command}");
+    }
 }
 
 #[test]
@@ -442,7 +449,7 @@ fn pictures_that_would_take_the_place_of_others() {
             "' is the name of what lies beside a wall; give '-o' another name",
         );
     }
-    for out in ["a.wallmirror-new", "april/a.wallmirror-new/."] {
+    for out in ["a.wallmirror-new", "a.wallmirror-old", "april/a.wallmirror-new/."] {
         no_picture(
             &folder,
             out,
@@ -499,9 +506,8 @@ fn walls_through_links_and_in_other_folders() {
     assert_eq!(folder.names(), names);
     assert_eq!(folder.all()[OsStr::new("link")], Content::Link("april/a.wall".into()));
     assert!(done(&folder, "log link").starts_with("link: 3 by 1 cells"));
-    assert!(
-        done(&folder, "back link").ends_with("link is the first wall, byte for byte (7 bytes)\n")
-    );
+    assert!(done(&folder, "back link")
+        .ends_with("link is the wall that its journal begins with, byte for byte (7 bytes)\n"));
     assert_eq!(folder.read("april/a.wall"), [3, 1, 3, 1, 1, 2, 0]);
 }
 
@@ -584,13 +590,15 @@ fn nobody_reads_what_is_printed() {
         let output = command(&folder, words(line)).stderr(closed_pipe()).output().expect("starts");
         assert_eq!(ran(output), (printed.into(), String::new(), status), "{line}");
     }
-    // The wall lacks the last change, and nobody hears that it is mended.
+    // The wall lacks the last change, and nobody hears that it is finished.
     let wall = folder.read("march.wall");
     done(&folder, "split march.wall 2");
+    fs::rename(folder.path("march.wall"), folder.path("march.wall.wallmirror-new")).expect("ours");
     folder.write("march.wall", wall);
-    let output =
-        command(&folder, ["log", "march.wall"]).stderr(closed_pipe()).output().expect("starts");
-    assert_eq!(ran(output).2, 0);
+    for line in ["log march.wall", "split march.wall"] {
+        let output = command(&folder, words(line)).stderr(closed_pipe()).output().expect("starts");
+        assert_eq!(ran(output).2, 0, "{line}");
+    }
     done(&folder, "info march.wall");
 }
 

@@ -12,6 +12,7 @@ use wallmirror::{Cell, Mesh};
 
 const FILE: &str = "march.wall";
 const JOURNAL: &str = "march.wall.journal";
+const HALF_MADE: &str = "march.wall.wallmirror-new";
 
 /// The file of the first wall, and that after each line behind the head.
 struct Replayed(Vec<Vec<u8>>);
@@ -179,7 +180,9 @@ fn there_and_back(seed: u64, plan: Plan) -> usize {
     let report = done(&season.folder, &format!("back {FILE}"));
     assert_eq!(report.lines().count(), left + 1);
     assert_same(&report);
-    let end = format!("{FILE} is the first wall, byte for byte ({} bytes)\n", first.len());
+    let bytes = first.len();
+    let end =
+        format!("{FILE} is the wall that its journal begins with, byte for byte ({bytes} bytes)\n");
     assert!(report.ends_with(&end), "{report}");
     assert_eq!(season.folder.read(FILE), first);
     season.calls
@@ -227,9 +230,9 @@ fn lines_of_another_program() {
 enum Meaning {
     /// The journal leads to the wall.
     Fits,
-    /// It has one line more than the wall, as after a command that was cut off.
+    /// It has one line more than the wall, as if a command had been cut off or the wall taken back.
     Ahead,
-    /// Another wall, or no journal at all: it is found, and nothing is done.
+    /// Another wall, or a journal that is none: it is found, and nothing is done.
     Found,
 }
 
@@ -251,27 +254,43 @@ fn meaning(wall: &[u8], journal: &[u8]) -> Meaning {
 fn try_files(folder: &Folder, wall: &[u8], journal: &[u8]) -> Meaning {
     folder.write(FILE, wall);
     folder.write(JOURNAL, journal);
+    let meaning = meaning(wall, journal);
+    let said = String::from_utf8_lossy(journal);
+    if meaning == Meaning::Fits {
+        assert_eq!(log_as_it_is(folder).1, ("".to_string(), 0), "{said}");
+        return meaning;
+    }
+    let (out, (err, status)) = log_as_it_is(folder);
+    assert_eq!((out.as_str(), status), ("", 2), "{said}{err}");
+    assert_one_line(&err);
+    assert!(err.contains(" away"), "{err}");
+    if meaning == Meaning::Ahead {
+        assert!(err.contains(" lacks the last change of its journal, "), "{said}{err}");
+        is_finished(folder, wall, journal);
+    }
+    meaning
+}
+
+/// What `log` prints and says. It changes nothing.
+fn log_as_it_is(folder: &Folder) -> (String, (String, i32)) {
     let before = folder.all();
     let (out, err, status) = run(folder, ["log", FILE]);
-    let said = String::from_utf8_lossy(journal);
-    let meaning = meaning(wall, journal);
-    match meaning {
-        Meaning::Fits => assert_eq!((err.as_str(), status), ("", 0), "{said}"),
-        Meaning::Ahead => {
-            assert_eq!(status, 0, "{said}{err}");
-            assert!(err.contains("lacked the last change"), "{said}{err}");
-            let Replayed(files) = replay(journal).expect("a journal");
-            assert_eq!(Some(&folder.read(FILE)), files.last());
-            assert_eq!(folder.read(JOURNAL), journal);
-        }
-        Meaning::Found => {
-            assert_eq!((out.as_str(), status), ("", 2), "{said}{err}");
-            assert_one_line(&err);
-            assert!(err.contains(" away"), "{err}");
-        }
-    }
-    assert!(meaning == Meaning::Ahead || folder.all() == before, "{said}");
-    meaning
+    assert_eq!(folder.all(), before, "{err}");
+    (out, (err, status))
+}
+
+/// With the half-made wall beside, as a command that was cut off leaves it, the journal is right.
+fn is_finished(folder: &Folder, wall: &[u8], journal: &[u8]) {
+    let Replayed(files) = replay(journal).expect("a journal");
+    let last = files.last().expect("a wall");
+    folder.write(HALF_MADE, last);
+    let (_, (err, status)) = log_as_it_is(folder);
+    assert!(err.contains("is half-made") && status == 0, "{err}");
+    let (_, err, status) = run(folder, ["accept", FILE]);
+    assert!(err.contains("is finished now") && status == 0, "{err}");
+    assert_eq!((folder.read(FILE), folder.read(JOURNAL)), (last.clone(), journal.to_vec()));
+    assert_eq!(folder.names(), [FILE, JOURNAL]);
+    folder.write(FILE, wall);
 }
 
 /// A season of a few lines of all kinds, one of them a way back.
@@ -316,7 +335,7 @@ fn bytes_of_a_journal_that_are_changed() {
             if changed != journal {
                 *seen.entry(meaning).or_insert(0) += 1;
             }
-            if meaning != Meaning::Found {
+            if meaning == Meaning::Fits {
                 assert_same(&done(folder, &format!("back {FILE}")));
                 assert_eq!(folder.read(FILE), season.first());
             }
@@ -381,7 +400,7 @@ fn journals_that_are_cut_or_longer() {
     {
         assert_eq!(more(line), Found, "{line}");
     }
-    // These are lines that a command wrote before it was cut off.
+    // These are lines that a command may write before it is cut off.
     assert_eq!((more("back 1"), more("back 5")), (Ahead, Ahead));
 }
 
@@ -425,7 +444,7 @@ fn journals_in_another_spelling() {
     assert_eq!(tried(&season, &wall, season.journal.clone().into()), Meaning::Fits);
 }
 
-/// An older wall in the place of the wall is found, unless it is the one before the last line.
+/// An older wall in the place of the wall is found.
 #[test]
 fn older_walls_and_other_journals() {
     let season = short_season();
@@ -435,7 +454,7 @@ fn older_walls_and_other_journals() {
     let mut seen = std::collections::BTreeSet::new();
     for wall in &files {
         let meaning = try_files(folder, wall, journal);
-        if meaning == Meaning::Found {
+        if meaning != Meaning::Fits {
             for line in ["info", "split", "back", "draw", "export", "restore"] {
                 bad(folder, &format!("{line} {FILE}"), &[" away"]);
             }
@@ -451,9 +470,11 @@ fn older_walls_and_other_journals() {
     let empty = season.journal.lines().next().map(|head| format!("{head}\n")).expect("a head");
     assert_eq!(try_files(folder, last, empty.as_bytes()), Meaning::Found);
     assert_eq!(try_files(folder, &files[0], empty.as_bytes()), Meaning::Fits);
-    // Without its journal any wall begins a new season.
+    // Without its journal any wall begins a new one.
     folder.write(FILE, &files[2]);
     fs::remove_file(folder.path(JOURNAL)).expect("the journal");
-    assert_eq!(done(folder, &format!("split {FILE}")), "0;;\n");
+    let (out, err, status) = run(folder, ["split", FILE]);
+    assert_eq!((out.as_str(), status), ("0;;\n", 0));
+    assert!(err.contains("had no journal; one begins with the wall as it was found"), "{err}");
     assert_eq!(replay(&folder.read(JOURNAL)).expect("a journal").0[0], files[2]);
 }
