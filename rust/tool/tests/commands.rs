@@ -368,6 +368,17 @@ fn files_that_may_not_be_written() {
         // A call that is refused is refused.
         refused(&folder, "split march.wall 0", "8;;\n", 8, "cell 0 is split already");
     }
+    // Nor is a half-made change finished then.
+    let folder = march();
+    let older = folder.read("march.wall");
+    done(&folder, "split march.wall 2");
+    fs::copy(folder.path("march.wall"), folder.path("march.wall.wallmirror-new")).expect("a copy");
+    folder.write("march.wall", older);
+    set_mode(&folder, "march.wall", 0o444);
+    for line in ["split march.wall 2", "accept march.wall", "back march.wall"] {
+        let said = ["' is half-made, as after", "to finish it failed", "'chmod u+w' allows it"];
+        bad(&folder, line, &said);
+    }
 }
 
 #[test]

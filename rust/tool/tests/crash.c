@@ -5,6 +5,7 @@
      fail   lets that one call fail for want of room on the disk, or with the error CRASH_ERROR, and
             ends the process before call number CRASH_THEN, if it comes so far;
      dead   lets that call fail and all that follow;
+     full   the same, but files can be removed;
      list   does nothing; here the name of every call is written to standard error. */
 #define _GNU_SOURCE
 #include <dlfcn.h>
@@ -43,7 +44,8 @@ static int fails(const char *name)
     count++;
     if (count == number("CRASH_THEN") || (count == number("CRASH_AT") && !strcmp(how(), "kill")))
         raise(SIGKILL);
-    if (count < number("CRASH_AT") || (count > number("CRASH_AT") && strcmp(how(), "dead")))
+    int for_good = !strcmp(how(), "dead") || !strcmp(how(), "full");
+    if (count < number("CRASH_AT") || (count > number("CRASH_AT") && !for_good))
         return 0;
     errno = number("CRASH_ERROR") ? number("CRASH_ERROR") : ENOSPC;
     return 1;
@@ -101,7 +103,8 @@ int unlink(const char *path)
 {
     NEXT(int, "unlink", (const char *));
     /* What is removed need not be there, so that a failure would go unseen. */
-    return inside(path) && strcmp(how(), "fail") && fails("unlink") ? -1 : next(path);
+    int removes = !strcmp(how(), "fail") || !strcmp(how(), "full");
+    return inside(path) && !removes && fails("unlink") ? -1 : next(path);
 }
 
 ssize_t write(int handle, const void *bytes, size_t length)

@@ -390,13 +390,13 @@ fn a_full_disk() {
 
 /// A disk that fails for good from one call on. Where the old files cannot be put back, that is said.
 /// Answers how often it was.
-fn fail_for_good(crash: &Crash, change: &Change) -> usize {
+fn fail_for_good(crash: &Crash, change: &Change, how: &str) -> usize {
     let expected = change.expected();
     let folder = Folder::new();
     let mut times = 0;
     for at in 1.. {
         expected.put(&folder);
-        let (out, err, status) = ran(crash.run(&folder, change.line, "dead", at));
+        let (out, err, status) = ran(crash.run(&folder, change.line, how, at));
         let found = State::of(&folder);
         if status == 0 {
             return times;
@@ -420,9 +420,11 @@ fn fail_for_good(crash: &Crash, change: &Change) -> usize {
 fn a_disk_that_fails_for_good() {
     let crash = Crash::compile();
     for change in &CHANGES {
-        let times = fail_for_good(&crash, change);
-        println!("{}: could not put the old files back {times} times", change.line);
-        assert_eq!(times > 0, change.writes(&change.expected()) > 0, "{}", change.line);
+        for how in ["dead", "full"] {
+            let times = fail_for_good(&crash, change, how);
+            println!("{}: could not put the old files back {times} times", change.line);
+            assert_eq!(times > 0, change.writes(&change.expected()) > 0, "{}", change.line);
+        }
     }
 }
 
