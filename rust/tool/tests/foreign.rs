@@ -337,6 +337,25 @@ fn changes() {
     });
 }
 
+/// Each of the four calls, without marks: the wall stays as it is, and the journal gets the line.
+#[test]
+fn calls_without_marks() {
+    for word in ["split", "join", "fsplit", "fjoin"] {
+        each(|found| {
+            let line = &format!("{word} {WALL}");
+            let journal = || String::from_utf8(found.bytes(JOURNAL)).expect("text");
+            let (wall, old) = match found.seen {
+                Seen::Fits => (found.bytes(WALL), journal()),
+                Seen::NoJournal => (found.bytes(WALL), head(&found.bytes(WALL))),
+                Seen::HalfMade(at) => (found.walls.files[at].clone(), journal()),
+                seen => return found.bad(line, part(seen)),
+            };
+            found.done(line);
+            found.left(line, &wall, &format!("{old}{word};;\n"));
+        });
+    }
+}
+
 #[test]
 fn ways_back() {
     let line = "back march.wall";
