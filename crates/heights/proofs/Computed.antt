@@ -95,9 +95,9 @@ answerTo plan refinedCells n f x y =
 abbrev pub bits : ℕ → Height
 bits b = At (ofBits binary64 b)
 
--- document 01's W0, with cells 0 and 1 refined as P3 leaves it: 94 functions
-abbrev pub afterP3 : (ℕ → ℤ) → ℕ → ℕ → Height
-afterP3 = answerTo (3 ∷ 1 ∷ 3 ∷ 1 ∷ 1 ∷ 0 ∷ []) (0 ∷ 1 ∷ []) 94
+-- one cell of two levels, refined, as above; after document 01's P3 answers are computed in `nudge`
+abbrev pub onFiner : (ℕ → ℤ) → ℕ → ℕ → Height
+onFiner = answerTo (1 ∷ 1 ∷ 2 ∷ 1 ∷ 1 ∷ 0 ∷ []) (0 ∷ []) 13
 
 -- one cell, degrees 2 and 2, two levels, nothing refined: 25 functions; and plans that heights do not allow
 abbrev pub oneCell : (ℕ → ℤ) → ℕ → ℕ → Height
@@ -109,25 +109,25 @@ pub worked :
     ∷ answerTo (2 ∷ 1 ∷ 1 ∷ 2 ∷ 1 ∷ 0 ∷ []) [] 8 (λ f. pos 7) 5 3
     ∷ answerTo (2 ∷ 1 ∷ 1 ∷ 2 ∷ 1 ∷ 0 ∷ []) [] 8 (λ f. pos 7) 8 8
     ∷ answerTo (2 ∷ 1 ∷ 1 ∷ 2 ∷ 1 ∷ 0 ∷ []) [] 8 (λ f. pos 7) 16 8
-    -- after P3 function 9, of level 1, with 16 sixteenths: 1 mm at its top, half of it beside and above, an eighth, nothing
-    ∷ afterP3 (only 9 (pos 16)) 16 0
-    ∷ afterP3 (only 9 (pos 16)) 8 0
-    ∷ afterP3 (only 9 (pos 16)) 16 8
-    ∷ afterP3 (only 9 (pos 16)) 4 8
-    ∷ afterP3 (only 9 (pos 16)) 40 0
-    -- the last function of level 0 is 1 in the far corner: -5 mm; nothing lies beyond
-    ∷ afterP3 (only 7 (negsuc 4)) 96 32
-    ∷ afterP3 (only 7 (negsuc 4)) 97 32
-    ∷ afterP3 (only 7 (negsuc 4)) 96 33
+    -- function 8, of level 1, with 16 sixteenths: 1 mm at its top, half of it beside and above, an eighth, nothing on its edge
+    ∷ onFiner (only 8 (pos 16)) 8 8
+    ∷ onFiner (only 8 (pos 16)) 4 8
+    ∷ onFiner (only 8 (pos 16)) 8 12
+    ∷ onFiner (only 8 (pos 16)) 2 12
+    ∷ onFiner (only 8 (pos 16)) 16 8
+    -- the last function is 1 in the far corner: -80 sixteenths are -5 mm; nothing lies beyond
+    ∷ onFiner (only 12 (negsuc 79)) 16 16
+    ∷ onFiner (only 12 (negsuc 79)) 17 16
+    ∷ onFiner (only 12 (negsuc 79)) 16 17
     -- degree 2: 3 mm times 3/8 times 1/2
     ∷ oneCell (only 4 (pos 3)) 4 8
-    -- 65,536 mm and no more, either way, on level 1 in sixteenths; function 1 is deactivated after P3, and its height ignored
+    -- 65,536 mm and no more, either way, on level 1 in sixteenths; function 0 is deactivated there, and its height ignored
     ∷ oneCell (only 4 (pos 65536)) 0 0
     ∷ oneCell (only 4 (pos 65537)) 0 0
     ∷ oneCell (only 4 (negsuc 65536)) 0 0
-    ∷ afterP3 (only 9 (pos 1048576)) 16 0
-    ∷ afterP3 (only 9 (pos 1048577)) 16 0
-    ∷ afterP3 (only 1 (pos 2147483647)) 16 0
+    ∷ onFiner (only 8 (pos 1048576)) 8 8
+    ∷ onFiner (only 8 (pos 1048577)) 8 8
+    ∷ onFiner (only 0 (pos 2147483647)) 0 0
     -- 3 before 14 before 15: too few heights of degree 3, a point beyond a mesh of degree 3, one beyond five levels
     ∷ answerTo (1 ∷ 1 ∷ 1 ∷ 2 ∷ 3 ∷ 0 ∷ []) [] 11 (λ f. pos 0) 9 0
     ∷ answerTo (1 ∷ 1 ∷ 1 ∷ 2 ∷ 3 ∷ 0 ∷ []) [] 12 (λ f. pos 0) 9 0

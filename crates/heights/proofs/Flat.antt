@@ -30,7 +30,7 @@ use Rattle.mesh.proofs.Fresh.{fresh-checked}
 use Rattle.tables.specs.Entries.{freshByte}
 use Rattle.tables.proofs.Calls.{first-level}
 use Rattle.heights.specs.declared.Height.the-variants.{At}
-use Rattle.heights.specs.Heights.{onMesh, valueAt, oneAt, productOf, heightSum, places, inexact, low, allLow, answer, lowOn, productAt}
+use Rattle.heights.specs.Heights.{onMesh, valueAt, oneAt, productOf, heightSum, places, inexact, low, allLow, answer, numberOf, heightOf, lowOn, productAt}
 use Rattle.heights.specs.Demands.{Flat}
 use Rattle.heights.specs.Steps.{Point}
 use Rattle.heights.proofs.Points.{millimetre}
@@ -104,4 +104,5 @@ module _ (p : Plan) (range : InRange p) (small : cellTotal p ≤ mostCells) (exa
 pub flat : (p : Plan) → inRange p ≡ true → tooLarge p ≡ false → inexact p ≡ false → Flat p
 unfolding tooLarge
 flat p r t e heights h x y sized low-h flat-h on =
-    flat-at p (in-range p (true-T _ r)) (ltb-false mostCells (cellTotal p) t) e heights h x y sized low-h flat-h on
+    let a = flat-at p (in-range p (true-T _ r)) (ltb-false mostCells (cellTotal p) t) e heights h x y sized low-h flat-h on in
+    (ap numberOf a, ap heightOf a)

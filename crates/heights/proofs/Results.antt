@@ -45,6 +45,10 @@ number-of : (n : ℕ) (h : Float) → numberOf (cond (eqb n 0) (At h) (Refused n
 number-of zero h = refl
 number-of (suc n) h = rw (eqb·suc-zero n)
 
+told-of : (n : ℕ) (h : Float) → let a = cond (eqb n 0) (At h) (Refused n) in a ≡ cond (eqb (numberOf a) 0) (At (heightOf a)) (Refused (numberOf a))
+told-of zero h = refl
+told-of (suc n) h = rw (eqb·suc-zero n) (rw (eqb·suc-zero n) refl)
+
 module _ (p : Plan) (cells functions : List ℕ) (heights : List ℤ) (x y : ℕ) where
   pub answer-is : refusal p cells functions heights x y ≡ 0 → answer p cells functions heights x y ≡ At (dyadic (places (p .levels)) (heightSum p functions heights x y))
   unfolding answer
@@ -67,32 +71,36 @@ module _ (p : Plan) (cells functions : List ℕ) (heights : List ℤ) (x y : ℕ
     number = unfold answer in number-of (refusal p cells functions heights x y) _;
     value = λ e. rw (answer-is e) (dyadic-value (places (p .levels)) (heightSum p functions heights x y));
     bits = λ e. lt-of-le-of-lt (small (accepted e)) (lit< tt);
+    told = unfold answer in told-of (refusal p cells functions heights x y) _;
   }
 
 -- ---- what an answer says
 
-module _ (p : Plan) (cells functions : List ℕ) (heights : List ℤ) (x y : ℕ) (h : Float) (is : answer p cells functions heights x y ≡ At h) where
+module _ (p : Plan) (cells functions : List ℕ) (heights : List ℤ) (x y : ℕ) (is : numberOf (answer p cells functions heights x y) ≡ 0) where
+  abbrev h : Float
+  h = heightOf (answer p cells functions heights x y)
+
   none : refusal p cells functions heights x y ≡ 0
-  none = sym (answered p cells functions heights x y .number) ∙ ap numberOf is
+  none = sym (answered p cells functions heights x y .number) ∙ is
 
   pub surface : OnSurface p functions heights x y
   surface = accepted p cells functions heights x y none
 
   pub float : h ≡ dyadic (places (p .levels)) (heightSum p functions heights x y)
-  float = ap heightOf (sym is ∙ answer-is p cells functions heights x y none)
+  float = ap heightOf (answer-is p cells functions heights x y none)
 
   pub exact-value : HasValue h (negative (heightSum p functions heights x y)) (natAbs (heightSum p functions heights x y)) (2 ^ places (p .levels))
   exact-value = rw float (dyadic-value (places (p .levels)) (heightSum p functions heights x y))
 
 -- one less another
 pub differences : Subtracted
-differences p cells functions heights x y cells′ functions′ heights′ x′ y′ h h′ old new =
+differences p cells functions heights x y cells′ functions′ heights′ x′ y′ old new =
     let a = heightSum p functions heights x y in
     let b = heightSum p functions′ heights′ x′ y′ in
-    let s = surface p cells functions heights x y h old in
-    let s′ = surface p cells′ functions′ heights′ x′ y′ h′ new in
+    let s = surface p cells functions heights x y old in
+    let s′ = surface p cells′ functions′ heights′ x′ y′ new in
     let m : natAbs (b -ℤ a) ≤ 72 * most = omega (arith, abs-add b (negℤ a), abs-neg a, small p cells functions heights x y s, small p cells′ functions′ heights′ x′ y′ s′) in
-    rw (float p cells functions heights x y h old, float p cells′ functions′ heights′ x′ y′ h′ new)
+    rw (float p cells functions heights x y old, float p cells′ functions′ heights′ x′ y′ new)
     (subtract (places (p .levels)) b a (omega (arith, s .point .levels≤)) (lt-of-le-of-lt m (lit< tt)))
 
 -- ---- heights that are ignored

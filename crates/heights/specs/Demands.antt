@@ -1,11 +1,11 @@
 -- What is claimed of the height at a point. Definitions only.
 use mathlib.Core.Path.{_≡_}
-use mathlib.Core.Bool.{Bool, true, false, not, _&&_}
+use mathlib.Core.Bool.{Bool, true, false, not, _&&_, cond}
 use mathlib.Core.List.{List}
 use Prim.Native.Nat.{ℕ, suc, _+_, _*_, _^_, _≤_, _<_}
-use lib.Dec.{T, ltb}
+use lib.Dec.{T, eqb, ltb}
 use lib.IntN.{ℤ, pos, natAbs, _-ℤ_}
-use lib.Ieee.{Float, binary64, sub}
+use lib.Ieee.{binary64, sub}
 use lib.Ieee.Exact.{HasValue}
 use lib.ListN.{length, getD}
 use Rattle.facts.specs.Bounded.{sum}
@@ -15,7 +15,7 @@ use Rattle.grid.specs.declared.Place.{Place}
 use Rattle.grid.specs.Plan.{between, inRange, tooLarge, acrossAt, upAt, functionColumnsAt, functionRowsAt, functionOffset, cellTotal, functionTotal, cellPlace, functionPlace, cellLevel, functionLevel, supported}
 use Rattle.mesh.specs.Mesh.{active, freshCells, freshFunctions}
 use Rattle.splines.specs.Values.{isInside}
-use Rattle.heights.specs.declared.Height.the-variants.{At}
+use Rattle.heights.specs.declared.Height.the-variants.{At, Refused}
 use Rattle.heights.specs.Heights.{eighths, onMesh, valueAt, oneAt, heightSum, places, inexact, refusal, answer, numberOf, heightOf}
 
 -- ---- the answer
@@ -31,6 +31,11 @@ module _ (p : Plan) (cells functions : List ℕ) (heights : List ℤ) (x y : ℕ
     pub value : refusal p cells functions heights x y ≡ 0
         → HasValue (heightOf (answer p cells functions heights x y)) (negative total) (natAbs total) (2 ^ places (p .levels))
     pub bits : refusal p cells functions heights x y ≡ 0 → natAbs total < 2 ^ 53
+    -- no refusal has the number 0, so number and height say which case of the enum is answered
+    pub told : answer p cells functions heights x y
+        ≡ cond (eqb (numberOf (answer p cells functions heights x y)) 0)
+        (At (heightOf (answer p cells functions heights x y)))
+        (Refused (numberOf (answer p cells functions heights x y)))
 
 -- "Inactive functions' heights are ignored", by every answer and refusal
 abbrev pub Ignored : Type 0
@@ -42,9 +47,12 @@ Ignored =
 -- two answers of one plan may be subtracted as floats, whatever else differs: nothing is rounded away
 abbrev pub Subtracted : Type 0
 Subtracted =
-    (p : Plan) (cells functions : List ℕ) (heights : List ℤ) (x y : ℕ) (cells′ functions′ : List ℕ) (heights′ : List ℤ) (x′ y′ : ℕ) (h h′ : Float)
-    → answer p cells functions heights x y ≡ At h → answer p cells′ functions′ heights′ x′ y′ ≡ At h′
-    → sub binary64 h′ h ≡ dyadic (places (p .levels)) (heightSum p functions′ heights′ x′ y′ -ℤ heightSum p functions heights x y)
+    (p : Plan) (cells functions : List ℕ) (heights : List ℤ) (x y : ℕ) (cells′ functions′ : List ℕ) (heights′ : List ℤ) (x′ y′ : ℕ)
+    → let one = answer p cells functions heights x y in
+    let other = answer p cells′ functions′ heights′ x′ y′ in
+    numberOf one ≡ 0 → numberOf other ≡ 0
+    → sub binary64 (heightOf other) (heightOf one)
+    ≡ dyadic (places (p .levels)) (heightSum p functions′ heights′ x′ y′ -ℤ heightSum p functions heights x y)
 
 -- ---- the functions' values
 
@@ -88,7 +96,8 @@ abbrev pub Flat : Plan → Type 0
 Flat p =
     (heights : List ℤ) (h : ℤ) (x y : ℕ) → length heights ≡ functionTotal p → natAbs h ≤ 65536
     → ((f : ℕ) → f < functionOffset p 1 → getD heights f (pos 0) ≡ h)
-    → T (onMesh p x y) → answer p (freshCells p) (freshFunctions p) heights x y ≡ At (dyadic 0 h)
+    → T (onMesh p x y)
+    → let a = answer p (freshCells p) (freshFunctions p) heights x y in (numberOf a ≡ 0) × (heightOf a ≡ dyadic 0 h)
 
 pub record Demands : Type 0 where
   pub answered : (p : Plan) (cells functions : List ℕ) (heights : List ℤ) (x y : ℕ) → Answered p cells functions heights x y

@@ -23,8 +23,7 @@ use Rattle.grid.specs.declared.Plan.{Plan}
 use Rattle.grid.specs.Plan.{functionTotal, functionPlace, functionLevel}
 use Rattle.grid.proofs.Laws.{function-inside}
 use Rattle.mesh.specs.Mesh.{active}
-use Rattle.heights.specs.declared.Height.the-variants.{At}
-use Rattle.heights.specs.Heights.{valueAt, oneAt, heightSum, places, answer}
+use Rattle.heights.specs.Heights.{valueAt, oneAt, heightSum, places, answer, numberOf, heightOf}
 use Rattle.heights.specs.Steps.{OnSurface, most}
 use Rattle.heights.specs.Demands.{insideAt, Valued}
 use Rattle.heights.proofs.Points.{millimetre}
@@ -42,10 +41,16 @@ not-none d v n l e =
 
 -- ---- one height
 
-module _ (p : Plan) (cells functions : List ℕ) (heights : List ℤ) (f : ℕ) (d : ℤ) (x y : ℕ) (h h′ : Float) (is-active : getD functions f 0 ≡ 1)
-    (old : answer p cells functions heights x y ≡ At h) (new : answer p cells functions (nudged f d heights) x y ≡ At h′) where
+module _ (p : Plan) (cells functions : List ℕ) (heights : List ℤ) (f : ℕ) (d : ℤ) (x y : ℕ) (is-active : getD functions f 0 ≡ 1)
+    (old : numberOf (answer p cells functions heights x y) ≡ 0) (new : numberOf (answer p cells functions (nudged f d heights) x y) ≡ 0) where
+  abbrev h : Float
+  h = heightOf (answer p cells functions heights x y)
+
+  abbrev h′ : Float
+  h′ = heightOf (answer p cells functions (nudged f d heights) x y)
+
   s : OnSurface p functions heights x y
-  s = surface p cells functions heights x y h old
+  s = surface p cells functions heights x y old
 
   in-total : f < functionTotal p
   in-total = omega (arith, getD-some functions f (omega (arith, is-active)), s .of-functions)
@@ -74,11 +79,11 @@ module _ (p : Plan) (cells functions : List ℕ) (heights : List ℤ) (f : ℕ) 
   moved-by : Above h h′ (d *ℤ pos v) (2 ^ places (p .levels))
   moved-by =
       subst (λ z. Above h h′ z (2 ^ places (p .levels))) difference-is
-      (above h h′ sum-before sum-after (2 ^ places (p .levels)) (exact-value p cells functions heights x y h old) (exact-value p cells functions (nudged f d heights) x y h′ new))
+      (above h h′ sum-before sum-after (2 ^ places (p .levels)) (exact-value p cells functions heights x y old) (exact-value p cells functions (nudged f d heights) x y new))
 
   subtracted : sub binary64 h′ h ≡ dyadic (places (p .levels)) (d *ℤ pos v)
   subtracted =
-      differences p cells functions heights x y cells functions (nudged f d heights) x y h h′ old new ∙ ap (dyadic (places (p .levels))) difference-is
+      differences p cells functions heights x y cells functions (nudged f d heights) x y old new ∙ ap (dyadic (places (p .levels))) difference-is
 
   -- in the parts of the sum
   at-most : natAbs (d *ℤ pos v) * 16 ^ k ≤ natAbs d * 2 ^ places (p .levels)
@@ -88,9 +93,9 @@ module _ (p : Plan) (cells functions : List ℕ) (heights : List ℤ) (f : ℕ) 
 
   same-float : v ≡ 0 → h′ ≡ h
   same-float z =
-      float p cells functions (nudged f d heights) x y h′ new
+      float p cells functions (nudged f d heights) x y new
       ∙ ap (dyadic (places (p .levels))) (sum-is ∙ rw (z, *ℤ-zero d) (+ℤ-idr sum-before))
-      ∙ sym (float p cells functions heights x y h old)
+      ∙ sym (float p cells functions heights x y old)
 
   nudged-so : Nudged p f d x y h h′
   nudged-so = record {
@@ -104,13 +109,13 @@ module _ (p : Plan) (cells functions : List ℕ) (heights : List ℤ) (f : ℕ) 
 
 pub nudging : Nudging
 unfolding active
-nudging p cells functions heights f d x y h h′ act old new =
-    nudged-so p cells functions heights f d x y h h′ (omega (arith, eqb→eq (getD functions f 0) _ act)) old new
+nudging p cells functions heights f d x y act old new =
+    nudged-so p cells functions heights f d x y (omega (arith, eqb→eq (getD functions f 0) _ act)) old new
 
 -- ---- any heights
 
-module _ (p : Plan) (cells functions : List ℕ) (before after : List ℤ) (d : ℕ → ℕ) (x y : ℕ) (h h′ : Float) (by : Moved p functions d before after)
-    (old : answer p cells functions before x y ≡ At h) (new : answer p cells functions after x y ≡ At h′) where
+module _ (p : Plan) (cells functions : List ℕ) (before after : List ℤ) (d : ℕ → ℕ) (x y : ℕ) (by : Moved p functions d before after)
+    (old : numberOf (answer p cells functions before x y) ≡ 0) (new : numberOf (answer p cells functions after x y) ≡ 0) where
   abbrev L : ℕ
   L = p .levels
 
@@ -125,15 +130,15 @@ module _ (p : Plan) (cells functions : List ℕ) (before after : List ℤ) (d : 
   total = sym (sum-mul L (2 ^ places L) _) ∙ sum-same L _ _ part ∙ sum-mul L (16 ^ (L - 1)) _
 
   moved-by-levels : natAbs (heightSum p functions after x y -ℤ heightSum p functions before x y) * 16 ^ (L - 1) ≤ sum L (λ k. d k * 16 ^ (L - 1 - k)) * 2 ^ places L
-  moved-by-levels = omega (arith, total, mul-le-mul-left (16 ^ (L - 1)) (moved-sum p functions before after d x y (surface p cells functions before x y h old .point) by))
+  moved-by-levels = omega (arith, total, mul-le-mul-left (16 ^ (L - 1)) (moved-sum p functions before after d x y (surface p cells functions before x y old .point) by))
 
 pub moving : Moving
-moving p cells functions before after d x y h h′ by old new =
+moving p cells functions before after d x y by old new =
     let a = heightSum p functions before x y in
     let b = heightSum p functions after x y in
     above-within (b -ℤ a) (2 ^ places (p .levels)) _ _ (pow-pos (places (p .levels)))
-    (above h h′ a b (2 ^ places (p .levels)) (exact-value p cells functions before x y h old) (exact-value p cells functions after x y h′ new))
-    (omega (arith, moved-by-levels p cells functions before after d x y h h′ by old new))
+    (above _ _ a b (2 ^ places (p .levels)) (exact-value p cells functions before x y old) (exact-value p cells functions after x y new))
+    (omega (arith, moved-by-levels p cells functions before after d x y by old new))
 
 pub demands : Demands
 demands = record { nudging = nudging; moving = moving }

@@ -14,8 +14,7 @@ use Rattle.exact.specs.Distance.{within, Above}
 use Rattle.grid.specs.declared.Plan.{Plan}
 use Rattle.grid.specs.Plan.{cellTotal, functionPlace, cellLevel, functionLevel, supported}
 use Rattle.mesh.specs.Mesh.{active}
-use Rattle.heights.specs.declared.Height.the-variants.{At}
-use Rattle.heights.specs.Heights.{valueAt, places, answer}
+use Rattle.heights.specs.Heights.{valueAt, places, answer, numberOf, heightOf}
 use Rattle.heights.specs.Demands.{touches, insideAt}
 use Rattle.nudge.specs.Nudge.{nudged}
 
@@ -40,22 +39,26 @@ module _ (p : Plan) (f : ℕ) (d : ℤ) (x y : ℕ) (h h′ : Float) where
 -- "If one active height rises or falls by d mm, every point that Req 03 answers both before and after"
 abbrev pub Nudging : Type 0
 Nudging =
-    (p : Plan) (cells functions : List ℕ) (heights : List ℤ) (f : ℕ) (d : ℤ) (x y : ℕ) (h h′ : Float) → T (active functions f)
-    → answer p cells functions heights x y ≡ At h → answer p cells functions (nudged f d heights) x y ≡ At h′ → Nudged p f d x y h h′
+    (p : Plan) (cells functions : List ℕ) (heights : List ℤ) (f : ℕ) (d : ℤ) (x y : ℕ) → T (active functions f)
+    → let before = answer p cells functions heights x y in
+    let after = answer p cells functions (nudged f d heights) x y in
+    numberOf before ≡ 0 → numberOf after ≡ 0 → Nudged p f d x y (heightOf before) (heightOf after)
 
 -- ---- any heights
 
 -- no active function of level k has moved by more than d k of its units
 abbrev pub Moved : Plan → List ℕ → (ℕ → ℕ) → List ℤ → List ℤ → Type 0
-Moved p functions d before after =
-    (f : ℕ) → T (active functions f) → natAbs (getD after f (pos 0) -ℤ getD before f (pos 0)) ≤ d (functionLevel p f)
+Moved p functions d old new =
+    (f : ℕ) → T (active functions f) → natAbs (getD new f (pos 0) -ℤ getD old f (pos 0)) ≤ d (functionLevel p f)
 
 -- then no point moves by more than all d k together, d k / 16 ^ k mm each: the levels' largest moves, where there are active functions
 abbrev pub Moving : Type 0
 Moving =
-    (p : Plan) (cells functions : List ℕ) (before after : List ℤ) (d : ℕ → ℕ) (x y : ℕ) (h h′ : Float) → Moved p functions d before after
-    → answer p cells functions before x y ≡ At h → answer p cells functions after x y ≡ At h′
-    → T (within h h′ (sum (p .levels) (λ k. d k * 16 ^ (p .levels - 1 - k))) (16 ^ (p .levels - 1)))
+    (p : Plan) (cells functions : List ℕ) (old new : List ℤ) (d : ℕ → ℕ) (x y : ℕ) → Moved p functions d old new
+    → let before = answer p cells functions old x y in
+    let after = answer p cells functions new x y in
+    numberOf before ≡ 0 → numberOf after ≡ 0
+    → T (within (heightOf before) (heightOf after) (sum (p .levels) (λ k. d k * 16 ^ (p .levels - 1 - k))) (16 ^ (p .levels - 1)))
 
 pub record Demands : Type 0 where
   pub nudging : Nudging
