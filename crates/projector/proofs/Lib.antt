@@ -1,5 +1,5 @@
 pub mod Computed
 pub mod Places
-pub mod Floats
+pub mod Words
 pub mod Refusals
 pub mod Results

@@ -7,7 +7,6 @@ use Prim.Native.Nat.{ℕ, zero, suc, _≤_, _<_}
 use native.Mathlib.Omega.{arith}
 use lib.Dec.{eqb, ltb, eqb·suc-zero, nltb→le}
 use lib.IntN.{ℤ}
-use lib.Ieee.{Float}
 use lib.ListN.{length}
 use borrow.Author.Tests.{ne-eqb, lt-ltb, le-ltb}
 use Rattle.facts.proofs.Tests.{T-true, true-T}
@@ -108,7 +107,7 @@ module _ (p : Plan) (cells functions : List ℕ) where
       let k = check-passed p cells functions c in
       record { checked = c; range = k .range; of-cells = k .cells; of-functions = k .functions; small≤ = small p a }
 
-  module _ (heights : List ℤ) (out : List Float) where
+  module _ (heights : List ℤ) (out : List ℕ) where
     pub ready : meshRefusal p cells functions ≡ 0 → heightsRefusal p functions heights ≡ 0 → Ready p functions heights
     ready e h =
         let k = passed e in

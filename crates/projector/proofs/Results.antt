@@ -2,12 +2,13 @@
 use mathlib.Core.Path.{_≡_, refl, sym, ap, _∙_}
 use mathlib.Core.Logic.{_≢_}
 use mathlib.Core.Bool.{Bool, true, false, not, _&&_, cond}
-use mathlib.Core.List.{List, _++_, append-assoc, flatMap}
-use Prim.Native.Nat.{ℕ, zero, suc, _+_, _-_, _*_, _≤_, _<_}
+use mathlib.Core.List.{List, _++_, append-assoc, flatMap, map}
+use Prim.Native.Nat.{ℕ, zero, suc, _+_, _-_, _*_, _^_, _≤_, _<_, zero-le}
+use native.Mathlib.Nat.{lt-of-le-of-lt}
 use native.Mathlib.Omega.{arith}
-use lib.Dec.{T, eqb, ltb, eqb·suc-zero, ltb→lt, nltb→le}
-use lib.IntN.{ℤ, pos}
-use lib.Ieee.{Float}
+use lib.Dec.{T, eqb, ltb, eqb·suc-zero, ltb→lt, nltb→le, lit<}
+use lib.IntN.{ℤ, pos, natAbs}
+use lib.Ieee.{binary64, ofBits, toBits}
 use lib.ListN.{length, take, drop, length-append, length-drop}
 use lib.Seq.{drop-drop, drop-at}
 use Rattle.facts.proofs.Tests.{differ, T-true}
@@ -17,27 +18,28 @@ use Rattle.grid.specs.Plan.{inRange, tooLarge, cellTotal, functionTotal, cellPl
 use Rattle.grid.proofs.Laws.{cell-inside}
 use Rattle.mesh.specs.Mesh.{active, isMesh, isAdmissible, isLabelled, refusal3, refusal6, check, tally, count}
 use Rattle.mesh.proofs.Bridge.{chain}
-use Rattle.heights.specs.Heights.{onMesh, inexact, allLow, heightsRefusal}
+use Rattle.heights.specs.Heights.{onMesh, heightSum, places, inexact, allLow, heightsRefusal, numberOf, heightOf}
 use Rattle.heights.proofs.Refusals.{answered}
+use Rattle.heights.proofs.Results as claims
 use Rattle.projector.specs.declared.Corner.{Corner}
-use Rattle.projector.specs.Projector.{mostProjected, cornerAt, cornerOf, cornersOf, corners, threeFloats, floatsOf, planRefusal, meshRefusal, refusal, CornersOutcome, refused, filled, project}
+use Rattle.projector.specs.Projector.{mostProjected, lineAt, cornerAt, cornerOf, cornersOf, corners, threeWords, wordsOf, planRefusal, meshRefusal, refusal, CornersOutcome, refused, filled, project}
 use Rattle.projector.specs.Demands.{Sound, Projected, Demands, given}
-use Rattle.projector.proofs.Places.{on-lines}
-use Rattle.projector.proofs.Floats.{floats-length, listed-tally, corners-length, floats-count, tally-small, floatsBelow, floats-from, twelve}
+use Rattle.projector.proofs.Places.{on-lines, read-back}
+use Rattle.projector.proofs.Words.{words-length, listed-tally, corners-length, words-count, tally-small, wordsBelow, words-from, twelve}
 use Rattle.projector.proofs.Refusals.{three, plan-16, passed, accepted}
 
--- ---- the outcome by its refusal, n, and by whether the floats are too few
+-- ---- the outcome by its refusal, n, and by whether the room is too little
 
-module _ (cs : List Corner) (lent : List Float) where
+module _ (cs : List Corner) (lent : List ℕ) where
   abbrev outcome : ℕ → Bool → CornersOutcome
   outcome n few =
-      let floats = floatsOf cs in
+      let words = wordsOf cs in
       cond (eqb n 0)
-      (cond few (refused 10 lent) (record { answer = record { number = 0; corners = length cs }; out = floats ++ drop (length floats) lent }))
+      (cond few (refused 10 lent) (record { answer = record { number = 0; corners = length cs }; out = words ++ drop (length words) lent }))
       (refused n lent)
 
   abbrev few : Bool
-  few = ltb (length lent) (length (floatsOf cs))
+  few = ltb (length lent) (length (wordsOf cs))
 
   outcome-kept : (n : ℕ) (b : Bool) → outcome n b .answer .number ≢ 0 → (outcome n b .answer .corners ≡ 0) × (outcome n b .out ≡ lent)
   unfolding refused
@@ -57,19 +59,19 @@ module _ (cs : List Corner) (lent : List Float) where
   outcome-number zero false P z h t = z
   outcome-number (suc n) b P z h t = rw (eqb·suc-zero n) h
 
-  fits : few ≡ false → length (floatsOf cs) ≤ length lent
-  fits q = nltb→le (length lent) (length (floatsOf cs)) (rw q tt)
+  fits : few ≡ false → length (wordsOf cs) ≤ length lent
+  fits q = nltb→le (length lent) (length (wordsOf cs)) (rw q tt)
 
   outcome-size : (n : ℕ) (b : Bool) → few ≡ b → length (outcome n b .out) ≡ length lent
   unfolding refused
   outcome-size zero true q = refl
-  outcome-size zero false q = length-append (floatsOf cs) (drop (length (floatsOf cs)) lent) ∙ omega (arith, length-drop (length (floatsOf cs)) lent, fits q)
+  outcome-size zero false q = length-append (wordsOf cs) (drop (length (wordsOf cs)) lent) ∙ omega (arith, length-drop (length (wordsOf cs)) lent, fits q)
   outcome-size (suc n) b q = rw (eqb·suc-zero n) refl
 
   outcome-past : (n : ℕ) (b : Bool) → drop (3 * outcome n b .answer .corners) (outcome n b .out) ≡ drop (3 * outcome n b .answer .corners) lent
   unfolding refused
   outcome-past zero true = refl
-  outcome-past zero false = rw (← floats-length cs) (drop-at (floatsOf cs) (drop (length (floatsOf cs)) lent) (length (floatsOf cs)) refl)
+  outcome-past zero false = rw (← words-length cs) (drop-at (wordsOf cs) (drop (length (wordsOf cs)) lent) (length (wordsOf cs)) refl)
   outcome-past (suc n) b = rw (eqb·suc-zero n) refl
 
 -- ---- which numbers a refusal may have
@@ -119,7 +121,7 @@ module _ (P : ℕ → Type 0) (p : Plan) where
 
 -- ---- all of it
 
-module _ (p : Plan) (cells functions : List ℕ) (heights : List ℤ) (lent : List Float) where
+module _ (p : Plan) (cells functions : List ℕ) (heights : List ℤ) (lent : List ℕ) where
   abbrev cs : List Corner
   cs = corners p functions heights cells
 
@@ -149,7 +151,7 @@ module _ (p : Plan) (cells functions : List ℕ) (heights : List ℤ) (lent : Li
       let (m, j) = chain (meshRefusal p cells functions) (heightsRefusal p functions heights) z in
       record { mesh = m; judged = j; roomy = b }
 
-  written : Taken → project p cells functions heights lent ≡ record { answer = record { number = 0; corners = length cs }; out = floatsOf cs ++ drop (length (floatsOf cs)) lent }
+  written : Taken → project p cells functions heights lent ≡ record { answer = record { number = 0; corners = length cs }; out = wordsOf cs ++ drop (length (wordsOf cs)) lent }
   unfolding filled
   written t = sym (accepted p cells functions heights lent (t .mesh) (t .judged) (rw (t .roomy) refl))
 
@@ -160,24 +162,24 @@ module _ (p : Plan) (cells functions : List ℕ) (heights : List ℤ) (lent : Li
   -- ---- where a corner stands
 
   module _ (c : ℕ) (below : c < cellTotal p) (yes : active cells c ≡ true) where
-    abbrev floatsThere : List Float
-    floatsThere = floatsOf (cornersOf p functions heights (cellPlace p c))
+    abbrev wordsThere : List ℕ
+    wordsThere = wordsOf (cornersOf p functions heights (cellPlace p c))
 
-    -- the cell's floats, and what follows
-    behind : Taken → (more : List Float) × (drop (12 * tally c (active cells)) (project p cells functions heights lent .out) ≡ floatsThere ++ more)
+    -- the cell's words, and what follows
+    behind : Taken → (more : List ℕ) × (drop (12 * tally c (active cells)) (project p cells functions heights lent .out) ≡ wordsThere ++ more)
     behind t =
-        let (rest, e) = floats-from p functions heights cells c below yes in
-        let before = floatsBelow p functions heights cells c in
-        let others = floatsOf (flatMap (λ (d : ℕ). cornersOf p functions heights (cellPlace p d)) rest) in
-        let tail = drop (length (floatsOf cs)) lent in
-        let out : project p cells functions heights lent .out ≡ floatsOf cs ++ tail = ap (λ (o : CornersOutcome). o .out) (written t) in
+        let (rest, e) = words-from p functions heights cells c below yes in
+        let before = wordsBelow p functions heights cells c in
+        let others = wordsOf (flatMap (λ (d : ℕ). cornersOf p functions heights (cellPlace p d)) rest) in
+        let tail = drop (length (wordsOf cs)) lent in
+        let out : project p cells functions heights lent .out ≡ wordsOf cs ++ tail = ap (λ (o : CornersOutcome). o .out) (written t) in
         let len : length before ≡ 12 * tally c (active cells) = twelve p functions heights cells c ∙ rw (listed-tally c (active cells)) refl in (
           others ++ tail,
-          ap (drop (12 * tally c (active cells))) (out ∙ ap (λ (l : List Float). l ++ tail) e ∙ append-assoc before (floatsThere ++ others) tail ∙ ap (λ (l : List Float). before ++ l) (append-assoc floatsThere others tail))
-              ∙ drop-at before (floatsThere ++ (others ++ tail)) (12 * tally c (active cells)) len,
+          ap (drop (12 * tally c (active cells))) (out ∙ ap (λ (l : List ℕ). l ++ tail) e ∙ append-assoc before (wordsThere ++ others) tail ∙ ap (λ (l : List ℕ). before ++ l) (append-assoc wordsThere others tail))
+              ∙ drop-at before (wordsThere ++ (others ++ tail)) (12 * tally c (active cells)) len,
         )
 
-    among : (a b : ℕ) → a ≤ 1 → b ≤ 1 → (more : List Float) → take 3 (drop (6 * b + 3 * a) (floatsThere ++ more)) ≡ threeFloats (cornerOf p functions heights (cellPlace p c) a b)
+    among : (a b : ℕ) → a ≤ 1 → b ≤ 1 → (more : List ℕ) → take 3 (drop (6 * b + 3 * a) (wordsThere ++ more)) ≡ threeWords (cornerOf p functions heights (cellPlace p c) a b)
     unfolding cornersOf flatMap
     among zero zero g h more = refl
     among (suc zero) zero g h more = refl
@@ -188,13 +190,13 @@ module _ (p : Plan) (cells functions : List ℕ) (heights : List ℤ) (lent : Li
     among (suc zero) (suc (suc b)) g h more = absurd (omega arith)
 
     stands : Taken → (a b : ℕ) → a ≤ 1 → b ≤ 1
-        → take 3 (drop (12 * tally c (active cells) + 6 * b + 3 * a) (project p cells functions heights lent .out)) ≡ threeFloats (cornerOf p functions heights (cellPlace p c) a b)
+        → take 3 (drop (12 * tally c (active cells) + 6 * b + 3 * a) (project p cells functions heights lent .out)) ≡ threeWords (cornerOf p functions heights (cellPlace p c) a b)
     stands t a b g h =
         let (more, e) = behind t in
         let s : 12 * tally c (active cells) + 6 * b + 3 * a ≡ 12 * tally c (active cells) + (6 * b + 3 * a) = omega arith in
         ap (λ (m : ℕ). take 3 (drop m (project p cells functions heights lent .out))) s
         ∙ ap (take 3) (sym (drop-drop (6 * b + 3 * a) (12 * tally c (active cells)) (project p cells functions heights lent .out)))
-        ∙ ap (λ (l : List Float). take 3 (drop (6 * b + 3 * a) l)) e
+        ∙ ap (λ (l : List ℕ). take 3 (drop (6 * b + 3 * a) l)) e
         ∙ among a b g h more
 
   -- ---- what it is
@@ -203,18 +205,26 @@ module _ (p : Plan) (cells functions : List ℕ) (heights : List ℤ) (lent : Li
   unfolding cornerOf cornerAt
   sound t c l a b g h =
       let k = passed p cells functions (t .mesh) in
-      let o = on-lines p (cellPlace p c) (k .range) (cell-inside p (k .range) c l) g h in
+      let at = cellPlace p c in
+      let o = on-lines p at (k .range) (cell-inside p (k .range) c l) g h in
+      let x = lineAt p (at .level) (at .column + a) in
+      let y = lineAt p (at .level) (at .row + b) in
+      let is = sym (answered p cells functions heights (x * 8) (y * 8) (k .checked) (t .judged) (T-true (onMesh p (x * 8) (y * 8)) (o .inside)) refl) in
+      let all = claims.answered p cells functions heights (x * 8) (y * 8) in
+      let few : natAbs (heightSum p functions heights (x * 8) (y * 8)) < 2 ^ 53 = all .bits (sym (all .number) ∙ ap numberOf is) in
       record {
-        across = dyadic-value 0 (pos _);
-        up = dyadic-value 0 (pos _);
-        height = sym (answered p cells functions heights _ _ (k .checked) (t .judged) (T-true (onMesh p _ _) (o .inside)) refl);
+        across = dyadic-value 0 (pos x);
+        up = dyadic-value 0 (pos y);
+        answered = ap numberOf is;
+        height = sym (ap heightOf is);
+        floats = rw (read-back 0 (pos x) zero-le (lt-of-le-of-lt (o .across≤) (lit< tt)), read-back 0 (pos y) zero-le (lt-of-le-of-lt (o .up≤) (lit< tt)), read-back (places (p .levels)) (heightSum p functions heights (x * 8) (y * 8)) (omega (arith, k .range .levels≤)) few) refl;
       }
 
   room : 12 * mostProjected ≤ length lent → n ≡ 0 → few cs lent ≡ true → ⊥
   unfolding refusal
   room h z f =
-      let l = ltb→lt (length lent) (length (floatsOf cs)) (rw f tt) in
-      omega (arith, floats-count p functions heights cells, tally-small (cellTotal p) (active cells), passed p cells functions (chain (meshRefusal p cells functions) _ z .0) .small≤, l, h)
+      let l = ltb→lt (length lent) (length (wordsOf cs)) (rw f tt) in
+      omega (arith, words-count p functions heights cells, tally-small (cellTotal p) (active cells), passed p cells functions (chain (meshRefusal p cells functions) _ z .0) .small≤, l, h)
 
   -- ---- the number
 

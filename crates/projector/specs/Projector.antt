@@ -5,7 +5,7 @@ use mathlib.Core.List.{List, [], _∷_, _++_, flatMap}
 use Prim.Native.Nat.{ℕ, _+_, _-_, _*_}
 use lib.Dec.{eqb, ltb}
 use lib.IntN.{ℤ, pos}
-use lib.Ieee.{Float}
+use lib.Ieee.{Float, binary64, toBits}
 use lib.ListN.{length, drop}
 use Rattle.facts.specs.Numbers.{listed}
 use Rattle.exact.specs.Dyadic.{dyadic}
@@ -53,8 +53,12 @@ module _ (p : Plan) (functions : List ℕ) (heights : List ℤ) where
 abbrev pub threeFloats : Corner → List Float
 threeFloats c = c .across ∷ c .up ∷ c .height ∷ []
 
-abbrev pub floatsOf : List Corner → List Float
-floatsOf = flatMap threeFloats
+-- "floats of 64 bits": each is put as the word that IEEE 754 gives it
+abbrev pub threeWords : Corner → List ℕ
+threeWords c = toBits binary64 (c .across) ∷ toBits binary64 (c .up) ∷ toBits binary64 (c .height) ∷ []
+
+abbrev pub wordsOf : List Corner → List ℕ
+wordsOf = flatMap threeWords
 
 -- ---- refusals
 
@@ -75,22 +79,22 @@ refusal p cells functions heights =
 
 pub record CornersOutcome : Type 0 where
   pub answer : CornersAnswer
-  pub out : List Float
+  pub out : List ℕ
 
 -- a refusal answers its number, with no corner
-unfoldable pub refused : ℕ → List Float → CornersOutcome
+unfoldable pub refused : ℕ → List ℕ → CornersOutcome
 refused n out = record { answer = record { number = n; corners = 0 }; out = out }
 
 -- "They fill lent floats .. the answer is a number and how many corners were written", "where the lent output is too short for all corners,
--- 10, last"; the floats past them keep their values
-unfoldable pub filled : List Corner → List Float → CornersOutcome
+-- 10, last"; the words past them keep their bits
+unfoldable pub filled : List Corner → List ℕ → CornersOutcome
 filled all out =
-    let floats = floatsOf all in
-    cond (ltb (length out) (length floats)) (refused 10 out)
-    (record { answer = record { number = 0; corners = length all }; out = floats ++ drop (length floats) out })
+    let words = wordsOf all in
+    cond (ltb (length out) (length words)) (refused 10 out)
+    (record { answer = record { number = 0; corners = length all }; out = words ++ drop (length words) out })
 
--- plan, tables, heights and lent floats to number, corners and floats
-unfoldable pub project : Plan → List ℕ → List ℕ → List ℤ → List Float → CornersOutcome
+-- plan, tables, heights and lent words to number, corners and words
+unfoldable pub project : Plan → List ℕ → List ℕ → List ℤ → List ℕ → CornersOutcome
 project p cells functions heights out =
     let n = refusal p cells functions heights in
     cond (eqb n 0) (filled (corners p functions heights cells) out) (refused n out)

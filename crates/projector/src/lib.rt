@@ -8,8 +8,8 @@ ghost use lib.ListN.{length};
 ghost use Rattle.facts.specs.Writing.{Writes};
 ghost use Rattle.grid.specs.Plan.{cellTotal, CellInside};
 ghost use Rattle.grid.specs.Range.{InRange};
-ghost use Rattle.projector.specs.Projector.{lineAt, cornerOf, cornersOf, corners, threeFloats, floatsOf, meshRefusal, filled, project};
-ghost use Rattle.projector.specs.Steps.{leftByCorners, Ready};
+ghost use Rattle.projector.specs.Projector.{lineAt, cornerOf, cornersOf, corners, threeWords, wordsOf, meshRefusal, filled, project};
+ghost use Rattle.projector.specs.Steps.{leftByCorners, Numbers, Ready};
 
 // The most cells that a mesh may have here, of all levels together.
 const MOST_PROJECTED: u32 = 1024;
@@ -66,14 +66,15 @@ fn corner_of(
     }
 }
 
-// A corner put at a place of the floats; the place behind it.
-fn put(out: &mut [f64], at: usize, corner: Corner) -> usize
+// A corner put at a place of the output, its floats as their bits; the place behind it.
+fn put(out: &mut [u64], at: usize, corner: Corner) -> usize
     requires { ⌜ at + 3 ≤ length (now out) ⌝ }
-    ensures { λ r. ⌜ Writes (now (out .entry)) at (threeFloats corner) r (now (out .exit)) ⌝ }
+    requires { ⌜ Numbers corner ⌝ }
+    ensures { λ r. ⌜ Writes (now (out .entry)) at (threeWords corner) r (now (out .exit)) ⌝ }
 {
-    out[at] = corner.across;
-    out[at + 1] = corner.up;
-    out[at + 2] = corner.height;
+    out[at] = f64::to_bits(corner.across);
+    out[at + 1] = f64::to_bits(corner.up);
+    out[at + 2] = f64::to_bits(corner.height);
     at + 3
 }
 
@@ -83,13 +84,13 @@ fn put_cell(
     functions: &[u8],
     heights: &[i32],
     place: Place,
-    out: &mut [f64],
+    out: &mut [u64],
     at: usize,
 ) -> usize
     requires { ⌜ Ready plan (now functions) (now heights) ⌝ }
     requires { ⌜ CellInside plan place ⌝ }
     requires { ⌜ at + 12 ≤ length (now out) ⌝ }
-    ensures { λ r. ⌜ Writes (now (out .entry)) at (floatsOf (cornersOf plan (now (functions .entry)) (now (heights .entry)) place)) r (now (out .exit)) ⌝ }
+    ensures { λ r. ⌜ Writes (now (out .entry)) at (wordsOf (cornersOf plan (now (functions .entry)) (now (heights .entry)) place)) r (now (out .exit)) ⌝ }
 {
     let at2 = put(out, at, corner_of(plan, functions, heights, place, 0, 0));
     let at3 = put(out, at2, corner_of(plan, functions, heights, place, 1, 0));
@@ -98,11 +99,11 @@ fn put_cell(
 }
 
 // The corners of all active cells; the place behind them.
-fn put_all(plan: Plan, cells: &[u8], functions: &[u8], heights: &[i32], out: &mut [f64]) -> usize
+fn put_all(plan: Plan, cells: &[u8], functions: &[u8], heights: &[i32], out: &mut [u64]) -> usize
     requires { ⌜ Ready plan (now functions) (now heights) ⌝ }
     requires { ⌜ length (now cells) ≡ cellTotal plan ⌝ }
-    requires { ⌜ length (floatsOf (corners plan (now functions) (now heights) (now cells))) ≤ length (now out) ⌝ }
-    ensures { λ r. ⌜ Writes (now (out .entry)) 0 (floatsOf (corners plan (now (functions .entry)) (now (heights .entry)) (now (cells .entry)))) r (now (out .exit)) ⌝ }
+    requires { ⌜ length (wordsOf (corners plan (now functions) (now heights) (now cells))) ≤ length (now out) ⌝ }
+    ensures { λ r. ⌜ Writes (now (out .entry)) 0 (wordsOf (corners plan (now (functions .entry)) (now (heights .entry)) (now (cells .entry)))) r (now (out .exit)) ⌝ }
 {
     let mut at = 0;
     let mut c = 0;
@@ -140,13 +141,13 @@ fn refused(number: u32) -> CornersAnswer
     CornersAnswer { number, corners: 0 }
 }
 
-// Fills the floats, when nothing but their number can be refused.
+// Fills the output, when nothing but its length can be refused.
 fn fill(
     plan: Plan,
     cells: &[u8],
     functions: &[u8],
     heights: &[i32],
-    out: &mut [f64],
+    out: &mut [u64],
 ) -> CornersAnswer
     requires { ⌜ Ready plan (now functions) (now heights) ⌝ }
     requires { ⌜ length (now cells) ≡ cellTotal plan ⌝ }
@@ -163,13 +164,14 @@ fn fill(
     }
 }
 
-// Four corners for each active cell, in rising order; nothing with a refusal.
+// Four corners for each active cell, in rising order; nothing with a refusal. The output is lent as words of 64 bits, each the bits of a
+// float: so what is not written keeps its bits, whatever they are, and not only its value as a float.
 pub fn corners(
     plan: Plan,
     cells: &[u8],
     functions: &[u8],
     heights: &[i32],
-    out: &mut [f64],
+    out: &mut [u64],
 ) -> CornersAnswer
     ensures { λ r. ⌜ leftByCorners r out ≡ project plan (now (cells .entry)) (now (functions .entry)) (now (heights .entry)) (now (out .entry)) ⌝ }
 {

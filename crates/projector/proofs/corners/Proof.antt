@@ -1,4 +1,4 @@
--- `corners` meets its contract: the plan and the mesh, the heights, the floats. Assumes nothing.
+-- `corners` meets its contract: the plan and the mesh, the heights, the room. Assumes nothing.
 use mathlib.Core.Path.{_≡_, sym, _∙_}
 use Rattle.heights.specs.Heights.{heightsRefusal}
 use Rattle.projector.specs.Projector.{meshRefusal}

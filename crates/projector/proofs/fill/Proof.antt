@@ -1,12 +1,12 @@
--- `fill` meets its contract: the floats are enough for all corners before the first is written. Assumes nothing.
+-- `fill` meets its contract: the room is enough for all corners before the first is written. Assumes nothing.
 use mathlib.Core.Path.{_≡_}
 use Prim.Native.Nat.{_≤_}
 use native.Mathlib.Omega.{arith}
 use lib.ListN.{length}
 use Rattle.grid.specs.Plan.{cellTotal}
 use Rattle.mesh.specs.Mesh.{active, tally}
-use Rattle.projector.specs.Projector.{corners, floatsOf}
-use Rattle.projector.proofs.Floats.{corners-length, floats-count, counted, tally-small, too-short, all-written}
+use Rattle.projector.specs.Projector.{corners, wordsOf}
+use Rattle.projector.proofs.Words.{corners-length, words-count, counted, tally-small, too-short, all-written}
 use borrow.Author.Needs.{needs}
 use Rattle.projector.proofs.fill.Statement.{statement}
 use Rattle.projector.proofs.fill.Tie as tie
@@ -30,13 +30,13 @@ refused-requires c κs = search needs
 returns : tie.Need-returns
 returns c =
     let a = c .before .before .before .before .before .before .args in
-    too-short _ (a .out .now) (omega (arith, c .before .if1 .taken, count (c .before .before), floats-count (a .plan) (a .functions .now) (a .heights .now) (a .cells .now))) (c .refused .ensures)
+    too-short _ (a .out .now) (omega (arith, c .before .if1 .taken, count (c .before .before), words-count (a .plan) (a .functions .now) (a .heights .now) (a .cells .now))) (c .refused .ensures)
 
 -- all corners fit
-enough : (c : tie.Else1) → let a = c .before .before .before .before .before .args in length (floatsOf (corners (a .plan) (a .functions .now) (a .heights .now) (a .cells .now))) ≤ length (a .out .now)
+enough : (c : tie.Else1) → let a = c .before .before .before .before .before .args in length (wordsOf (corners (a .plan) (a .functions .now) (a .heights .now) (a .cells .now))) ≤ length (a .out .now)
 enough c =
     let a = c .before .before .before .before .before .args in
-    omega (arith, c .if1 .left, count (c .before), floats-count (a .plan) (a .functions .now) (a .heights .now) (a .cells .now))
+    omega (arith, c .if1 .left, count (c .before), words-count (a .plan) (a .functions .now) (a .heights .now) (a .cells .now))
 
 put-all-requires : tie.Need-put-all-requires
 put-all-requires c κs = let s = c .before .before .before .before .before .before in (s .pre .0, (s .pre .1, enough (c .before)))

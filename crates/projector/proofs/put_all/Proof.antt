@@ -8,14 +8,14 @@ use Rattle.grid.specs.Plan.{cellTotal}
 use Rattle.facts.specs.Writing.{Writes}
 use Rattle.facts.proofs.Writing.{writes-none}
 use Rattle.grid.proofs.Laws.{cell-inside}
-use Rattle.projector.proofs.Floats.{floatsBelow, floats-none, floats-no, floats-all, kept, room, turn}
+use Rattle.projector.proofs.Words.{wordsBelow, words-none, words-no, words-all, kept, room, turn}
 use borrow.Author.Needs.{needs}
 use Rattle.projector.proofs.put_all.Statement.{statement}
 use Rattle.projector.proofs.put_all.Tie as tie
 
 abbrev Inv-loop : tie.InvT-loop
 Inv-loop plan cells functions heights out₀ at₀ c₀ out at c =
-    (c ≤ length cells) × Writes out₀ 0 (floatsBelow plan functions heights cells c) at out
+    (c ≤ length cells) × Writes out₀ 0 (wordsBelow plan functions heights cells c) at out
 
 abbrev μ-loop : tie.MeasureT-loop
 μ-loop plan cells functions heights out₀ at₀ c₀ out at c = length cells - c
@@ -23,7 +23,7 @@ abbrev μ-loop : tie.MeasureT-loop
 loop-holds : tie.Need-loop-holds Inv-loop μ-loop
 loop-holds c =
     let a = c .before .before .before .args in
-    (omega arith, rw (floats-none (a .plan) (a .functions .now) (a .heights .now) (a .cells .now)) (writes-none (a .out .now) 0))
+    (omega arith, rw (words-none (a .plan) (a .functions .now) (a .heights .now) (a .cells .now)) (writes-none (a .out .now) 0))
 
 shared-slice-read-if1 : tie.Need-shared-slice-read-if1 Inv-loop μ-loop
 shared-slice-read-if1 c = search needs
@@ -59,7 +59,7 @@ loop-again c =
       omega arith,
       rw (w .6, w .7) (turn (a .plan) (a .functions .now) (a .heights .now) (a .cells .now) (l .c) {out = a .out .now} {mid = l .out} (omega (arith, s .pre .1 .0)) (w .0 .taken) (w .1 .ensures) (s .pre .1 .1) (l .inv .1) (w .3 .ensures)),
     ))
-    (λ w. (omega arith, rw (w .1, w .2, floats-no (a .plan) (a .functions .now) (a .heights .now) (a .cells .now) (l .c) (w .0 .left)) (l .inv .1)))
+    (λ w. (omega arith, rw (w .1, w .2, words-no (a .plan) (a .functions .now) (a .heights .now) (a .cells .now) (l .c) (w .0 .left)) (l .inv .1)))
     (c .if1 .came)
 
 same-length : tie.Need-same-length Inv-loop μ-loop
@@ -75,7 +75,7 @@ returns c =
     let a = s .args in
     let l = c .before .loop in
     let e : l .c ≡ cellTotal (a .plan) = omega (arith, s .pre .1 .0) in
-    rw (← floats-all (a .plan) (a .functions .now) (a .heights .now) (a .cells .now), ← e) (l .inv .1)
+    rw (← words-all (a .plan) (a .functions .now) (a .heights .now) (a .cells .now), ← e) (l .inv .1)
 
 pub put-all-spec : {M : Type 1} → statement M
 put-all-spec =

@@ -1,7 +1,8 @@
 -- `put_cell` meets its contract: four corners, one behind another. Assumes nothing.
 use native.Mathlib.Omega.{arith}
 use lib.Dec.{lit≤}
-use Rattle.projector.proofs.Floats.{four-written}
+use Rattle.projector.proofs.Places.{numbers}
+use Rattle.projector.proofs.Words.{four-written}
 use borrow.Author.Needs.{needs}
 use Rattle.projector.proofs.put_cell.Statement.{statement}
 use Rattle.projector.proofs.put_cell.Tie as tie
@@ -10,13 +11,18 @@ corner-of-requires : tie.Need-corner-of-requires
 corner-of-requires c κs = search needs
 
 put-requires : tie.Need-put-requires
-put-requires c κs = search needs
+put-requires c κs =
+    let s = c .before .before .before .before in
+    (omega (arith, s .pre .1 .1), numbers _ _ _ _ _ _ (c .corner-of .ensures))
 
 corner-of-requires-2 : tie.Need-corner-of-requires-2
 corner-of-requires-2 c κs = search needs
 
 put-requires-2 : tie.Need-put-requires-2
-put-requires-2 c κs = search needs
+put-requires-2 c κs =
+    let s = c .before .before .before .before .before .before .before .before .before in
+    let one = c .before .before .before .before .put in
+    (omega (arith, one .ensures .end, one .kept .0, s .pre .1 .1), numbers _ _ _ _ _ _ (c .corner-of2 .ensures))
 
 corner-of-requires-3 : tie.Need-corner-of-requires-3
 corner-of-requires-3 c κs = search needs
@@ -25,7 +31,8 @@ put-requires-3 : tie.Need-put-requires-3
 put-requires-3 c κs =
     let one = c .before .before .before .before .before .before .before .before .before .put in
     let two = c .before .before .before .before .put2 in
-    omega (arith, one .ensures .end, two .ensures .end, one .kept .0, two .kept .0, c .before .before .before .before .before .before .before .before .before .before .before .before .before .before .pre .1 .1)
+    let s = c .before .before .before .before .before .before .before .before .before .before .before .before .before .before in
+    (omega (arith, one .ensures .end, two .ensures .end, one .kept .0, two .kept .0, s .pre .1 .1), numbers _ _ _ _ _ _ (c .corner-of3 .ensures))
 
 corner-of-requires-4 : tie.Need-corner-of-requires-4
 corner-of-requires-4 c κs = let s = c .before .before .before .before .before .before .before .before .before .before .before .before .before .before .before .before .before .before in (s .pre .0, (s .pre .1 .0, (lit≤ tt, lit≤ tt)))
@@ -35,7 +42,8 @@ put-requires-4 c κs =
     let one = c .before .before .before .before .before .before .before .before .before .before .before .before .before .before .put in
     let two = c .before .before .before .before .before .before .before .before .before .put2 in
     let three = c .before .before .before .before .put3 in
-    omega (arith, one .ensures .end, two .ensures .end, three .ensures .end, one .kept .0, two .kept .0, three .kept .0, c .before .before .before .before .before .before .before .before .before .before .before .before .before .before .before .before .before .before .before .pre .1 .1)
+    let s = c .before .before .before .before .before .before .before .before .before .before .before .before .before .before .before .before .before .before .before in
+    (omega (arith, one .ensures .end, two .ensures .end, three .ensures .end, one .kept .0, two .kept .0, three .kept .0, s .pre .1 .1), numbers _ _ _ _ _ _ (c .corner-of4 .ensures))
 
 same-length : tie.Need-same-length
 same-length c = search needs
