@@ -13,7 +13,8 @@ use Rattle.mesh.specs.Mesh.{refined, deactivated, isMesh}
 use Rattle.twoscale.specs.declared.Children.{Children}
 use Rattle.twoscale.specs.Passing.{quartersOf}
 use Rattle.twoscale.specs.Claims.{TwoScale}
-use Rattle.carry.specs.Carry.{share, heightsOf, at, passOn, carried}
+use Rattle.heights.specs.Heights.{heightsRefusal}
+use Rattle.carry.specs.Carry.{share, heightsOf, at, passOn, carried, onlyActive}
 
 -- the largest number of 31 bits, which a height of 32 bits with its sign has
 abbrev pub most : ℕ
@@ -120,3 +121,18 @@ pub record Grows (p : Plan) (cs cs′ : List ℕ) : Type 0 where
   pub before : T (isMesh p cs)
   pub after : T (isMesh p cs′)
   pub stays : (c : ℕ) → c < cellTotal p → T (refined cs c) → T (refined cs′ c)
+
+-- ---- the heights of a refinement
+
+-- those of the active functions, as the deactivated ones of the new functions pass them on
+unfoldable pub carriedOn : Plan → List ℕ → List ℕ → List ℤ → List ℤ
+carriedOn p old new heights = carried p new (functionTotal p) (onlyActive old heights)
+
+-- heights that are not refused, new functions that may pass them on, and room for as many heights
+pub record Carriable (p : Plan) (old new : List ℕ) (heights room : List ℤ) : Type 0 where
+  pub range : InRange p
+  pub allowed : heightsRefusal p old heights ≡ 0
+  pub old-are : length old ≡ functionTotal p
+  pub new-are : length new ≡ functionTotal p
+  pub room-is : length room ≡ functionTotal p
+  pub none-last : NoneLast p new

@@ -7,8 +7,9 @@ ghost use Prim.Native.Nat.{suc, _+_, _-_, _*_, _≤_, _<_};
 ghost use lib.IntN.{pos, natAbs, _*ℤ_};
 ghost use lib.ListN.{length};
 ghost use Rattle.grid.specs.Plan.{functionColumnsAt, functionRowsAt, functionOffset, functionTotal};
+ghost use Rattle.heights.specs.Heights.{allLow};
 ghost use Rattle.carry.specs.Carry.{onlyActive, carried};
-ghost use Rattle.carry.specs.Steps.{most, rowPassed, RowRoom, blockPassed, BlockRoom, carriedFrom, Started, Underway, NoneLast};
+ghost use Rattle.carry.specs.Steps.{most, rowPassed, RowRoom, blockPassed, BlockRoom, carriedFrom, Started, Underway, NoneLast, carriedOn, Carriable};
 
 // The most functions of a plan that heights allow: what a table of carried heights needs.
 pub const MOST_HEIGHTS: usize = 31076;
@@ -110,7 +111,7 @@ fn pass_level(plan: Plan, functions: &[u8], level: u32, heights: &mut [i32])
 
 // The deactivated functions pass their heights on, level by level, coarsest first. The table has the functions' labels behind the
 // refinement, and heights that start from 0 where a function was not active before it.
-pub fn carry_on(plan: Plan, functions: &[u8], heights: &mut [i32])
+fn carry_on(plan: Plan, functions: &[u8], heights: &mut [i32])
     requires { ⌜ Started plan (now heights) ⌝ }
     requires { ⌜ (length (now functions) ≡ functionTotal plan) × (NoneLast plan (now functions)) ⌝ }
     ensures { λ _. ⌜ now (heights .exit) ≡ carried plan (now (functions .entry)) (functionTotal plan) (now (heights .entry)) ⌝ }
@@ -121,4 +122,21 @@ pub fn carry_on(plan: Plan, functions: &[u8], heights: &mut [i32])
         pass_level(plan, functions, level, heights);
         level += 1;
     }
+}
+
+// The heights of the new functions, made beside the lent ones, which are only read; whether all of them are low.
+pub fn carry_beside(
+    plan: Plan,
+    functions: &[u8],
+    new_functions: &[u8],
+    heights: &[i32],
+    out: &mut [i32],
+) -> bool
+    requires { ⌜ Carriable plan (now functions) (now «new_functions») (now heights) (now out) ⌝ }
+    ensures { λ _. ⌜ now (out .exit) ≡ carriedOn plan (now (functions .entry)) (now («new_functions» .entry)) (now (heights .entry)) ⌝ }
+    ensures { λ r. ⌜ r ≡ allLow plan (now («new_functions» .entry)) (now (out .exit)) ⌝ }
+{
+    only_active(functions, heights, out);
+    carry_on(plan, new_functions, out);
+    heights::all_low(plan, new_functions, out)
 }

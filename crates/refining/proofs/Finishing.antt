@@ -1,4 +1,4 @@
--- The new heights, and what is written: what `carry_beside` and `finish` may rely on and leave. Assumes nothing.
+-- What is written: what `finish` may rely on and leaves. Assumes nothing.
 use mathlib.Core.Path.{_≡_, sym, ap, _∙_}
 use mathlib.Core.Bool.{true, false}
 use mathlib.Core.List.{List}
@@ -20,13 +20,13 @@ use Rattle.changes.specs.Changes.{ListRoom}
 use Rattle.heights.specs.Heights.{allLow}
 use Rattle.heights.proofs.Refusals.{fine}
 use Rattle.carry.specs.Carry.{onlyActive, carried, carry}
-use Rattle.carry.specs.Steps.{mostHeights, Allowed, Started, NoneLast}
+use Rattle.carry.specs.Steps.{mostHeights, Allowed, NoneLast, carriedOn}
+use Rattle.carry.proofs.Beside.{only-low, allowed}
 use Rattle.carry.proofs.Kept.{only-length, none-last}
 use Rattle.carry.proofs.Most.{most-heights}
 use Rattle.carry.proofs.Small.{carried-length}
 use Rattle.refining.specs.Refining.{refusedWith}
-use Rattle.refining.specs.Steps.{carriedOn, Carriable, Ready, finished}
-use Rattle.refining.proofs.Started.{only-low, allowed, started}
+use Rattle.refining.specs.Steps.{Ready, finished}
 use Rattle.refining.proofs.Outcomes.{carry-high, carry-low}
 
 -- ---- the first n of m heights of 0
@@ -36,27 +36,6 @@ no-heights m n h = sym (length-take-le {A = ℤ} n (replicate m (pos 0)) (rw len
 
 pub heights-part : (m n : ℕ) {t : ℕ} → n ≡ t → t ≤ m → length {A = ℤ} (take n (replicate m (pos 0))) ≡ t
 heights-part m n e h = sym (no-heights m n (rw e h)) ∙ e
-
--- ---- the new heights
-
-module _ {p : Plan} {old new : List ℕ} {heights room : List ℤ} (C : Carriable p old new heights room) where
-  pub may : Allowed p
-  may = allowed p old heights (C .range) (C .allowed)
-
-  pub heights-are : length heights ≡ functionTotal p
-  heights-are = fine p old heights (C .allowed) .sized
-
-  module _ {hs₁ : List ℤ} (active : hs₁ ≡ onlyActive old heights) where
-    pub starts : Started p hs₁
-    starts = rw active (started p old heights (C .range) (C .allowed))
-
-    module _ {hs₂ : List ℤ} (passed : hs₂ ≡ carried p new (functionTotal p) hs₁) where
-      pub carries : hs₂ ≡ carriedOn p old new heights
-      unfolding carriedOn
-      carries = passed ∙ ap (carried p new (functionTotal p)) active
-
-      pub carried-are : length hs₂ ≡ functionTotal p
-      carried-are = ap length passed ∙ carried-length p new (functionTotal p) hs₁ (starts .sized)
 
 -- ---- all of it is written
 

@@ -1,5 +1,4 @@
 pub mod Computed
-pub mod Started
 pub mod Outcomes
 pub mod Making
 pub mod Finishing

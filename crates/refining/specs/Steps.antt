@@ -8,15 +8,13 @@ use lib.IntN.{ℤ}
 use lib.ListN.{length}
 use Rattle.grid.specs.declared.Plan.{Plan}
 use Rattle.grid.specs.Plan.{cellTotal, functionTotal}
-use Rattle.grid.specs.Range.{InRange}
 use Rattle.mesh.specs.Mesh.{labels, check}
 use Rattle.outcomes.specs.declared.Answer.{Answer}
 use Rattle.outcomes.specs.Calls.{By, refine, changed, newCells, refusal, settle}
 use Rattle.outcomes.specs.Steps.{roomRefusal}
 use Rattle.outcomes.specs.Contracts.{Lent, left}
 use Rattle.heights.specs.Heights.{heightsRefusal}
-use Rattle.carry.specs.Carry.{onlyActive, carried}
-use Rattle.carry.specs.Steps.{NoneLast, Grows}
+use Rattle.carry.specs.Steps.{Grows}
 use Rattle.refining.specs.Refining.{WithHeights, carryInto}
 use denote.Ref.{RefT}
 use denote.Triple.Both.{Both}
@@ -47,21 +45,6 @@ pub record Made (by : By) (p : Plan) (cs fs marks : List ℕ) (cellRoom function
   pub is : number ≡ makeRefusal by p cs fs marks cellRoom functionRoom
   pub cells : number ≡ 0 → cs′ ≡ newCells refine by p cs fs marks
   pub functions : number ≡ 0 → fs′ ≡ labels p cs′
-
--- ---- the new heights
-
--- those of the active functions, as the deactivated ones of the new functions pass them on
-unfoldable pub carriedOn : Plan → List ℕ → List ℕ → List ℤ → List ℤ
-carriedOn p old new heights = carried p new (functionTotal p) (onlyActive old heights)
-
--- heights that are not refused, new functions that may pass them on, and room for as many heights
-pub record Carriable (p : Plan) (old new : List ℕ) (heights room : List ℤ) : Type 0 where
-  pub range : InRange p
-  pub allowed : heightsRefusal p old heights ≡ 0
-  pub old-are : length old ≡ functionTotal p
-  pub new-are : length new ≡ functionTotal p
-  pub room-is : length room ≡ functionTotal p
-  pub none-last : NoneLast p new
 
 -- what the refusals but 17 leave
 pub record Ready (p : Plan) (cs fs : List ℕ) (hs : List ℤ) (cl fl cs′ fs′ : List ℕ) : Type 0 where

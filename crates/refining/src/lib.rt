@@ -14,9 +14,8 @@ ghost use lib.ListN.{length};
 ghost use Rattle.grid.specs.Plan.{cellTotal, functionTotal};
 ghost use Rattle.mesh.specs.Mesh.{check};
 ghost use Rattle.calls.specs.Parts.{byOf};
-ghost use Rattle.heights.specs.Heights.{allLow};
 ghost use Rattle.refining.specs.Refining.{tablesRefusal, refineCellsWithHeights, refineFunctionsWithHeights};
-ghost use Rattle.refining.specs.Steps.{Made, Carriable, carriedOn, Ready, finished, MeetsWithHeights, leftWithHeights};
+ghost use Rattle.refining.specs.Steps.{Made, Ready, finished, MeetsWithHeights, leftWithHeights};
 
 // Refusals 1 to 6, then those of the heights, 3, 14 and 15; or 0.
 pub fn tables_refusal(plan: Plan, cells: &[u8], functions: &[u8], heights: &[i32]) -> u32
@@ -72,23 +71,6 @@ fn make(
     0
 }
 
-// The heights of the new functions, made beside the lent ones, which are only read; whether all of them are low.
-fn carry_beside(
-    plan: Plan,
-    functions: &[u8],
-    new_functions: &[u8],
-    heights: &[i32],
-    out: &mut [i32],
-) -> bool
-    requires { ⌜ Carriable plan (now functions) (now «new_functions») (now heights) (now out) ⌝ }
-    ensures { λ _. ⌜ now (out .exit) ≡ carriedOn plan (now (functions .entry)) (now («new_functions» .entry)) (now (heights .entry)) ⌝ }
-    ensures { λ r. ⌜ r ≡ allLow plan (now («new_functions» .entry)) (now (out .exit)) ⌝ }
-{
-    carry::only_active(functions, heights, out);
-    carry::carry_on(plan, new_functions, out);
-    heights::all_low(plan, new_functions, out)
-}
-
 // When the new cells and functions are known: 17, or all is written, the cells, the functions, the heights and both lists.
 fn finish(
     plan: Plan,
@@ -106,7 +88,7 @@ fn finish(
     let count = plan.function_total() as usize;
     let mut room = [0i32; MOST_HEIGHTS];
     let carried = &mut room[..count];
-    let low = carry_beside(plan, functions, new_functions, heights, carried);
+    let low = carry::carry_beside(plan, functions, new_functions, heights, carried);
     if !low {
         return changes::refuse(17);
     }

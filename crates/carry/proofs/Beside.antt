@@ -1,4 +1,5 @@
--- Heights that are not refused may be carried, and only those of active functions count. Assumes nothing.
+-- Heights that are not refused may be carried, and only those of active functions count: what `carry_beside` may rely on and leaves.
+-- Assumes nothing.
 use mathlib.Core.Path.{_≡_, refl, ap, _∙_}
 use mathlib.Core.Bool.{Bool, true, false, cond}
 use mathlib.Core.List.{List}
@@ -16,10 +17,11 @@ use Rattle.grid.specs.Range.{InRange}
 use Rattle.mesh.specs.Mesh.{active}
 use Rattle.heights.specs.Heights.{low, lowOn, lowAt, allLow, heightsRefusal}
 use Rattle.heights.proofs.Refusals.{Fine, fine}
-use Rattle.carry.specs.Carry.{at, onlyActive}
-use Rattle.carry.specs.Steps.{Allowed, Started}
+use Rattle.carry.specs.Carry.{at, onlyActive, carried}
+use Rattle.carry.specs.Steps.{Allowed, Started, carriedOn, Carriable}
 use Rattle.carry.proofs.Lists.{at-none}
 use Rattle.carry.proofs.Kept.{only-length, only-at}
+use Rattle.carry.proofs.Small.{carried-length}
 
 -- the others may have any height
 pub only-low : (p : Plan) (fs : List ℕ) (hs : List ℤ) → length hs ≡ functionTotal p → allLow p fs (onlyActive fs hs) ≡ allLow p fs hs
@@ -59,3 +61,24 @@ module _ (p : Plan) (fs : List ℕ) (hs : List ℤ) (range : InRange p) (none : 
         let k : length (onlyActive fs hs) ≤ g = omega (arith, only-length fs hs, is-fine .sized) in
         rw (at-none (onlyActive fs hs) g k) (omega arith));
   }
+
+-- ---- the new heights
+
+module _ {p : Plan} {old new : List ℕ} {heights room : List ℤ} (C : Carriable p old new heights room) where
+  pub may : Allowed p
+  may = allowed p old heights (C .range) (C .allowed)
+
+  pub heights-are : length heights ≡ functionTotal p
+  heights-are = fine p old heights (C .allowed) .sized
+
+  module _ {hs₁ : List ℤ} (active : hs₁ ≡ onlyActive old heights) where
+    pub starts : Started p hs₁
+    starts = rw active (started p old heights (C .range) (C .allowed))
+
+    module _ {hs₂ : List ℤ} (passed : hs₂ ≡ carried p new (functionTotal p) hs₁) where
+      pub carries : hs₂ ≡ carriedOn p old new heights
+      unfolding carriedOn
+      carries = passed ∙ ap (carried p new (functionTotal p)) active
+
+      pub carried-are : length hs₂ ≡ functionTotal p
+      carried-are = ap length passed ∙ carried-length p new (functionTotal p) hs₁ (starts .sized)

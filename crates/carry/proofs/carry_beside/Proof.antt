@@ -1,10 +1,10 @@
 -- `carry_beside` meets its contract: the heights of the active functions are passed on, and judged. Assumes nothing.
 use mathlib.Core.Path.{sym, _∙_}
 use native.Mathlib.Omega.{arith}
-use Rattle.refining.proofs.Finishing.{may, heights-are, starts, carries, carried-are}
+use Rattle.carry.proofs.Beside.{may, heights-are, starts, carries, carried-are}
 use borrow.Author.Needs.{needs}
-use Rattle.refining.proofs.carry_beside.Statement.{statement}
-use Rattle.refining.proofs.carry_beside.Tie as tie
+use Rattle.carry.proofs.carry_beside.Statement.{statement}
+use Rattle.carry.proofs.carry_beside.Tie as tie
 
 only-active-requires : tie.Need-only-active-requires
 only-active-requires c κs =
