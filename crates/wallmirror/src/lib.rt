@@ -243,7 +243,7 @@ pub extern "C" fn wallmirror_corners(
     cells: &[u8],
     functions: &[u8],
     heights: &[i32],
-    out: &mut [f64],
+    out: &mut [u64],
 ) -> CornersAnswer
     ensures { λ r. ⌜ leftByCorners r out ≡ project plan (now (cells .entry)) (now (functions .entry)) (now (heights .entry)) (now (out .entry)) ⌝ }
 {
