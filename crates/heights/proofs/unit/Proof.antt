@@ -1,6 +1,6 @@
 -- `unit` meets its contract: a sixteenth for each level. Assumes nothing.
-use mathlib.Core.Path.{_≡_}
-use Prim.Native.Nat.{_-_, _≤_}
+use mathlib.Core.Path.{_≡_, refl}
+use Prim.Native.Nat.{_-_, _≤_, zero-le}
 use native.Mathlib.Omega.{arith}
 use lib.IntN.{pos}
 use lib.Ieee.{ofBits}
@@ -19,7 +19,7 @@ abbrev μ-loop : tie.MeasureT-loop
 
 loop-holds : tie.Need-loop-holds Inv-loop μ-loop
 unfolding ofBits dyadic
-loop-holds c = search needs
+loop-holds c = (zero-le, refl)
 
 add-level : tie.Need-add-level Inv-loop μ-loop
 add-level c = search needs

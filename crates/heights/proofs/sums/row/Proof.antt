@@ -52,9 +52,10 @@ mul-product-2 c =
 product-requires : tie.Need-product-requires Inv-loop μ-loop
 product-requires c κs =
     let s = c .before .before .before .before .before .before .before in
-    let at = s .args .first + c .before .before .before .before .before .loop .j in (
+    let at = s .args .first + c .before .before .before .before .before .loop .j in
+    let is-active : getD (s .args .functions .now) at 0 ≡ 1 = omega (arith, c .before .before .if1 .taken) in (
       s .pre .1,
-      rw (element (getD (s .args .heights .now) at (pos 0)) (c .before .product-arg .given), c .value .ensures) (active-size {levels = s .args .levels} (s .pre .0) (s .pre .1 .levels≤) (omega arith) (c .before .before .if1 .taken)),
+      rw (element (getD (s .args .heights .now) at (pos 0)) (c .before .product-arg .given), c .value .ensures) (active-size {levels = s .args .levels} (s .pre .0) (s .pre .1 .levels≤) (omega arith) is-active),
     )
 
 add-j : tie.Need-add-j Inv-loop μ-loop
