@@ -54,8 +54,8 @@ on-lines p c {a} {b} range i ha hb =
       inside = and-i (leb (lineAt p k (c .column + a) * 8) (columnsAt p (p .levels - 1) * 8)) _ (le→leb _ _ (mul-le-mul-right 8 x)) (le→leb (lineAt p k (c .row + b) * 8) _ (mul-le-mul-right 8 y));
     }
 
-pub on-mesh : {p : Plan} {c : Place} {a b x y : ℕ} → OnLines p c a b → x ≡ lineAt p (c .level) (c .column + a) → y ≡ lineAt p (c .level) (c .row + b)
-    → T (onMesh p (x * 8) (y * 8))
+pub on-mesh : {p : Plan} {c : Place} {a b x y : ℕ} → OnLines p c a b → x ≡ lineAt p (c .level) (c .column + a) * 8 → y ≡ lineAt p (c .level) (c .row + b) * 8
+    → T (onMesh p x y)
 on-mesh o ex ey = rw (ex, ey) (o .inside)
 
 -- a small number as a float

@@ -1,4 +1,5 @@
 -- `corner_of` meets its contract: the cell's lines, counted in last-level cells, and the height there. Assumes nothing.
+use Prim.Native.Nat.{_≤_}
 use native.Mathlib.Omega.{arith}
 use Rattle.projector.proofs.Places.{OnLines, on-lines, on-mesh, corner-is}
 use borrow.Author.Needs.{needs}
@@ -21,16 +22,22 @@ line-at-requires c κs = let s = c .before .before .before in (s .pre .0 .range,
 line-at-requires-2 : tie.Need-line-at-requires-2
 line-at-requires-2 c κs = let s = c .before .before .before .before in (s .pre .0 .range, (s .pre .1 .0 .level<, lines s .row≤))
 
+-- both lines are small
+on-small : (c : tie.After-line-at2) → (c .before .line-at .result ≤ 2048) × (c .line-at2 .result ≤ 2048)
+on-small c =
+    let o = lines (c .before .before .before .before .before) in
+    (omega (arith, c .before .line-at .ensures, o .across≤), omega (arith, c .line-at2 .ensures, o .up≤))
+
 mul-height-at : tie.Need-mul-height-at
-mul-height-at c = omega (arith, c .before .line-at .ensures, lines (c .before .before .before .before .before) .across≤)
+mul-height-at c = omega (arith, on-small c)
 
 mul-height-at-2 : tie.Need-mul-height-at-2
-mul-height-at-2 c = omega (arith, c .line-at2 .ensures, lines (c .before .before .before .before .before) .up≤)
+mul-height-at-2 c = omega (arith, on-small c)
 
 height-at-requires : tie.Need-height-at-requires
 height-at-requires c κs =
     let s = c .before .before .before .before .before in
-    s .pre .0 .surface _ _ (on-mesh (lines s) (c .before .line-at .ensures) (c .line-at2 .ensures))
+    s .pre .0 .surface _ _ (on-mesh (lines s) (omega (arith, c .before .line-at .ensures)) (omega (arith, c .line-at2 .ensures)))
 
 int-to-float-t15 : tie.Need-int-to-float-t15
 int-to-float-t15 c = search needs

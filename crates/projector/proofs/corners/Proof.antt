@@ -1,5 +1,6 @@
 -- `corners` meets its contract: the plan and the mesh, the heights, the room. Assumes nothing.
 use mathlib.Core.Path.{_≡_, sym, _∙_}
+use native.Mathlib.Omega.{arith}
 use Rattle.heights.specs.Heights.{heightsRefusal}
 use Rattle.projector.specs.Projector.{meshRefusal}
 use Rattle.projector.proofs.Refusals.{passed, ready, refused-mesh, refused-heights, accepted}
@@ -16,11 +17,11 @@ refused-requires c κs = search needs
 returns : tie.Need-returns
 returns c =
     let a = c .before .before .before .before .before .before .args in
-    refused-mesh (a .plan) (a .cells .now) (a .functions .now) (a .heights .now) (a .out .now) (c .before .before .mesh-refusal .ensures) (c .before .if1 .taken) (c .refused .ensures)
+    refused-mesh (a .plan) (a .cells .now) (a .functions .now) (a .heights .now) (a .out .now) (c .before .before .mesh-refusal .ensures) (omega (arith, c .before .if1 .taken)) (c .refused .ensures)
 
 -- neither the plan nor the mesh is refused
 fine : (c : tie.Else1) → let a = c .before .before .before .before .before .args in meshRefusal (a .plan) (a .cells .now) (a .functions .now) ≡ 0
-fine c = sym (c .before .mesh-refusal .ensures) ∙ c .if1 .left
+fine c = sym (c .before .mesh-refusal .ensures) ∙ omega (arith, c .if1 .left)
 
 refusal-requires : tie.Need-refusal-requires
 refusal-requires c κs = let k = passed _ _ _ (fine c) in (k .range, k .of-functions)
