@@ -17,4 +17,4 @@ pub mod Joins
 pub mod Turns
 pub mod Families
 pub mod Most
-pub mod Beside
+pub mod NewHeights

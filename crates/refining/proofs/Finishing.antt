@@ -21,7 +21,7 @@ use Rattle.heights.specs.Heights.{allLow}
 use Rattle.heights.proofs.Refusals.{fine}
 use Rattle.carry.specs.Carry.{onlyActive, carried, carry}
 use Rattle.carry.specs.Steps.{mostHeights, Allowed, NoneLast, carriedOn}
-use Rattle.carry.proofs.Beside.{only-low, allowed}
+use Rattle.carry.proofs.NewHeights.{only-low, allowed}
 use Rattle.carry.proofs.Kept.{only-length, none-last}
 use Rattle.carry.proofs.Most.{most-heights}
 use Rattle.carry.proofs.Small.{carried-length}

@@ -25,7 +25,7 @@ use Rattle.carry.proofs.Scales.{scales}
 use Rattle.carry.proofs.Kept.{kept, carry-length}
 use Rattle.refining.specs.Refining.{WithHeights, tablesRefusal, refusedWith}
 use Rattle.refining.specs.Demands.{without, result, number, Shaped}
-use Rattle.carry.proofs.Beside.{allowed}
+use Rattle.carry.proofs.NewHeights.{allowed}
 use Rattle.refining.proofs.Outcomes.{tables-none, whole-tables, whole-refused, whole-carried, carry-high, carry-low}
 
 -- ---- two surfaces of one shape

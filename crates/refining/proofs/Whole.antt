@@ -17,7 +17,7 @@ use Rattle.outcomes.proofs.Results.{new-good, refining-keeps, outcome-settled, 
 use Rattle.outcomes.proofs.Steps.{rooms}
 use Rattle.refining.specs.Refining.{WithHeights, tablesRefusal, refusedWith, carryInto, outcomeWithHeights}
 use Rattle.refining.specs.Steps.{makeRefusal, Made, Ready, finished}
-use Rattle.carry.proofs.Beside.{allowed}
+use Rattle.carry.proofs.NewHeights.{allowed}
 use Rattle.refining.proofs.Outcomes.{tables-none, make-none, without-refused, whole-tables, whole-refused, whole-carried}
 
 module _ (by : By) (p : Plan) (cs fs : List ℕ) (hs : List ℤ) (marks cl fl : List ℕ) where

@@ -1,7 +1,7 @@
 -- `carry_beside` meets its contract: the heights of the active functions are passed on, and judged. Assumes nothing.
 use mathlib.Core.Path.{sym, _∙_}
 use native.Mathlib.Omega.{arith}
-use Rattle.carry.proofs.Beside.{may, heights-are, starts, carries, carried-are}
+use Rattle.carry.proofs.NewHeights.{may, heights-are, starts, carries, carried-are}
 use borrow.Author.Needs.{needs}
 use Rattle.carry.proofs.carry_beside.Statement.{statement}
 use Rattle.carry.proofs.carry_beside.Tie as tie
