@@ -9,7 +9,7 @@ use lib.Dec.{T, ltb, leb, leb→le, nleb→lt, ltb→lt, nltb→le}
 use lib.Count.{trailingZeros}
 use borrow.Author.Tests.{le-leb, lt-leb, lt-ltb, le-ltb}
 use lib.Pow.{pow-add, pow-pos, pow-mono, shl-lt}
-use lib.Ieee.{Float, nan, inf, fin, Format, binary64, prec, low, up, down, minus, size, unlike, odd, round, sum, neg, add, sub, mul, ofInt, fits, toBits, ofBits, hid, top}
+use lib.Ieee.{Float, nan, inf, fin, Format, binary64, prec, low, up, down, minus, size, unlike, odd, round, sum, neg, add, sub, mul, ofInt, fits, isNan, toBits, ofBits, hid, top}
 use lib.Ieee.Fits.{down-pos, round-fits, odd-fits}
 use lib.Ieee.Exact.{HasValue, odd-sign, round-exact}
 use lib.Ieee.Nearest.{div-same}
@@ -217,6 +217,19 @@ dyadic-exact s z = record { sign = negative z; is = refl; agrees = same z }
     same (pos n) = refl
     same (negsuc n) = refl
 
+-- ---- the bits of a float
+pub is-number : (s : ℕ) (z : ℤ) → T (not (isNan (dyadic s z)))
+unfolding isNan odd over dyadic
+is-number s (pos zero) = tt
+is-number s (pos (suc n)) = tt
+is-number s (negsuc n) = tt
+
+-- a program that reads its bits as a float gets it
+pub read-back : (s : ℕ) (z : ℤ) → s ≤ 1021 → natAbs z < 2 ^ 53 → ofBits binary64 (toBits binary64 (dyadic s z)) ≡ dyadic s z
+unfolding dyadic
+read-back s z h g = ofBits-toBits binary64 (dyadic s z) (over-fits s (negative z) (natAbs z) h g)
+
+-- ---- sums of exact values
 -- a number above zero has one float, and so has a sum that starts from one
 rounded-dyadic : (s : ℕ) (z : ℤ) → s ≤ 1021 → natAbs z < 2 ^ 53 → rounded z (2 ^ s) ≡ dyadic s z
 unfolding rounded dyadic

@@ -66,11 +66,15 @@ module _ (p : Plan) (cells functions : List ℕ) (heights : List ℤ) (x y : ℕ
   pub small : OnSurface p functions heights x y → natAbs (heightSum p functions heights x y) ≤ 36 * most
   small s = le-trans (rw (up-all s) at (up-size s (p .levels) (le-refl _))) (mul-le-mul-right (9 * most) (s .point .levels≤))
 
+  number-is : numberOf (answer p cells functions heights x y) ≡ refusal p cells functions heights x y
+  unfolding answer
+  number-is = number-of (refusal p cells functions heights x y) _
+
   pub answered : Answered p cells functions heights x y
   answered = record {
-    number = unfold answer in number-of (refusal p cells functions heights x y) _;
-    value = λ e. rw (answer-is e) (dyadic-value (places (p .levels)) (heightSum p functions heights x y));
-    bits = λ e. lt-of-le-of-lt (small (accepted e)) (lit< tt);
+    number = number-is;
+    value = λ e. rw (answer-is (sym number-is ∙ e)) (dyadic-value (places (p .levels)) (heightSum p functions heights x y));
+    bits = λ e. lt-of-le-of-lt (small (accepted (sym number-is ∙ e))) (lit< tt);
     told = unfold answer in told-of (refusal p cells functions heights x y) _;
   }
 
@@ -81,7 +85,7 @@ module _ (p : Plan) (cells functions : List ℕ) (heights : List ℤ) (x y : ℕ
   h = heightOf (answer p cells functions heights x y)
 
   none : refusal p cells functions heights x y ≡ 0
-  none = sym (answered p cells functions heights x y .number) ∙ is
+  none = sym (number-is p cells functions heights x y) ∙ is
 
   pub surface : OnSurface p functions heights x y
   surface = accepted p cells functions heights x y none

@@ -15,27 +15,27 @@ use Rattle.grid.specs.declared.Place.{Place}
 use Rattle.grid.specs.Plan.{between, inRange, tooLarge, acrossAt, upAt, functionColumnsAt, functionRowsAt, functionOffset, cellTotal, functionTotal, cellPlace, functionPlace, cellLevel, functionLevel, supported}
 use Rattle.mesh.specs.Mesh.{active, freshCells, freshFunctions}
 use Rattle.splines.specs.Values.{isInside}
+use Rattle.heights.specs.declared.Height.{Height}
 use Rattle.heights.specs.declared.Height.the-variants.{At, Refused}
 use Rattle.heights.specs.Heights.{eighths, onMesh, valueAt, oneAt, heightSum, places, inexact, refusal, answer, numberOf, heightOf}
 
 -- ---- the answer
 
 module _ (p : Plan) (cells functions : List ℕ) (heights : List ℤ) (x y : ℕ) where
+  abbrev pub said : Height
+  said = answer p cells functions heights x y
+
   abbrev pub total : ℤ
   total = heightSum p functions heights x y
 
   pub record Answered : Type 0 where
     -- its number is the refusal's, 0 where there is a height
-    pub number : numberOf (answer p cells functions heights x y) ≡ refusal p cells functions heights x y
+    pub number : numberOf said ≡ refusal p cells functions heights x y
     -- "no bit of the sum is rounded away": the float's value is the sum over 2 ^ places, and that has at most 53 bits
-    pub value : refusal p cells functions heights x y ≡ 0
-        → HasValue (heightOf (answer p cells functions heights x y)) (negative total) (natAbs total) (2 ^ places (p .levels))
-    pub bits : refusal p cells functions heights x y ≡ 0 → natAbs total < 2 ^ 53
-    -- no refusal has the number 0, so number and height say which case of the enum is answered
-    pub told : answer p cells functions heights x y
-        ≡ cond (eqb (numberOf (answer p cells functions heights x y)) 0)
-        (At (heightOf (answer p cells functions heights x y)))
-        (Refused (numberOf (answer p cells functions heights x y)))
+    pub value : numberOf said ≡ 0 → HasValue (heightOf said) (negative total) (natAbs total) (2 ^ places (p .levels))
+    pub bits : numberOf said ≡ 0 → natAbs total < 2 ^ 53
+    -- no refusal has the number 0, so number and height tell which case of the enum is answered
+    pub told : said ≡ cond (eqb (numberOf said) 0) (At (heightOf said)) (Refused (numberOf said))
 
 -- "Inactive functions' heights are ignored", by every answer and refusal
 abbrev pub Ignored : Type 0

@@ -1,17 +1,15 @@
 -- The corners of a cell lie on the mesh, and code computes them. Assumes nothing.
 use mathlib.Core.Path.{_≡_}
-use mathlib.Core.Bool.{not}
-use Prim.Native.Nat.{ℕ, zero, suc, _+_, _-_, _*_, _^_, _≤_, _<_}
+use Prim.Native.Nat.{ℕ, _+_, _-_, _*_, _^_, _≤_, _<_}
 use native.Mathlib.Nat.{lt-of-le-of-lt, mul-le-mul-right}
 use native.Mathlib.Omega.{arith}
 use lib.Dec.{T, leb, le→leb, lit<}
-use lib.IntN.{ℤ, pos, negsuc, natAbs}
-use lib.Ieee.{Float, binary64, odd, ofInt, isNan, fits, toBits, ofBits}
-use lib.Ieee.Bits.{ofBits-toBits}
+use lib.IntN.{ℤ, pos}
+use lib.Ieee.{Float, binary64, ofInt}
 use mathlib.Core.List.{List}
 use Rattle.facts.proofs.Tests.{and-i}
-use Rattle.exact.specs.Dyadic.{negative, over, dyadic}
-use Rattle.exact.proofs.Dyadic.{cast, over-fits}
+use Rattle.exact.specs.Dyadic.{dyadic}
+use Rattle.exact.proofs.Dyadic.{cast, is-number}
 use Rattle.grid.specs.declared.Plan.{Plan}
 use Rattle.grid.specs.declared.Place.{Place}
 use Rattle.grid.specs.Plan.{ratio, grown, columnsAt, rowsAt, CellInside}
@@ -70,19 +68,8 @@ unfolding cornerOf cornerAt
 corner-is p functions heights c a b {x} {y} o ex ey eh =
     rw (eh, whole x (rw ex (o .across≤)), whole y (rw ey (o .up≤)), ex, ey)
 
--- ---- the bits of a fraction
-
-is-number : (s : ℕ) (z : ℤ) → T (not (isNan (dyadic s z)))
-unfolding isNan odd over dyadic
-is-number s (pos zero) = tt
-is-number s (pos (suc n)) = tt
-is-number s (negsuc n) = tt
+-- ---- none of its floats is a NaN
 
 pub numbers : (p : Plan) (functions : List ℕ) (heights : List ℤ) (c : Place) (a b : ℕ) {k : Corner} → k ≡ cornerOf p functions heights c a b → Numbers k
 unfolding cornerOf cornerAt
 numbers p functions heights c a b e = rw e (record { across = is-number 0 _; up = is-number 0 _; height = is-number _ _ })
-
--- an `f64` holds it, so its bits read as a float are it
-pub read-back : (s : ℕ) (z : ℤ) → s ≤ 1021 → natAbs z < 2 ^ 53 → ofBits binary64 (toBits binary64 (dyadic s z)) ≡ dyadic s z
-unfolding dyadic
-read-back s z h g = ofBits-toBits binary64 (dyadic s z) (over-fits s (negative z) (natAbs z) h g)

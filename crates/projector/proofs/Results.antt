@@ -12,7 +12,7 @@ use lib.Ieee.{binary64, ofBits, toBits}
 use lib.ListN.{length, take, drop, length-append, length-drop}
 use lib.Seq.{drop-drop, drop-at}
 use Rattle.facts.proofs.Tests.{differ, T-true}
-use Rattle.exact.proofs.Dyadic.{dyadic-value}
+use Rattle.exact.proofs.Dyadic.{dyadic-value, read-back}
 use Rattle.grid.specs.declared.Plan.{Plan}
 use Rattle.grid.specs.Plan.{inRange, tooLarge, cellTotal, functionTotal, cellPlace}
 use Rattle.grid.proofs.Laws.{cell-inside}
@@ -24,7 +24,7 @@ use Rattle.heights.proofs.Results as claims
 use Rattle.projector.specs.declared.Corner.{Corner}
 use Rattle.projector.specs.Projector.{mostProjected, lineAt, cornerAt, cornerOf, cornersOf, corners, threeWords, wordsOf, planRefusal, meshRefusal, refusal, CornersOutcome, refused, filled, project}
 use Rattle.projector.specs.Demands.{Sound, Projected, Demands, given}
-use Rattle.projector.proofs.Places.{on-lines, read-back}
+use Rattle.projector.proofs.Places.{on-lines}
 use Rattle.projector.proofs.Words.{words-length, listed-tally, corners-length, words-count, tally-small, wordsBelow, words-from, twelve}
 use Rattle.projector.proofs.Refusals.{three, plan-16, passed, accepted}
 
@@ -210,8 +210,7 @@ module _ (p : Plan) (cells functions : List ℕ) (heights : List ℤ) (lent : Li
       let x = lineAt p (at .level) (at .column + a) in
       let y = lineAt p (at .level) (at .row + b) in
       let is = sym (answered p cells functions heights (x * 8) (y * 8) (k .checked) (t .judged) (T-true (onMesh p (x * 8) (y * 8)) (o .inside)) refl) in
-      let all = claims.answered p cells functions heights (x * 8) (y * 8) in
-      let few : natAbs (heightSum p functions heights (x * 8) (y * 8)) < 2 ^ 53 = all .bits (sym (all .number) ∙ ap numberOf is) in
+      let few : natAbs (heightSum p functions heights (x * 8) (y * 8)) < 2 ^ 53 = claims.answered p cells functions heights (x * 8) (y * 8) .bits (ap numberOf is) in
       record {
         across = dyadic-value 0 (pos x);
         up = dyadic-value 0 (pos y);
