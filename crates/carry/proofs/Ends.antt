@@ -62,7 +62,7 @@ module _ (p : Plan) (fs : List ℕ) (hs : List ℤ) (g : ℕ) (b : g < functionT
 
 -- ---- what the cells say
 
--- a cell behind level 0 is present just where its parent is refined
+-- a cell after level 0 is present just where its parent is refined
 present-is : (p : Plan) → InRange p → (cs : List ℕ) → T (isMesh p cs) → (c : ℕ) → c < cellTotal p → 1 ≤ cellLevel p c → not (absent cs c) ≡ refined cs (parent p c)
 present-is p range cs mesh c i l =
     let (a, b, ha, hb, e) = is-child p range c i l in

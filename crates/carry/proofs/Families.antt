@@ -102,7 +102,7 @@ module _ {p : Plan} (allowed : Allowed p) (z : Scales p) (x : Place) (inside : F
   high : U .last < functionRowsAt p (suc k)
   high = up-within allowed k l (x .row) (inside .row<)
 
-  -- who stands behind their level gets nothing
+  -- a function after their level gets nothing
   beyond : (g : ℕ) → o + functionRowsAt p (suc k) * w ≤ g → blockSixteenths o w U A g ≡ 0
   beyond g m = block-behind o w U A (omega (arith, wide)) (functionRowsAt p (suc k)) g high m
 

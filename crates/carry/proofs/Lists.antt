@@ -19,7 +19,7 @@ heights-at zero h i l = absurd (omega arith)
 heights-at (suc n) h zero l = refl
 heights-at (suc n) h (suc i) l = heights-at n (λ i. h (suc i)) i (le-of-suc-le-suc l)
 
--- behind the last there is none
+-- after the last there is none
 pub at-none : (xs : List ℤ) (i : ℕ) → length xs ≤ i → at xs i ≡ pos 0
 at-none xs i l = List·getD-eq-default xs (pos 0) l
 

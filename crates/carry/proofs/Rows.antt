@@ -89,7 +89,7 @@ module _ {begin : ℕ} {a : Children} {h : ℤ} {old : List ℤ} (r : RowRoom be
   unfolding rowPassed
   row-all l s = heights-is (length old) _ _ (s .size) (λ g m. passed-all (rowQuarters begin a) h s (λ g n. row-behind begin a g (omega arith)) g)
 
--- what function g has behind it
+-- what function g has after it
 pub row-passed-at : (begin : ℕ) (a : Children) (h : ℤ) (old : List ℤ) → begin + a .last < length old → (g : ℕ) → at (rowPassed begin a h old) g ≡ at old g +ℤ h *ℤ pos (rowQuarters begin a g)
 unfolding rowPassed
 row-passed-at begin a h old l g = cases (ltb g (length old))

@@ -57,7 +57,7 @@ unfoldable pub blockPassed : ℕ → ℕ → ℕ → Children → Children → L
 blockPassed f offset width up across heights =
     heightsOf (length heights) (λ g. cond (eqb g f) (pos 0) (at heights g +ℤ at heights f *ℤ pos (blockSixteenths offset width up across g)))
 
--- the rows lie in the table, behind f, and no height leaves 32 bits
+-- the rows lie in the table, after f, and no height leaves 32 bits
 pub record BlockRoom (f offset width : ℕ) (up across : Children) (heights : List ℤ) : Type 0 where
   pub behind : f < offset
   pub up-few : Few up

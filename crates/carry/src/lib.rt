@@ -109,7 +109,7 @@ fn pass_level(plan: Plan, functions: &[u8], level: u32, heights: &mut [i32])
     }
 }
 
-// The deactivated functions pass their heights on, level by level, coarsest first. The table has the functions' labels behind the
+// The deactivated functions pass their heights on, level by level, coarsest first. The table has the functions' labels after the
 // refinement, and heights that start from 0 where a function was not active before it.
 fn carry_on(plan: Plan, functions: &[u8], heights: &mut [i32])
     requires { ⌜ Started plan (now heights) ⌝ }

@@ -109,7 +109,7 @@ module _ (p : Plan) (functions : List ℕ) (heights : List ℤ) (cells : List �
   unfolding wordsBelow corners
   words-all = refl
 
-  -- the words of an active cell stand behind those of the active cells before it
+  -- the words of an active cell stand after those of the active cells before it
   pub words-from : (c : ℕ) → c < cellTotal p → active cells c ≡ true
       → (rest : List ℕ) × (wordsOf (corners p functions heights cells) ≡ wordsBelow c ++ (wordsOf (cornersOn c) ++ wordsOf (flatMap cornersOn rest)))
   unfolding corners wordsBelow
@@ -154,7 +154,7 @@ module _ (p : Plan) (functions : List ℕ) (heights : List ℤ) (cells : List �
       let all = listed-le (active cells) (i + 1) (cellTotal p) (omega arith) in
       omega (arith, twelve i, words-count, listed-tally (cellTotal p) (active cells), more, all, h)
 
-  -- and is then behind the others
+  -- and then comes after the others
   pub turn : (i : ℕ) {c : Place} {out mid new : List ℕ} {at e : ℕ} → i < cellTotal p → getD cells i 0 ≡ 1 → c ≡ cellPlace p i
       → length (wordsOf (corners p functions heights cells)) ≤ length out
       → Writes out 0 (wordsBelow i) at mid → Writes mid at (wordsOf (cornersOf p functions heights c)) e new → Writes out 0 (wordsBelow (i + 1)) e new

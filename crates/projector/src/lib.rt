@@ -66,7 +66,7 @@ fn corner_of(
     }
 }
 
-// A corner put at a place of the output, its floats as their bits; the place behind it.
+// A corner put at a place of the output, its floats as their bits; the place after it.
 fn put(out: &mut [u64], at: usize, corner: Corner) -> usize
     requires { ⌜ at + 3 ≤ length (now out) ⌝ }
     requires { ⌜ Numbers corner ⌝ }
@@ -98,7 +98,7 @@ fn put_cell(
     put(out, at4, corner_of(plan, functions, heights, place, 1, 1))
 }
 
-// The corners of all active cells; the place behind them.
+// The corners of all active cells; the place after them.
 fn put_all(plan: Plan, cells: &[u8], functions: &[u8], heights: &[i32], out: &mut [u64]) -> usize
     requires { ⌜ Ready plan (now functions) (now heights) ⌝ }
     requires { ⌜ length (now cells) ≡ cellTotal plan ⌝ }

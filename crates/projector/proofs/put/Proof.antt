@@ -1,4 +1,4 @@
--- `put` meets its contract: three stores, one behind another. Assumes nothing.
+-- `put` meets its contract: three stores, one after another. Assumes nothing.
 use mathlib.Core.Path.{refl}
 use native.Mathlib.Omega.{arith}
 use lib.Ieee.{binary64, toBits}

@@ -1,4 +1,4 @@
--- `put_cell` meets its contract: four corners, one behind another. Assumes nothing.
+-- `put_cell` meets its contract: four corners, one after another. Assumes nothing.
 use native.Mathlib.Omega.{arith}
 use lib.Dec.{lit≤}
 use Rattle.projector.proofs.Places.{numbers}
