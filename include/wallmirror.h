@@ -620,10 +620,11 @@ WallmirrorHeight wallmirror_height(WallmirrorPlan plan,
                                    uint32_t across, uint32_t up);
 
 /* The corners of the active cells with the height of the surface there, as is said at the top:
- * twelve doubles for a cell, exactly, from the start of out on. Doubles past them keep their
- * values. Of a height that is 0 the same holds as with wallmirror_height. Refuses 1; 2; 16; 3 to 6;
- * then 3 where there is not one height for each function; then 14; then 15, for the heights; then
- * 10. */
+ * twelve doubles for a cell, exactly, from the start of out on. Doubles past them, and all of them
+ * after a refusal, keep their bits, those of a NaN too. (The library takes out as words of 64 bits,
+ * which have the size and alignment of a double, and writes the bits of each double.) Of a height
+ * that is 0 the same holds as with wallmirror_height. Refuses 1; 2; 16; 3 to 6; then 3 where there
+ * is not one height for each function; then 14; then 15, for the heights; then 10. */
 WallmirrorCorners wallmirror_corners(WallmirrorPlan plan,
                                      const uint8_t *cells, size_t cells_len,
                                      const uint8_t *functions, size_t functions_len,
