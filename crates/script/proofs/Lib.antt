@@ -1,4 +1,3 @@
-pub mod Room
 pub mod Replies
 pub mod Sample
 pub mod Limit

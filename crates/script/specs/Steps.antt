@@ -7,10 +7,7 @@ use lib.Dec.{eqb}
 use lib.ListN.{take}
 use Rattle.grid.specs.Plan.{cellTotal, functionTotal}
 use Rattle.lines.specs.Text.{Counts}
-use Rattle.lines.specs.declared.Kind.{Kind}
-use Rattle.lines.specs.declared.Kind.the-variants.{Unreadable, Wall, Split, Join, SplitFunctions, JoinFunctions}
-use Rattle.outcomes.specs.Calls.{Direction, refine, coarsen, By, cells, functions, Outcome}
-use Rattle.script.specs.Session.{State, noWall, wall, Reply, shown}
+use Rattle.script.specs.Session.{State, noWall, wall, Reply}
 use Rattle.script.specs.declared.Hand.{Hand}
 use Rattle.script.specs.declared.Done.{Done}
 use Rattle.script.specs.Bounds.{wallCells, wallFunctions}
@@ -25,34 +22,11 @@ pub record HandSized (h : Hand) : Type 0 where
   pub functions≤ : h .functions ≤ wallFunctions
   pub whole : eqb (h .cells) 0 ≡ false → (h .cells ≡ cellTotal (h .plan)) × (h .functions ≡ functionTotal (h .plan))
 
--- the call that a kind of line asks for
-abbrev pub directionOf : Kind → Direction
-directionOf Unreadable = coarsen
-directionOf Wall = coarsen
-directionOf Split = refine
-directionOf Join = coarsen
-directionOf SplitFunctions = refine
-directionOf JoinFunctions = coarsen
-
-abbrev pub byOf : Kind → By
-byOf Unreadable = functions
-byOf Wall = functions
-byOf Split = cells
-byOf Join = cells
-byOf SplitFunctions = functions
-byOf JoinFunctions = functions
-
 -- a whole text at the start of the buffer, which had room for it
 pub record Said (text : List ℕ) (count : ℕ) (out : List ℕ) : Type 0 where
   pub bytes : take count out ≡ text
   pub some : 0 < count
   pub inside : Counts count out
-
--- a call with its answer: both tables, and what stands in the buffer
-pub record Answered (o : Outcome) (count : ℕ) (cs fs out : List ℕ) : Type 0 where
-  pub cells : cs ≡ o .cells
-  pub functions : fs ≡ o .functions
-  pub said : Said (shown o) count out
 
 -- a reply: what is in hand, with the tables, and what stands in the buffer
 pub record Replied (r : Reply) (done : Done) (cs fs out : List ℕ) : Type 0 where

@@ -42,7 +42,7 @@ fn run(
     let mut n = 0;
     while at < input.len() {
         let end = lines::line_end(input, at);
-        let done = script::step(
+        let done = replies::step(
             hand,
             &input[at..end],
             numbers,

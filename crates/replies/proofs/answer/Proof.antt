@@ -3,11 +3,11 @@ use mathlib.Core.Path.{ap}
 use native.Mathlib.Omega.{arith}
 use lib.ListN.{length-take}
 use Rattle.outcomes.specs.Calls.{Outcome}
 use Rattle.script.specs.Session.{shown}
 use Rattle.script.proofs.Replies.{said-as}
 use borrow.Author.Needs.{needs}
-use Rattle.script.proofs.answer.Statement.{statement}
-use Rattle.script.proofs.answer.Tie as tie
+use Rattle.replies.proofs.answer.Statement.{statement}
+use Rattle.replies.proofs.answer.Tie as tie
 
 call-requires : tie.Need-call-requires
 call-requires c κs = search needs

@@ -1,10 +1,10 @@
 -- `call` meets its contract: each kind of line has its direction and its marks, and the answer lies within its lists. Assumes nothing.
 use mathlib.Core.Path.{_∙_}
-use Rattle.script.proofs.Replies.{asked}
-use Rattle.script.proofs.Room.{answered}
+use Rattle.replies.proofs.Laws.{asked}
+use Rattle.replies.proofs.Room.{answered}
 use borrow.Author.Needs.{needs}
-use Rattle.script.proofs.call.Statement.{statement}
-use Rattle.script.proofs.call.Tie as tie
+use Rattle.replies.proofs.call.Statement.{statement}
+use Rattle.replies.proofs.call.Tie as tie
 
 check-requires : tie.Need-check-requires
 check-requires c κs = search needs

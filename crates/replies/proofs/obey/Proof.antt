@@ -1,11 +1,12 @@
 -- `obey` meets its contract, kind by kind. Assumes nothing.
 use mathlib.Core.Path.{refl, sym, ap, _∙_}
 use Rattle.lines.specs.Writing.{question}
 use Rattle.script.specs.Session.{opening}
-use Rattle.script.proofs.Replies.{kept, marked, obeyed, replied-as}
+use Rattle.script.proofs.Replies.{kept, replied-as}
+use Rattle.replies.proofs.Laws.{marked, obeyed}
 use borrow.Author.Needs.{needs}
-use Rattle.script.proofs.obey.Statement.{statement}
-use Rattle.script.proofs.obey.Tie as tie
+use Rattle.replies.proofs.obey.Statement.{statement}
+use Rattle.replies.proofs.obey.Tie as tie
 
 enum-told : tie.Need-enum-told
 enum-told c = search needs

@@ -4,10 +4,10 @@ use native.Mathlib.Omega.{arith}
 use lib.ListN.{length-take}
 use lib.Seq.{length-take-le}
 use borrow.Author.Tests.{ne-eqb}
-use Rattle.script.proofs.Replies.{called, called-none}
+use Rattle.replies.proofs.Laws.{called, called-none}
 use borrow.Author.Needs.{needs}
-use Rattle.script.proofs.change.Statement.{statement}
-use Rattle.script.proofs.change.Tie as tie
+use Rattle.replies.proofs.change.Statement.{statement}
+use Rattle.replies.proofs.change.Tie as tie
 
 say-question-requires : tie.Need-say-question-requires
 say-question-requires c κs = search needs

@@ -1,8 +1,8 @@
 -- `by_of` meets its contract: the marks of `split` and `join` are cells, the others functions. Assumes nothing.
-use Rattle.script.proofs.Replies.{by-functions}
+use Rattle.replies.proofs.Laws.{by-functions}
 use borrow.Author.Needs.{needs}
-use Rattle.script.proofs.by_of.Statement.{statement}
-use Rattle.script.proofs.by_of.Tie as tie
+use Rattle.replies.proofs.by_of.Statement.{statement}
+use Rattle.replies.proofs.by_of.Tie as tie
 
 enum-told : tie.Need-enum-told
 enum-told c = search needs

@@ -1,9 +1,10 @@
 -- `step` meets its contract: a line is read, and what it asks is done. Assumes nothing.
 use Rattle.script.specs.Session.{obey}
-use Rattle.script.proofs.Replies.{read-step, replied-as}
+use Rattle.script.proofs.Replies.{replied-as}
+use Rattle.replies.proofs.Laws.{read-step}
 use borrow.Author.Needs.{needs}
-use Rattle.script.proofs.step.Statement.{statement}
-use Rattle.script.proofs.step.Tie as tie
+use Rattle.replies.proofs.step.Statement.{statement}
+use Rattle.replies.proofs.step.Tie as tie
 
 read-line-requires : tie.Need-read-line-requires
 read-line-requires c κs = search needs

@@ -1,8 +1,8 @@
 -- `direction_of` meets its contract: the lines `split` and `fsplit` refine, the others coarsen. Assumes nothing.
-use Rattle.script.proofs.Replies.{coarsens}
+use Rattle.replies.proofs.Laws.{coarsens}
 use borrow.Author.Needs.{needs}
-use Rattle.script.proofs.direction_of.Statement.{statement}
-use Rattle.script.proofs.direction_of.Tie as tie
+use Rattle.replies.proofs.direction_of.Statement.{statement}
+use Rattle.replies.proofs.direction_of.Tie as tie
 
 enum-told : tie.Need-enum-told
 enum-told c = search needs
