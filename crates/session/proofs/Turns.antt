@@ -46,9 +46,9 @@ unfolding after
 after-more s [] l = refl
 after-more s (m ∷ ls) l = after-more (stepOf s m .state) ls l
 
-pub starts : (input : List ℕ) (h : Hand) (cs fs : List ℕ) → length input ≤ inputBytes → h .cells ≡ 0 → Left input 0 0 (held h cs fs)
+pub starts : (input : List ℕ) (n : ℕ) (h : Hand) (cs fs : List ℕ) → length input ≤ inputBytes → h .cells ≡ 0 → n ≡ 0 → Left input n 0 (held h cs fs)
 unfolding replies after
-starts input h cs fs l e = record { state = held-none h cs fs e; lines = rw (take-all inputBytes input l) refl; answered = omega arith; left = rw (take-all inputBytes input l, held-none h cs fs e) refl }
+starts input n h cs fs l e z = rw z (record { state = held-none h cs fs e; lines = rw (take-all inputBytes input l) refl; answered = omega arith; left = rw (take-all inputBytes input l, held-none h cs fs e) refl })
 
 module _ (input : List ℕ) (n at r : ℕ) (s : State) (l : Left input n at s) (i : at < length input) (e : EndsLine input at r) where
   abbrev turned : Reply
@@ -71,13 +71,13 @@ module _ (input : List ℕ) (n at r : ℕ) (s : State) (l : Left input n at s) (
     pub due : Due input n (take (done .count) out)
     due = record { place = first-place (replies input) n _ _ next; printed = first-text (replies input) n _ _ next ∙ sym (w .said .bytes) }
 
-    pub turn : Left input (n + 1) (r + 1) (held (done .hand) cs fs)
-    turn = record {
+    pub turn : (m : ℕ) → m ≡ n + 1 → Left input m (r + 1) (held (done .hand) cs fs)
+    turn m z = rw z (record {
       state = w .state ∙ next-state;
       lines = first-rest (linesIn input) n _ _ next-line;
       answered = omega (arith, first-place (replies input) n _ _ next);
       left = first-rest (replies input) n _ _ next ∙ ap (λ (x : State). repliesFrom x (linesOf (drop (r + 1) input))) (sym (w .state));
-    }
+    })
 
 pub ends : (input : List ℕ) (n at : ℕ) (s : State) → Left input n at s → length input ≤ at → n ≡ length (replies input)
 unfolding repliesFrom parts

@@ -12,6 +12,12 @@ pub record Due (input : List ℕ) (n : ℕ) (text : List ℕ) : Type 0 where
   pub place : n < length (replies input)
   pub printed : getD (replies input) n [] ≡ text
 
+-- a line of some input prints the text
+pub record IsReply (text : List ℕ) : Type 0 where
+  pub input : List ℕ
+  pub n : ℕ
+  pub due : Due input n text
+
 -- what is in hand after these lines, where the first of them finds s
 unfoldable pub after : State → List (List ℕ) → State
 after s [] = s

@@ -1,26 +1,18 @@
-// The session program (document 01): it reads its input, has crate `script` answer each line, and writes the answers.
+// The session program (document 01): it reads its input, has crate `replies` answer each line, and hands the answers over.
+mod standard;
+
 ghost use mathlib.Core.Path.{_≡_};
 ghost use Prim.Native.Nat.{_≤_};
-ghost use lib.ListN.{length, take};
+ghost use lib.ListN.{length};
 ghost use Rattle.script.specs.Session.{replies};
-ghost use Rattle.session.specs.Program.{Due};
 ghost use Rattle.script.specs.Bounds.{answerBytes, inputBytes, wallCells, wallFunctions};
-use libc::STDIN_FILENO;
-use libc::STDOUT_FILENO;
 use script::ANSWER_BYTES;
 use script::INPUT_BYTES;
 use script::WALL_CELLS;
 use script::WALL_FUNCTIONS;
+use standard::Handed;
 
-// Hands the answer to the n-th line of the input to standard output. Nothing else is ever handed to it. What is made of it there
-// no contract can say.
-fn say(input: &[u8], n: usize, text: &[u8])
-    requires { ⌜ Due (now input) n (now text) ⌝ }
-{
-    io::write_all(STDOUT_FILENO, text);
-}
-
-// The lines one after the other. The result is how many were answered: all.
+// The lines one after the other. What is handed over at the end is all: the answer to each line, in order.
 fn run(
     input: &[u8],
     numbers: &mut [u32],
@@ -29,17 +21,17 @@ fn run(
     cell_list: &mut [u32],
     function_list: &mut [u32],
     out: &mut [u8],
-) -> usize
+) -> Handed
     requires { ⌜ length (now input) ≤ inputBytes ⌝ }
     requires { ⌜ 64 ≤ length (now numbers) ⌝ }
     requires { ⌜ (wallCells ≤ length (now cells)) × (wallFunctions ≤ length (now functions)) ⌝ }
     requires { ⌜ (wallCells ≤ length (now «cell_list»)) × (wallFunctions ≤ length (now «function_list»)) ⌝ }
     requires { ⌜ answerBytes ≤ length (now out) ⌝ }
-    ensures { λ r. ⌜ r ≡ length (replies (now (input .entry))) ⌝ }
+    ensures { λ r. ⌜ r .answers ≡ length (replies (now (input .entry))) ⌝ }
 {
     let mut hand = script::no_wall();
+    let mut handed = standard::nothing();
     let mut at = 0;
-    let mut n = 0;
     while at < input.len() {
         let end = lines::line_end(input, at);
         let done = replies::step(
@@ -54,19 +46,16 @@ fn run(
         );
         hand = done.hand;
         let count = done.count;
-        say(input, n, &out[..count]);
-        n += 1;
+        handed = standard::say(input, handed, &out[..count]);
         at = end + 1;
     }
-    n
+    handed
 }
 
-// The tables and lists of the largest wall of a session, and room for its longest answer. The input is what was read into a
-// buffer of 16,384 bytes.
-fn session(buffer: &[u8], count: usize) -> usize
-    requires { ⌜ length (now buffer) ≡ inputBytes ⌝ }
-    requires { ⌜ count ≤ length (now buffer) ⌝ }
-    ensures { λ r. ⌜ r ≡ length (replies (take count (now (buffer .entry)))) ⌝ }
+// The tables and lists of the largest wall of a session, and room for its longest answer.
+fn session(input: &[u8]) -> Handed
+    requires { ⌜ length (now input) ≤ inputBytes ⌝ }
+    ensures { λ r. ⌜ r .answers ≡ length (replies (now (input .entry))) ⌝ }
 {
     let mut numbers = [0u32; 64];
     let mut cells = [0u8; WALL_CELLS];
@@ -75,7 +64,7 @@ fn session(buffer: &[u8], count: usize) -> usize
     let mut function_list = [0u32; WALL_FUNCTIONS];
     let mut out = [0u8; ANSWER_BYTES];
     run(
-        &buffer[..count],
+        input,
         &mut numbers,
         &mut cells,
         &mut functions,
@@ -86,7 +75,7 @@ fn session(buffer: &[u8], count: usize) -> usize
 }
 
 fn main() {
-    let mut input = [0u8; INPUT_BYTES];
-    let count = io::read_full(STDIN_FILENO, &mut input);
-    session(&input, count);
+    let mut buffer = [0u8; INPUT_BYTES];
+    let count = standard::read(&mut buffer);
+    session(&buffer[..count]);
 }

@@ -1,12 +1,10 @@
 -- `session` meets its contract: what it lends is long enough. Assumes nothing.
-use native.Mathlib.Omega.{arith}
-use lib.ListN.{length-take}
 use borrow.Author.Needs.{needs}
 use Rattle.session.proofs.session.Statement.{statement}
 use Rattle.session.proofs.session.Tie as tie
 
 slice-aggregate-run : tie.Need-slice-aggregate-run
-slice-aggregate-run c = simp length-take (omega (arith, c .before .before .pre .1))
+slice-aggregate-run c = search needs
 
 slice-aggregate-run-2 : tie.Need-slice-aggregate-run-2
 slice-aggregate-run-2 c = search needs
@@ -23,11 +21,8 @@ slice-aggregate-run-5 c = search needs
 slice-aggregate-run-6 : tie.Need-slice-aggregate-run-6
 slice-aggregate-run-6 c = search needs
 
-slice-aggregate-run-7 : tie.Need-slice-aggregate-run-7
-slice-aggregate-run-7 c = search needs
-
 run-requires : tie.Need-run-requires
-run-requires c κs = (simp length-take (omega (arith, c .before .before .before .before .before .before .before .before .pre .0)), (search needs, ((search needs, search needs), ((search needs, search needs), search needs))))
+run-requires c κs = (c .before .before .before .before .before .before .before .pre, (search needs, ((search needs, search needs), ((search needs, search needs), search needs))))
 
 returns : tie.Need-returns
 returns c = search needs
@@ -42,6 +37,5 @@ session-spec =
     slice-aggregate-run-4
     slice-aggregate-run-5
     slice-aggregate-run-6
-    slice-aggregate-run-7
     run-requires
     returns)
