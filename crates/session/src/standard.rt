@@ -43,7 +43,6 @@ pub fn say(input: &[u8], handed: Handed, text: &[u8]) -> Handed
     ensures { λ r. ⌜ r .answers ≡ handed .answers + 1 ⌝ }
 {
     print(text);
-    Handed {
-        answers: handed.answers + 1,
-    }
+    let answers = handed.answers + 1;
+    Handed { answers }
 }

@@ -1,0 +1,18 @@
+-- `say` meets its contract: what it prints is the answer that is due. Assumes nothing.
+use native.Mathlib.Omega.{arith}
+use borrow.Author.Needs.{needs}
+use Rattle.session.proofs.standard.say.Statement.{statement}
+use Rattle.session.proofs.standard.say.Tie as tie
+
+print-requires : tie.Need-print-requires
+print-requires c κs = let s = c .before .before in
+    record { input = s .args .input .now; n = s .args .handed .answers; due = s .pre .0 }
+
+add-answers : tie.Need-add-answers
+add-answers c = let s = c .before .before .before .before in omega (arith, s .pre .1)
+
+returns : tie.Need-returns
+returns c = search needs
+
+pub say-spec : {M : Type 1} → statement M
+say-spec = tie.close (tie.spec print-requires add-answers returns)
