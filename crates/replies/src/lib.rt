@@ -179,7 +179,6 @@ fn obey(
 pub fn step(
     hand: Hand,
     line: &[u8],
-    numbers: &mut [u32],
     cells: &mut [u8],
     functions: &mut [u8],
     cell_list: &mut [u32],
@@ -187,13 +186,13 @@ pub fn step(
     out: &mut [u8],
 ) -> Done
     requires { ⌜ HandSized hand ⌝ }
-    requires { ⌜ 64 ≤ length (now numbers) ⌝ }
     requires { ⌜ (wallCells ≤ length (now cells)) × (wallFunctions ≤ length (now functions)) ⌝ }
     requires { ⌜ (wallCells ≤ length (now «cell_list»)) × (wallFunctions ≤ length (now «function_list»)) ⌝ }
     requires { ⌜ answerBytes ≤ length (now out) ⌝ }
     ensures { λ r. ⌜ Replied (stepOf (held hand (now (cells .entry)) (now (functions .entry))) (now (line .entry))) r (now (cells .exit)) (now (functions .exit)) (now (out .exit)) ⌝ }
 {
-    let read = lines::read_line(line, numbers);
+    let mut numbers = [0u32; 64];
+    let read = lines::read_line(line, &mut numbers);
     let kind = read.kind;
     let count = read.count;
     obey(

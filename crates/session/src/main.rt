@@ -15,7 +15,6 @@ use standard::Handed;
 // The lines one after the other. What is handed over at the end is all: the answer to each line, in order.
 fn run(
     input: &[u8],
-    numbers: &mut [u32],
     cells: &mut [u8],
     functions: &mut [u8],
     cell_list: &mut [u32],
@@ -23,7 +22,6 @@ fn run(
     out: &mut [u8],
 ) -> Handed
     requires { ⌜ length (now input) ≤ inputBytes ⌝ }
-    requires { ⌜ 64 ≤ length (now numbers) ⌝ }
     requires { ⌜ (wallCells ≤ length (now cells)) × (wallFunctions ≤ length (now functions)) ⌝ }
     requires { ⌜ (wallCells ≤ length (now «cell_list»)) × (wallFunctions ≤ length (now «function_list»)) ⌝ }
     requires { ⌜ answerBytes ≤ length (now out) ⌝ }
@@ -37,7 +35,6 @@ fn run(
         let done = replies::step(
             hand,
             &input[at..end],
-            numbers,
             cells,
             functions,
             cell_list,
@@ -57,7 +54,6 @@ fn session(input: &[u8]) -> Handed
     requires { ⌜ length (now input) ≤ inputBytes ⌝ }
     ensures { λ r. ⌜ r .answers ≡ length (replies (now (input .entry))) ⌝ }
 {
-    let mut numbers = [0u32; 64];
     let mut cells = [0u8; WALL_CELLS];
     let mut functions = [0u8; WALL_FUNCTIONS];
     let mut cell_list = [0u32; WALL_CELLS];
@@ -65,7 +61,6 @@ fn session(input: &[u8]) -> Handed
     let mut out = [0u8; ANSWER_BYTES];
     run(
         input,
-        &mut numbers,
         &mut cells,
         &mut functions,
         &mut cell_list,

@@ -1,23 +1,25 @@
 -- `step` meets its contract: a line is read, and what it asks is done. Assumes nothing.
-use Rattle.script.specs.Session.{obey}
+use native.Mathlib.Omega.{arith}
 use Rattle.script.proofs.Replies.{replied-as}
 use Rattle.replies.proofs.Laws.{read-step}
 use borrow.Author.Needs.{needs}
 use Rattle.replies.proofs.step.Statement.{statement}
 use Rattle.replies.proofs.step.Tie as tie
 
+slice-aggregate-read-line : tie.Need-slice-aggregate-read-line
+slice-aggregate-read-line c = search needs
+
 read-line-requires : tie.Need-read-line-requires
 read-line-requires c κs = search needs
 
-slice-reshare-prefix-obey : tie.Need-slice-reshare-prefix-obey
-slice-reshare-prefix-obey c = search needs
+array-share-prefix-numbers : tie.Need-array-share-prefix-numbers
+array-share-prefix-numbers c = search needs
 
 slice-aggregate-obey : tie.Need-slice-aggregate-obey
-slice-aggregate-obey c = c .before .before .before .read-line .ensures .inside .1
+slice-aggregate-obey c = search needs
 
 obey-requires : tie.Need-obey-requires
-obey-requires c κs = let s = c .before .before .before .before .before .before .before .before .before .before .before .before .before .before .before .before .before in
-    (s .pre .0, s .pre .1 .1)
+obey-requires c κs = c .before .before .before .before .before .before .before .before .before .before .before .before .before .before .before .pre
 
 same-length : tie.Need-same-length
 same-length c = search needs
@@ -34,20 +36,18 @@ same-length-4 c = search needs
 same-length-5 : tie.Need-same-length-5
 same-length-5 c = search needs
 
-same-length-6 : tie.Need-same-length-6
-same-length-6 c = search needs
-
 returns : tie.Need-returns
-returns c = let s = c .before .before .before .before .before .before .before .before .before .before .before .before .before .before .before .before .before .before .before .before .before .before .before .before .before .before .before .before in
-    let r = c .before .before .before .before .before .before .before .before .before .before .before .before .before .before .before .before .before .before .before .read-line in
-    replied-as (c .before .before .before .before .before .before .before .before .before .before .obey .ensures) (read-step (s .args .line .now) (s .args .numbers .now) (r .result) _ (s .pre .1 .0) (r .ensures) _)
+returns c = let s = c .before .before .before .before .before .before .before .before .before .before .before .before .before .before .before .before .before .before .before .before .before .before .before .before .before .before in
+    let r = c .before .before .before .before .before .before .before .before .before .before .before .before .before .before .before .before .before .before .read-line in
+    replied-as (c .before .before .before .before .before .before .before .before .before .before .obey .ensures) (read-step (s .args .line .now) _ (r .result) _ (omega arith) (r .ensures) _)
 
 pub step-spec : {M : Type 1} → statement M
 step-spec =
     tie.close
     (tie.spec
+    slice-aggregate-read-line
     read-line-requires
-    slice-reshare-prefix-obey
+    array-share-prefix-numbers
     slice-aggregate-obey
     obey-requires
     same-length
@@ -55,5 +55,4 @@ step-spec =
     same-length-3
     same-length-4
     same-length-5
-    same-length-6
     returns)

@@ -26,11 +26,8 @@ slice-aggregate-run-4 c = zeros _
 slice-aggregate-run-5 : tie.Need-slice-aggregate-run-5
 slice-aggregate-run-5 c = zeros _
 
-slice-aggregate-run-6 : tie.Need-slice-aggregate-run-6
-slice-aggregate-run-6 c = zeros _
-
 run-requires : tie.Need-run-requires
-run-requires c κs = (c .before .before .before .before .before .before .before .pre, (search needs, ((search needs, search needs), ((search needs, search needs), search needs))))
+run-requires c κs = (c .before .before .before .before .before .before .pre, ((search needs, search needs), ((search needs, search needs), search needs)))
 
 returns : tie.Need-returns
 returns c = search needs
@@ -44,6 +41,5 @@ session-spec =
     slice-aggregate-run-3
     slice-aggregate-run-4
     slice-aggregate-run-5
-    slice-aggregate-run-6
     run-requires
     returns)
