@@ -1,13 +1,12 @@
 -- `session` meets its contract: what it lends is long enough. Assumes nothing.
-use mathlib.Core.Path.{_≡_, refl, sym}
-use Prim.Native.Nat.{ℕ, _≤_}
-use native.Mathlib.Omega.{arith}
+use mathlib.Core.Path.{_≡_, sym}
+use Prim.Native.Nat.{ℕ}
 use lib.ListN.{length, replicate, length-replicate}
 use borrow.Author.Needs.{needs}
 use Rattle.session.proofs.session.Statement.{statement}
 use Rattle.session.proofs.session.Tie as tie
 
--- a new array has room for so many
+-- the length of a new array
 zeros : (n : ℕ) → n ≡ length {A = ℕ} (replicate n 0)
 zeros n = sym (length-replicate n 0)
 
@@ -30,7 +29,7 @@ run-requires : tie.Need-run-requires
 run-requires c κs = (c .before .before .before .before .before .before .pre, ((search needs, search needs), ((search needs, search needs), search needs)))
 
 returns : tie.Need-returns
-returns c = search needs
+returns c = c .before .before .before .before .before .run .ensures
 
 pub session-spec : {M : Type 1} → statement M
 session-spec =
