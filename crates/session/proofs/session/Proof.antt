@@ -2,7 +2,7 @@
 use mathlib.Core.Path.{_≡_, sym}
 use Prim.Native.Nat.{ℕ}
 use lib.ListN.{length, replicate, length-replicate}
-use borrow.Author.Needs.{needs}
+use native.Mathlib.Omega.{arith}
 use Rattle.session.proofs.session.Statement.{statement}
 use Rattle.session.proofs.session.Tie as tie
 
@@ -26,7 +26,7 @@ slice-aggregate-run-5 : tie.Need-slice-aggregate-run-5
 slice-aggregate-run-5 c = zeros _
 
 run-requires : tie.Need-run-requires
-run-requires c κs = (c .before .before .before .before .before .before .pre, ((search needs, search needs), ((search needs, search needs), search needs)))
+run-requires c κs = (c .before .before .before .before .before .before .pre, ((omega arith, omega arith), ((omega arith, omega arith), omega arith)))
 
 returns : tie.Need-returns
 returns c = c .before .before .before .before .before .run .ensures
