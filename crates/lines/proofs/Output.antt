@@ -90,7 +90,7 @@ unfolding items
 items-short [] = omega arith
 items-short (n ∷ ns) = omega (arith, spaced-short ns, length-digits n, length-append (digits n) (spaced ns))
 
--- a list and the byte behind it
+-- a list and the byte after it
 module _ (l : List ℕ) (b : ℕ) where
   pub list-none : length l ≡ 0 → items l ++ (b ∷ []) ≡ b ∷ []
   list-none h = ap (λ (x : List ℕ). x ++ (b ∷ [])) (items-none l h)

@@ -30,11 +30,11 @@ unfoldable pub parts : ℕ → List (List ℕ) → List ℕ → List (List ℕ)
 parts stop end [] = end
 parts stop end (b ∷ s) = cond (eqb b stop) ([] ∷ parts stop end s) (onto b (parts stop end s))
 
--- "Lines end in a line feed, which the last may lack": nothing behind the last line feed is no line
+-- "Lines end in a line feed, which the last may lack": what stands after the last line feed is a line, unless nothing does
 abbrev pub linesOf : List ℕ → List (List ℕ)
 linesOf s = parts 10 [] s
 
--- "one space apart": two spaces have an empty field between them, and a space at the end has one behind it
+-- "one space apart": two spaces have an empty field between them, and a space at the end has one after it
 abbrev pub fieldsOf : List ℕ → List (List ℕ)
 fieldsOf s = parts 32 ([] ∷ []) s
 
@@ -49,7 +49,7 @@ unfoldable pub allDigits : List ℕ → Bool
 allDigits [] = true
 allDigits (b ∷ s) = isDigit b && allDigits s
 
--- the value of the digits s that stand behind digits of value n
+-- the value of the digits s that stand after digits of value n
 unfoldable pub valueAfter : ℕ → List ℕ → ℕ
 valueAfter n [] = n
 valueAfter n (b ∷ s) = valueAfter (n * 10 + (b - 48)) s
@@ -119,7 +119,7 @@ meaningOf (w ∷ fs) =
 abbrev pub meaning : List ℕ → Meaning
 meaning s = meaningOf (fieldsOf s)
 
--- r is where the line that starts at a place of the input s ends; the other lines start behind r
+-- r is where the line that starts at a place of the input s ends; the other lines start after r
 pub record EndsLine (s : List ℕ) (from r : ℕ) : Type 0 where
   pub place : r ≡ from + length (upTo 10 (drop from s))
   pub inside : from ≤ length s → r ≤ length s

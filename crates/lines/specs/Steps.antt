@@ -7,7 +7,7 @@ use lib.ListN.{length, drop}
 use Rattle.lines.specs.declared.Field.{Field}
 use Rattle.lines.specs.Reading.{upTo, parts, numberOf, allNumbers}
 
--- the parts behind the first, of what is left of a text from the place where that ends
+-- the parts after the first, of what is left of a text from the place where that ends
 abbrev pub behind : ℕ → List (List ℕ) → List ℕ → List (List ℕ)
 behind stop end [] = []
 behind stop end (b ∷ s) = parts stop end s
@@ -19,7 +19,7 @@ fieldsBehind s = behind 32 ([] ∷ []) s
 abbrev pub counted : List (List ℕ) → ℕ
 counted fs = cond (allNumbers fs) (length fs) 65
 
--- the field behind the space at a place of the line s
+-- the field after the space at a place of the line s
 pub record ReadsField (s : List ℕ) (at : ℕ) (field : Field) : Type 0 where
   pub number : field .number ≡ numberOf (upTo 32 (drop (at + 1) s))
   pub end : field .end ≡ at + 1 + length (upTo 32 (drop (at + 1) s))

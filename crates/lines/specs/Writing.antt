@@ -17,7 +17,7 @@ lastDigits (suc k) n = cond (ltb n 10) ((48 + n) ∷ []) (lastDigits k (n / 10) 
 unfoldable pub digits : ℕ → List ℕ
 digits n = lastDigits 10 n
 
--- "list items parted by spaces": the items behind the first, each behind a space
+-- "list items parted by spaces": the items after the first, each after a space
 unfoldable pub spaced : List ℕ → List ℕ
 spaced [] = []
 spaced (n ∷ ns) = 32 ∷ digits n ++ spaced ns

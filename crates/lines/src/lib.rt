@@ -32,13 +32,13 @@ pub struct Line {
     pub count: usize,
 }
 
-// A field of a line: the number that it holds, and the place of the space behind it or of the line's end.
+// A field of a line: the number that it holds, and the place of the space after it or of the line's end.
 struct Field {
     number: Number,
     end: usize,
 }
 
-// The place of the first `stop` in the text at `from` or behind it, or its end.
+// The place of the first `stop` in the text at `from` or after it, or its end.
 fn find(text: &[u8], from: usize, stop: u8) -> usize
     ensures { λ r. ⌜ r ≡ from + length (upTo stop (drop from (now (text .entry)))) ⌝ }
 {
@@ -52,7 +52,7 @@ fn find(text: &[u8], from: usize, stop: u8) -> usize
     i
 }
 
-// Where the line that starts at `from` ends; the next one starts behind that place.
+// Where the line that starts at `from` ends; the next one starts after that place.
 pub fn line_end(input: &[u8], from: usize) -> usize
     ensures { λ r. ⌜ EndsLine (now (input .entry)) from r ⌝ }
 {
@@ -137,7 +137,7 @@ fn fits(kind: Kind, count: usize) -> bool
     }
 }
 
-// The field behind the space at `at`.
+// The field after the space at `at`.
 fn read_field(line: &[u8], at: usize) -> Field
     requires { ⌜ at < length (now line) ⌝ }
     ensures { λ r. ⌜ ReadsField (now (line .entry)) at r ⌝ }
@@ -148,7 +148,7 @@ fn read_field(line: &[u8], at: usize) -> Field
     Field { number, end }
 }
 
-// How many numbers stand behind the space at `from`, or 65 where a field is none.
+// How many numbers stand after the space at `from`, or 65 where a field is none.
 fn count_numbers(line: &[u8], from: usize) -> usize
     ensures { λ r. ⌜ r ≡ counted (fieldsBehind (drop from (now (line .entry)))) ⌝ }
 {
@@ -166,7 +166,7 @@ fn count_numbers(line: &[u8], from: usize) -> usize
     count
 }
 
-// The numbers behind the space at `from`, put at the start of the buffer.
+// The numbers after the space at `from`, put at the start of the buffer.
 fn store_numbers(line: &[u8], from: usize, numbers: &mut [u32])
     requires { ⌜ allNumbers (fieldsBehind (drop from (now line))) ≡ true ⌝ }
     requires { ⌜ length (fieldsBehind (drop from (now line))) ≤ length (now numbers) ⌝ }
@@ -209,7 +209,7 @@ pub fn read_line(line: &[u8], numbers: &mut [u32]) -> Line
     }
 }
 
-// A byte at a place of the buffer. The answer is the place behind it, here and in each `put_`.
+// A byte at a place of the buffer. The answer is the place after it, here and in each `put_`.
 fn put_byte(out: &mut [u8], at: usize, byte: u8) -> usize
     requires { ⌜ at < length (now out) ⌝ }
     ensures { λ r. ⌜ Writes (now (out .entry)) at (byte ∷ []) r (now (out .exit)) ⌝ }
@@ -243,7 +243,7 @@ fn put_number(out: &mut [u8], at: usize, number: u32) -> usize
     put_byte(out, end, 48 + (number % 10) as u8)
 }
 
-// The items of a list from `from` on, each behind a space.
+// The items of a list from `from` on, each after a space.
 fn put_spaced(out: &mut [u8], at: usize, list: &[u32], from: usize) -> usize
     requires { ⌜ at + length (spaced (drop from (now list))) ≤ length (now out) ⌝ }
     ensures { λ r. ⌜ Writes (now (out .entry)) at (spaced (drop from (now (list .entry)))) r (now (out .exit)) ⌝ }

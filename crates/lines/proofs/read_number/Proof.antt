@@ -1,4 +1,4 @@
--- `read_number` meets its contract: the digits that are left, behind the value so far, say what the field is. Assumes nothing.
+-- `read_number` meets its contract: the digits that are left, with the value so far, say what the field is. Assumes nothing.
 use mathlib.Core.Path.{_≡_, sym, _∙_}
 use Prim.Native.Nat.{_-_, _^_, _≤_, _<_}
 use native.Mathlib.Omega.{arith}
