@@ -7,11 +7,7 @@ use native.Mathlib.Numerals.{add-one}
 use lib.ListN.{length, getD, take}
 use lib.Seq.{take-suc, take-length}
 use Rattle.script.specs.Session.{replies, joined, session}
-use Rattle.session.specs.Program.{Due}
-
--- what the first n lines of an input print
-abbrev pub handed : List ℕ → ℕ → List ℕ
-handed input n = joined (take n (replies input))
+use Rattle.session.specs.Program.{Due, printed, AllHanded}
 
 joined-append : (xs ys : List (List ℕ)) → joined (xs ++ ys) ≡ joined xs ++ joined ys
 unfolding joined
@@ -22,17 +18,18 @@ joined-one : (x : List ℕ) → joined (x ∷ []) ≡ x
 unfolding joined
 joined-one x = append-nil x
 
-pub none-handed : (input : List ℕ) → handed input 0 ≡ []
+-- before the first answer
+pub none-printed : (input : List ℕ) → printed input 0 ≡ []
 unfolding joined
-none-handed input = refl
+none-printed input = refl
 
-pub next-handed : (input : List ℕ) (n : ℕ) (text : List ℕ) → Due input n text → handed input (n + 1) ≡ handed input n ++ text
-next-handed input n text d =
-    ap (λ (k : ℕ). handed input k) (add-one n)
+pub next-printed : (input : List ℕ) (n : ℕ) (text : List ℕ) → Due input n text → printed input (n + 1) ≡ printed input n ++ text
+next-printed input n text d =
+    ap (λ (k : ℕ). printed input k) (add-one n)
     ∙ ap joined (take-suc (replies input) n [] (d .place))
     ∙ joined-append (take n (replies input)) (getD (replies input) n [] ∷ [])
-    ∙ ap (λ (z : List ℕ). handed input n ++ z) (joined-one (getD (replies input) n []) ∙ d .printed)
+    ∙ ap (λ (z : List ℕ). printed input n ++ z) (joined-one (getD (replies input) n []) ∙ d .printed)
 
-pub all-handed : (input : List ℕ) (n : ℕ) → n ≡ length (replies input) → handed input n ≡ session input
+pub all-handed : (input : List ℕ) (n : ℕ) → n ≡ length (replies input) → AllHanded input n
 unfolding session
-all-handed input n e = ap (λ (k : ℕ). handed input k) e ∙ ap joined (take-length (replies input))
+all-handed input n e = record { count = e; bytes = ap (λ (k : ℕ). printed input k) e ∙ ap joined (take-length (replies input)) }

@@ -1,18 +1,17 @@
 // The session program (document 01): it reads its input, has crate `replies` answer each line, and hands the answers over.
 mod standard;
 
-ghost use mathlib.Core.Path.{_≡_};
 ghost use Prim.Native.Nat.{_≤_};
 ghost use lib.ListN.{length};
-ghost use Rattle.script.specs.Session.{replies};
 ghost use Rattle.script.specs.Bounds.{answerBytes, inputBytes, wallCells, wallFunctions};
+ghost use Rattle.session.specs.Program.{AllHanded};
 use script::ANSWER_BYTES;
 use script::INPUT_BYTES;
 use script::WALL_CELLS;
 use script::WALL_FUNCTIONS;
 use standard::Handed;
 
-// The lines one after the other. What is handed over at the end is all: the answer to each line, in order.
+// The lines one after the other. At the end all answers are handed over.
 fn run(
     input: &[u8],
     cells: &mut [u8],
@@ -25,7 +24,7 @@ fn run(
     requires { ⌜ (wallCells ≤ length (now cells)) × (wallFunctions ≤ length (now functions)) ⌝ }
     requires { ⌜ (wallCells ≤ length (now «cell_list»)) × (wallFunctions ≤ length (now «function_list»)) ⌝ }
     requires { ⌜ answerBytes ≤ length (now out) ⌝ }
-    ensures { λ r. ⌜ r .answers ≡ length (replies (now (input .entry))) ⌝ }
+    ensures { λ r. ⌜ AllHanded (now (input .entry)) (r .answers) ⌝ }
 {
     let mut hand = script::no_wall();
     let mut handed = standard::nothing();
@@ -52,7 +51,7 @@ fn run(
 // The tables and lists of the largest wall of a session, and room for its longest answer.
 fn session(input: &[u8]) -> Handed
     requires { ⌜ length (now input) ≤ inputBytes ⌝ }
-    ensures { λ r. ⌜ r .answers ≡ length (replies (now (input .entry))) ⌝ }
+    ensures { λ r. ⌜ AllHanded (now (input .entry)) (r .answers) ⌝ }
 {
     let mut cells = [0u8; WALL_CELLS];
     let mut functions = [0u8; WALL_FUNCTIONS];

@@ -1,15 +1,16 @@
-// Standard input and output. That `read` and `print` do what their names say is not proved: the contracts of C's calls say how many
-// bytes went, and not which. Nothing else here or in `main.rt` calls them or C.
+// Standard input and output. Only `read` and `print` call C. That they do what their names say is not proved: the contracts of C's calls
+// say how many bytes went, and not which.
 ghost use mathlib.Core.Path.{_≡_};
+ghost use mathlib.Core.List.{_++_};
 ghost use Prim.Native.Nat.{_+_, _<_};
 ghost use lib.ListN.{length};
 ghost use Rattle.io.specs.Counts.{Counts};
 ghost use Rattle.script.specs.Bounds.{inputBytes};
-ghost use Rattle.session.specs.Program.{Due, IsReply};
+ghost use Rattle.session.specs.Program.{Due, IsReply, printed};
 use libc::STDIN_FILENO;
 use libc::STDOUT_FILENO;
 
-// How many answers were handed over. Only `nothing` and `say` make one.
+// How many answers were handed over. The field is private: only `nothing` and `say` make one.
 pub struct Handed {
     answers: usize,
 }
@@ -36,11 +37,12 @@ pub fn nothing() -> Handed
     Handed { answers: 0 }
 }
 
-// Hands over the answer that is due after those handed over.
+// Hands over the answer that is due after those handed over: what is printed grows by the text.
 pub fn say(input: &[u8], handed: Handed, text: &[u8]) -> Handed
     requires { ⌜ Due (now input) (handed .answers) (now text) ⌝ }
     requires { ⌜ handed .answers < inputBytes ⌝ }
     ensures { λ r. ⌜ r .answers ≡ handed .answers + 1 ⌝ }
+    ensures { λ r. ⌜ printed (now (input .entry)) (r .answers) ≡ printed (now (input .entry)) (handed .answers) ++ now (text .entry) ⌝ }
 {
     print(text);
     let answers = handed.answers + 1;

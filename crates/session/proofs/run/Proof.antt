@@ -6,6 +6,7 @@ use lib.ListN.{length}
 use Rattle.script.specs.Steps.{held, HandSized}
 use Rattle.session.specs.Program.{Left}
 use Rattle.session.proofs.Turns.{starts, due, turn, ends}
+use Rattle.session.proofs.Handed.{all-handed}
 use borrow.Author.Needs.{needs}
 use Rattle.session.proofs.run.Statement.{statement}
 use Rattle.session.proofs.run.Tie as tie
@@ -91,7 +92,7 @@ loop-again c = let s = c .before .before .before .before .before .before .before
     let i : l .at < length (s .args .input .now) = c .before .before .before .before .before .before .before .before .before .before .before .before .before .before .before .before .before .before .before .before .before .loop-test .taken in
     let d = c .before .before .before .before .before .before .before .before .before .before .before .before .before .step in
     let k = d .kept in
-    (d .ensures .sized, turn (s .args .input .now) (l .handed .answers) (l .at) (c .before .before .before .before .before .before .before .before .before .before .before .before .before .before .before .before .before .before .before .before .line-end .result) _ (l .inv .1) i e _ _ _ _ (d .ensures) _ (c .say .ensures), omega (arith, e .place, l .inv .2, c .say .ensures), k .1 .1 .0 ∙ l .inv .3, k .1 .1 .1 .0 ∙ l .inv .4, k .1 .1 .1 .1 .0 ∙ l .inv .5, k .1 .1 .1 .1 .1 .0 ∙ l .inv .6, k .1 .1 .1 .1 .1 .1 .0 ∙ l .inv .7)
+    (d .ensures .sized, turn (s .args .input .now) (l .handed .answers) (l .at) (c .before .before .before .before .before .before .before .before .before .before .before .before .before .before .before .before .before .before .before .before .line-end .result) _ (l .inv .1) i e _ _ _ _ (d .ensures) _ (c .say .ensures .0), omega (arith, e .place, l .inv .2, c .say .ensures .0), k .1 .1 .0 ∙ l .inv .3, k .1 .1 .1 .0 ∙ l .inv .4, k .1 .1 .1 .1 .0 ∙ l .inv .5, k .1 .1 .1 .1 .1 .0 ∙ l .inv .6, k .1 .1 .1 .1 .1 .1 .0 ∙ l .inv .7)
 
 same-length : tie.Need-same-length Inv-loop μ-loop
 same-length c = search needs
@@ -109,7 +110,7 @@ same-length-5 : tie.Need-same-length-5 Inv-loop μ-loop
 same-length-5 c = search needs
 
 returns : tie.Need-returns Inv-loop μ-loop
-returns c = ends (c .before .before .before .before .before .before .before .before .before .before .args .input .now) (c .before .loop .handed .answers) (c .before .loop .at) _ (c .before .loop .inv .1) (omega arith)
+returns c = all-handed _ _ (ends (c .before .before .before .before .before .before .before .before .before .before .args .input .now) (c .before .loop .handed .answers) (c .before .loop .at) _ (c .before .loop .inv .1) (omega arith))
 
 pub run-spec : {M : Type 1} → statement M
 run-spec =

@@ -1,6 +1,7 @@
 -- `say` meets its contract: what it prints is the answer that is due. Assumes nothing.
 use mathlib.Core.Path.{refl}
 use native.Mathlib.Omega.{arith}
+use Rattle.session.proofs.Handed.{next-printed}
 use Rattle.session.proofs.standard.say.Statement.{statement}
 use Rattle.session.proofs.standard.say.Tie as tie
 
@@ -12,7 +13,7 @@ add-answers : tie.Need-add-answers
 add-answers c = let s = c .before .before .before .before in omega (arith, s .pre .1)
 
 returns : tie.Need-returns
-returns c = refl
+returns c = let s = c .before .before .before .before in (refl, next-printed (s .args .input .now) (s .args .handed .answers) (s .args .text .now) (s .pre .0))
 
 pub say-spec : {M : Type 1} → statement M
 say-spec = tie.close (tie.spec print-requires add-answers returns)
