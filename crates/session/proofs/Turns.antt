@@ -15,7 +15,8 @@ use Rattle.script.specs.declared.Hand.{Hand}
 use Rattle.script.specs.declared.Done.{Done}
 use Rattle.script.specs.Steps.{held, Replied}
 use Rattle.script.proofs.Replies.{held-none}
-use Rattle.session.specs.Program.{after, linesIn, Due, Left}
+use Rattle.standard.specs.Answers.{Due}
+use Rattle.session.specs.Program.{after, linesIn, Left}
 use Rattle.script.specs.Bounds.{inputBytes}
 
 -- what is left has a first text

@@ -1,10 +1,8 @@
 // The session program (document 01): it reads its input, has crate `replies` answer each line, and hands the answers over.
-mod standard;
-
 ghost use Prim.Native.Nat.{_≤_};
 ghost use lib.ListN.{length};
 ghost use Rattle.script.specs.Bounds.{answerBytes, inputBytes, wallCells, wallFunctions};
-ghost use Rattle.session.specs.Program.{AllHanded};
+ghost use Rattle.standard.specs.Answers.{AllHanded};
 use script::ANSWER_BYTES;
 use script::INPUT_BYTES;
 use script::WALL_CELLS;

@@ -6,7 +6,7 @@ use lib.ListN.{length}
 use Rattle.script.specs.Steps.{held, HandSized}
 use Rattle.session.specs.Program.{Left}
 use Rattle.session.proofs.Turns.{starts, due, turn, ends}
-use Rattle.session.proofs.Handed.{all-handed}
+use Rattle.standard.proofs.Printed.{all-handed}
 use borrow.Author.Needs.{needs}
 use Rattle.session.proofs.run.Statement.{statement}
 use Rattle.session.proofs.run.Tie as tie

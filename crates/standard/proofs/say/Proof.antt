@@ -1,9 +1,9 @@
 -- `say` meets its contract: what it prints is the answer that is due. Assumes nothing.
 use mathlib.Core.Path.{refl}
 use native.Mathlib.Omega.{arith}
-use Rattle.session.proofs.Handed.{next-printed}
-use Rattle.session.proofs.standard.say.Statement.{statement}
-use Rattle.session.proofs.standard.say.Tie as tie
+use Rattle.standard.proofs.Printed.{next-printed}
+use Rattle.standard.proofs.say.Statement.{statement}
+use Rattle.standard.proofs.say.Tie as tie
 
 print-requires : tie.Need-print-requires
 print-requires c κs = let s = c .before .before in

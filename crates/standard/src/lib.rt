@@ -6,7 +6,7 @@ ghost use Prim.Native.Nat.{_+_, _<_};
 ghost use lib.ListN.{length};
 ghost use Rattle.io.specs.Counts.{Counts};
 ghost use Rattle.script.specs.Bounds.{inputBytes};
-ghost use Rattle.session.specs.Program.{Due, IsReply, printed};
+ghost use Rattle.standard.specs.Answers.{Due, IsReply, printed};
 use libc::STDIN_FILENO;
 use libc::STDOUT_FILENO;
 

@@ -7,7 +7,7 @@ use native.Mathlib.Numerals.{add-one}
 use lib.ListN.{length, getD, take}
 use lib.Seq.{take-suc, take-length}
 use Rattle.script.specs.Session.{replies, joined, session}
-use Rattle.session.specs.Program.{Due, printed, AllHanded}
+use Rattle.standard.specs.Answers.{Due, printed, AllHanded}
 
 joined-append : (xs ys : List (List ℕ)) → joined (xs ++ ys) ≡ joined xs ++ joined ys
 unfolding joined
