@@ -1,22 +1,22 @@
 -- One turn of the session's loop, and its end. Assumes nothing.
 use mathlib.Core.Path.{_≡_, refl, sym, ap, _∙_}
 use mathlib.Core.Bool.{Bool, true, false}
-use mathlib.Core.List.{List, [], _∷_, _++_}
+use mathlib.Core.List.{List, [], _∷_}
 use Prim.Native.Nat.{ℕ, _+_, _-_, _≤_, _<_}
 use native.Mathlib.Numerals.{add-one}
 use native.Mathlib.Omega.{arith}
 use lib.Dec.{ltb}
 use lib.ListN.{length, getD, take, drop, length-drop, drop-of-length-le}
-use lib.Seq.{take-all, take-suc, drop-cons}
+use lib.Seq.{take-all, drop-cons}
 use borrow.Author.Tests.{ltb-true, ltb-false}
 use Rattle.lines.specs.Reading.{parts, linesOf, EndsLine}
-use Rattle.script.specs.Session.{State, noWall, Reply, stepOf, repliesFrom, replies}
+use Rattle.script.specs.Session.{State, Reply, stepOf, repliesFrom, replies}
 use Rattle.script.specs.declared.Hand.{Hand}
 use Rattle.script.specs.declared.Done.{Done}
 use Rattle.script.specs.Steps.{held, Replied}
 use Rattle.script.proofs.Replies.{held-none}
 use Rattle.standard.specs.Answers.{Due}
-use Rattle.session.specs.Program.{after, linesIn, Left}
+use Rattle.session.specs.Program.{Left}
 use Rattle.script.specs.Bounds.{inputBytes}
 
 -- what is left has a first text
@@ -38,18 +38,9 @@ module _ (xs : List (List ℕ)) (n : ℕ) (y : List ℕ) (ys : List (List ℕ)) 
   first-rest : drop (n + 1) xs ≡ ys
   first-rest = let f = first-is in cc
 
-  first-more : take (n + 1) xs ≡ take n xs ++ (y ∷ [])
-  first-more = rw add-one (take-suc xs n [] first-place ∙ ap (λ (z : List ℕ). take n xs ++ (z ∷ [])) first-text)
-
--- one line more
-after-more : (s : State) (ls : List (List ℕ)) (l : List ℕ) → after s (ls ++ (l ∷ [])) ≡ stepOf (after s ls) l .state
-unfolding after
-after-more s [] l = refl
-after-more s (m ∷ ls) l = after-more (stepOf s m .state) ls l
-
 pub starts : (input : List ℕ) (n : ℕ) (h : Hand) (cs fs : List ℕ) → length input ≤ inputBytes → h .cells ≡ 0 → n ≡ 0 → Left input n 0 (held h cs fs)
-unfolding replies after
-starts input n h cs fs l e z = rw z (record { state = held-none h cs fs e; lines = rw (take-all inputBytes input l) refl; answered = omega arith; left = rw (take-all inputBytes input l, held-none h cs fs e) refl })
+unfolding replies
+starts input n h cs fs l e z = rw z (record { answered = omega arith; left = rw (take-all inputBytes input l, held-none h cs fs e) refl })
 
 module _ (input : List ℕ) (n at r : ℕ) (s : State) (l : Left input n at s) (i : at < length input) (e : EndsLine input at r) where
   abbrev turned : Reply
@@ -59,23 +50,12 @@ module _ (input : List ℕ) (n at r : ℕ) (s : State) (l : Left input n at s) (
   unfolding repliesFrom
   next = l .left ∙ rw (e .line i) refl
 
-  next-line : drop n (linesIn input) ≡ take (r - at) (drop at input) ∷ linesOf (drop (r + 1) input)
-  next-line = l .lines ∙ e .line i
-
-  next-state : turned .state ≡ after noWall (take (n + 1) (linesIn input))
-  next-state =
-      ap (λ (x : State). stepOf x (take (r - at) (drop at input)) .state) (l .state)
-      ∙ sym (after-more noWall (take n (linesIn input)) (take (r - at) (drop at input)))
-      ∙ ap (after noWall) (sym (first-more (linesIn input) n _ _ next-line))
-
   module _ (done : Done) (cs fs out : List ℕ) (w : Replied turned done cs fs out) where
     pub due : Due input n (take (done .count) out)
     due = record { place = first-place (replies input) n _ _ next; printed = first-text (replies input) n _ _ next ∙ sym (w .said .bytes) }
 
     pub turn : (m : ℕ) → m ≡ n + 1 → Left input m (r + 1) (held (done .hand) cs fs)
     turn m z = rw z (record {
-      state = w .state ∙ next-state;
-      lines = first-rest (linesIn input) n _ _ next-line;
       answered = omega (arith, first-place (replies input) n _ _ next);
       left = first-rest (replies input) n _ _ next ∙ ap (λ (x : State). repliesFrom x (linesOf (drop (r + 1) input))) (sym (w .state));
     })
