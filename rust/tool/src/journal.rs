@@ -10,7 +10,7 @@
 //!
 //! The head has the bytes of that file. A call has its line as in a session, and its two lists; `back`
 //! has how many of the calls before it that were not yet taken back it takes back. A journal is only
-//! ever added to. What was before its first wall it does not know.
+//! ever added to. It does not know what was before the wall that it begins with.
 
 use crate::words;
 use wallmirror::{Call, Cell, Function, Lists, Made, Mesh, Refusal, Season, Undone};

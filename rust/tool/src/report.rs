@@ -77,7 +77,7 @@ pub fn log(wall: &Wall) -> String {
     format!("{head}{}{end}\n", lines(wall).concat())
 }
 
-/// The journal behind its head.
+/// The journal after its head.
 fn lines(wall: &Wall) -> Vec<String> {
     let kept = wall.journal().numbers();
     let mut number = 0;
