@@ -54,8 +54,8 @@ module _ (input : List ℕ) (n at r : ℕ) (s : State) (l : Left input n at s) (
     pub due : Due input n (take (done .count) out)
     due = record { place = first-place (replies input) n _ _ next; printed = first-text (replies input) n _ _ next ∙ sym (w .said .bytes) }
 
-    pub turn : (m : ℕ) → m ≡ n + 1 → Left input m (r + 1) (held (done .hand) cs fs)
-    turn m z = rw z (record {
+    pub turn : (m a : ℕ) → m ≡ n + 1 → a ≡ r + 1 → Left input m a (held (done .hand) cs fs)
+    turn m a z y = rw (z, y) (record {
       answered = omega (arith, first-place (replies input) n _ _ next);
       left = first-rest (replies input) n _ _ next ∙ ap (λ (x : State). repliesFrom x (linesOf (drop (r + 1) input))) (sym (w .state));
     })

@@ -23,12 +23,21 @@ pub none-printed : (input : List ℕ) → printed input 0 ≡ []
 unfolding joined
 none-printed input = refl
 
-pub next-printed : (input : List ℕ) (n : ℕ) (text : List ℕ) → Due input n text → printed input (n + 1) ≡ printed input n ++ text
+-- what is due is the answer to line n, whichever way round that is said
+due-is : {input : List ℕ} {n : ℕ} {text : List ℕ} → Due input n text → getD (replies input) n [] ≡ text
+due-is d = cc
+
+next-printed : (input : List ℕ) (n : ℕ) (text : List ℕ) → Due input n text → printed input (n + 1) ≡ printed input n ++ text
 next-printed input n text d =
     ap (λ (k : ℕ). printed input k) (add-one n)
     ∙ ap joined (take-suc (replies input) n [] (d .place))
     ∙ joined-append (take n (replies input)) (getD (replies input) n [] ∷ [])
-    ∙ ap (λ (z : List ℕ). printed input n ++ z) (joined-one (getD (replies input) n []) ∙ d .printed)
+    ∙ ap (λ (z : List ℕ). printed input n ++ z) (joined-one (getD (replies input) n []) ∙ due-is d)
+
+-- m is one answer more than n, and what is printed then grows by the text
+pub one-more : (input : List ℕ) (n m : ℕ) (text : List ℕ) → Due input n text → m ≡ n + 1
+    → (m ≡ n + 1) × (printed input m ≡ printed input n ++ text)
+one-more input n m text d e = (e, ap (λ (k : ℕ). printed input k) e ∙ next-printed input n text d)
 
 pub all-handed : (input : List ℕ) (n : ℕ) → n ≡ length (replies input) → AllHanded input n
 unfolding session

@@ -92,7 +92,7 @@ loop-again c = let s = c .before .before .before .before .before .before .before
     let i : l .at < length (s .args .input .now) = c .before .before .before .before .before .before .before .before .before .before .before .before .before .before .before .before .before .before .before .before .before .loop-test .taken in
     let d = c .before .before .before .before .before .before .before .before .before .before .before .before .before .step in
     let k = d .kept in
-    (d .ensures .sized, turn (s .args .input .now) (l .handed .answers) (l .at) (c .before .before .before .before .before .before .before .before .before .before .before .before .before .before .before .before .before .before .before .before .line-end .result) _ (l .inv .1) i e _ _ _ _ (d .ensures) _ (c .say .ensures .0), omega (arith, e .place, l .inv .2, c .say .ensures .0), k .1 .1 .0 ∙ l .inv .3, k .1 .1 .1 .0 ∙ l .inv .4, k .1 .1 .1 .1 .0 ∙ l .inv .5, k .1 .1 .1 .1 .1 .0 ∙ l .inv .6, k .1 .1 .1 .1 .1 .1 .0 ∙ l .inv .7)
+    (d .ensures .sized, turn (s .args .input .now) (l .handed .answers) (l .at) (c .before .before .before .before .before .before .before .before .before .before .before .before .before .before .before .before .before .before .before .before .line-end .result) _ (l .inv .1) i e _ _ _ _ (d .ensures) _ _ (c .say .ensures .0) (omega arith), omega (arith, e .place, l .inv .2, c .say .ensures .0), k .1 .1 .0 ∙ l .inv .3, k .1 .1 .1 .0 ∙ l .inv .4, k .1 .1 .1 .1 .0 ∙ l .inv .5, k .1 .1 .1 .1 .1 .0 ∙ l .inv .6, k .1 .1 .1 .1 .1 .1 .0 ∙ l .inv .7)
 
 same-length : tie.Need-same-length Inv-loop μ-loop
 same-length c = search needs

@@ -1,7 +1,6 @@
 -- `say` meets its contract: what it prints is the answer that is due. Assumes nothing.
-use mathlib.Core.Path.{refl}
 use native.Mathlib.Omega.{arith}
-use Rattle.standard.proofs.Printed.{next-printed}
+use Rattle.standard.proofs.Printed.{one-more}
 use Rattle.standard.proofs.say.Statement.{statement}
 use Rattle.standard.proofs.say.Tie as tie
 
@@ -13,7 +12,7 @@ add-answers : tie.Need-add-answers
 add-answers c = let s = c .before .before .before .before in omega (arith, s .pre .1)
 
 returns : tie.Need-returns
-returns c = let s = c .before .before .before .before in (refl, next-printed (s .args .input .now) (s .args .handed .answers) (s .args .text .now) (s .pre .0))
+returns c = let s = c .before .before .before .before in one-more (s .args .input .now) (s .args .handed .answers) _ (s .args .text .now) (s .pre .0) (omega arith)
 
 pub say-spec : {M : Type 1} → statement M
 say-spec = tie.close (tie.spec print-requires add-answers returns)
