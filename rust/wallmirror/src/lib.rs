@@ -328,11 +328,13 @@ pub mod ffi;
 mod heights;
 mod mesh;
 mod places;
+mod reach;
 mod season;
 
 pub use heights::Heights;
 pub use mesh::{Call, Lists, Mesh};
 pub use places::{Level, Place, Support};
+pub use reach::Window;
 pub use season::{Made, Season, Undone};
 
 /// The examples of the documentation, run with the others.
