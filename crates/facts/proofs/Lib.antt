@@ -5,6 +5,7 @@ pub mod Sums
 pub mod Least
 pub mod Ranges
 pub mod Turns
+pub mod Counting
 pub mod Mapped
 pub mod Zeros
 pub mod Rows

@@ -12,6 +12,7 @@ pub mod SideLaws
 pub mod Laws
 pub mod Small
 pub mod Spans
+pub mod Ancestors
 pub mod Totals
 pub mod Rectangles
 pub mod Sides

@@ -10,7 +10,7 @@ use Rattle.facts.specs.Bounded.{some}
 use Rattle.facts.proofs.Bounded.{some-i, some-e}
 use Rattle.facts.proofs.Tests.{and-i, and-l, and-r, or-l, or-r, or-e, same}
 use Rattle.hierarchy.specs.Hierarchy.{Hierarchy, Cells, reach, needs, closure}
-use Rattle.hierarchy.proofs.Sets.{Lawful, MeshSet, Admissible, Within}
+use Rattle.hierarchy.proofs.Sets.{Lawful, _∪_, MeshSet, Admissible, Within}
 
 -- x's need of c, as the steps that lead there
 pub data Needs (H : Hierarchy) : ℕ → ℕ → Type 0 where
@@ -105,3 +105,9 @@ module _ (H : Hierarchy) (L : Lawful H) where
 
   pub closure-same : (S : Cells) → Admissible H S → (c : ℕ) → c < H .size → closure H S c ≡ S c
   closure-same S G = closure-is S S G (λ d _ t. t) (λ d _ t. t)
+
+  -- what the closure of S and M has besides S, which is admissible, some cell of M needs
+  pub closure-added : (S M : Cells) → Admissible H S → (c : ℕ) → T (closure H (S ∪ M) c) → (T (S c) → ⊥) → (x : ℕ) × (x < H .size) × T (M x) × Needs H x c
+  closure-added S M G c t n =
+      let (x, i, u, r) = closure→ (S ∪ M) c t in
+      or-e (S x) (M x) u (λ s. absurd (n (admissible-needs S G i s r))) (λ m. (x, i, m, r))

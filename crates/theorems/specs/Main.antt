@@ -5,12 +5,12 @@ use mathlib.Core.Path.{_≡_}
 use mathlib.Core.Bool.{cond}
 use mathlib.Core.List.{List, [], _∷_}
 use mathlib.Core.Logic.{_≢_, _↔_}
-use Prim.Native.Nat.{ℕ, _-_, _*_, _^_, _<_, _≤_}
+use Prim.Native.Nat.{ℕ, _+_, _-_, _*_, _/_, _^_, _<_, _≤_}
 use lib.Dec.{T}
 use lib.ListN.{getD}
 use Rattle.facts.specs.Numbers.{elem}
 use Rattle.grid.specs.declared.Plan.{Plan}
-use Rattle.grid.specs.Plan.{numbersInRange, inRange, acrossAt, upAt, functionTotal}
+use Rattle.grid.specs.Plan.{numbersInRange, inRange, acrossAt, upAt, functionTotal, cellLevel}
 use Rattle.grid.specs.Claims.{ByKnots, Smooth, OnlyInner}
 use Rattle.mesh.specs.Mesh.{check, openMesh, count}
 use Rattle.outcomes.specs.Calls.{Direction, refine, By, cells, functions, Outcome, refused, newCells, refusal, outcome}
@@ -18,6 +18,7 @@ use Rattle.outcomes.specs.Steps.{relabel, inSteps, relabelledBy}
 use Rattle.outcomes.specs.Printed.{AsPrinted}
 use Rattle.outcomes.specs.Demands.{Accepted, Refused}
 use Rattle.outcomes.specs.Runs.{Tables, LentLists, Call, log, backwards, LongEnough, Undone, covered, RefinesByFunctions}
+use Rattle.cost.specs.Cost.{mostOf, Cost}
 use Rattle.basis.specs.Basis.{Published}
 use Rattle.basis.specs.Levels.{FewLevels}
 
@@ -104,3 +105,15 @@ pub record Main : Type 0 where
   pub reordered : (d : Direction) (by : By) (p : Plan) (cs fs marks others cl fl : List ℕ)
       → ((x : ℕ) → elem x marks ≡ elem x others)
       → SameButNumber cs fs cl fl (outcome d by p cs fs marks cl fl) (outcome d by p cs fs others cl fl)
+  -- Document 02, Req 09: "In a graded wall, one marked cell of level j splits at most 1 + ⌊j/(m-1)⌋·(4p+1)·(4q+1) cells, itself
+  -- included": so many does an accepted call answer whose marks are all one cell c, once or more
+  pub oneMark : (p : Plan) (cs fs marks cl fl : List ℕ) (c : ℕ) → p .class ≢ 0 → ((x : ℕ) → T (elem x marks) → x ≡ c)
+      → outcome refine cells p cs fs marks cl fl .answer .number ≡ 0
+      → outcome refine cells p cs fs marks cl fl .answer .cells
+      ≤ 1 + cellLevel p c / (p .class - 1) * (4 * p .«degree_across» + 1) * (4 * p .«degree_up» + 1)
+  -- several marks: at most the sum, each cell counted once
+  pub severalMarks : (p : Plan) (cs fs marks cl fl : List ℕ) → outcome refine cells p cs fs marks cl fl .answer .number ≡ 0
+      → outcome refine cells p cs fs marks cl fl .answer .cells ≤ mostOf p (once marks)
+  -- by cells or by functions, in any class: how many, where they lie, and class 0
+  pub marksCost : (by : By) (p : Plan) (cs fs marks cl fl : List ℕ) → outcome refine by p cs fs marks cl fl .answer .number ≡ 0
+      → Cost by p cs fs marks (outcome refine by p cs fs marks cl fl)

@@ -1,0 +1,93 @@
+-- Document 02, Req 09, computed on small plans: what a marked cell reaches, needs, and costs, one table under one theorem. Assumes
+-- nothing.
+use Prim.Native.Nat.{ℕ}
+use mathlib.Core.Bool.{Bool, true, not, _&&_}
+use mathlib.Core.List.{List, [], _∷_}
+use lib.Dec.{T, eqb}
+use lib.ListN.{length}
+use Rattle.facts.specs.Bounded.{some, every, sum}
+use Rattle.facts.specs.Numbers.{elem, all, listed, tabulate, stored, first}
+use Rattle.hierarchy.specs.Hierarchy.{reach, needs, closure}
+use Rattle.grid.specs.declared.Plan.{Plan}
+use Rattle.grid.specs.Numbering.{offset, number, levelOf, placeOn, place}
+use Rattle.grid.specs.Plan.{between, numbersInRange, cornersInRange, inRange, ratio, grown, tooLarge, planRefusal, lastLevel, above, below, parent, child, supportedAt, supported, ancestor, nearAt, near, cellTotal, cellLevel, hierarchy}
+use Rattle.grid.specs.Spans.{inSpan, inRectangle}
+use Rattle.grid.specs.Knots.{isSet, isCorner, cornersTo, times, knotFrom, knot, beyond, functions as functionCount, covers, apart, together}
+use Rattle.mesh.specs.Mesh.{absent, active, refined, children, cellFits, isMesh, isAdmissible, reactivable, tableOf, labelOf, labels, isLabelled, refusal3, refusal6, check, freshCells, freshFunctions, openMesh}
+use Rattle.outcomes.specs.Calls.{refine, cells, eligible, isTooDeep, markRefusal, underMarked, underKept, selected, base, smallest, changed, written, refused, settle, newCells, refusal, outcome}
+use Rattle.outcomes.specs.Runs.{covered}
+use Rattle.outcomes.proofs.Examples.{same, plan, refining, split, row, W0, W2}
+use Rattle.outcomes.proofs.Examples as calls
+use Rattle.cost.specs.Reach.{atMost, window, reaches, mostRefined}
+use Rattle.cost.specs.Cost.{mostOf}
+
+pub data Row : Type 0 where
+  -- a mark on the cell c reaches just these cells, and costs at most n
+  reached : Plan → ℕ → List ℕ → ℕ → Row
+  -- it reaches n cells, and costs at most n
+  full : Plan → ℕ → ℕ → Row
+  -- the cell c needs the cell x, and reaches it; it reaches x and does not need it
+  needed spared : Plan → ℕ → ℕ → Row
+  -- cells of a list cost at most n together
+  costing : Plan → List ℕ → ℕ → Row
+  -- where the cells of the first list are refined, a mark on c refines those of the second
+  refines : Plan → List ℕ → ℕ → List ℕ → Row
+  -- a whole call, as in crate outcomes
+  called : calls.Row → Row
+
+-- the cells that a mark on c refines; without the functions, so that larger meshes compute
+abbrev added : Plan → List ℕ → ℕ → List ℕ
+added p old c =
+    let cs = tableOf p (λ x. elem x old) in
+    changed (cellTotal p) cs (newCells refine cells p cs [] (c ∷ []))
+
+abbrev pub holds : Row → Bool
+holds (reached p c xs n) = same (listed (cellTotal p) (reaches p c)) xs && eqb (mostRefined p (cellLevel p c)) n
+holds (full p c n) = eqb (length (listed (cellTotal p) (reaches p c))) n && eqb (mostRefined p (cellLevel p c)) n
+holds (needed p c x) = needs (hierarchy p) c x && reaches p c x
+holds (spared p c x) = not (needs (hierarchy p) c x) && reaches p c x
+holds (costing p cs n) = eqb (mostOf p cs) n
+holds (refines p old c xs) = same (added p old c) xs
+holds (called r) = calls.holds r
+
+-- what stands in a `let` is computed only where it is asked for
+abbrev pub allHold : List Row → Bool
+allHold [] = true
+allHold (r ∷ rs) = let rest = allHold rs in holds r && rest
+
+pub table : List Row
+table =
+    -- "plan 8 1 5 1 1 2 with cell 3 split, where marking 15 splits 2, 4 and 15": here without its last two levels, which change nothing
+    -- of it. The session program's stored input (crate session) has all five
+    called (let p = plan 8 1 3 1 1 2 in row p (refining p (3 ∷ [])) (split cells (15 ∷ []) 0 (2 ∷ 4 ∷ 15 ∷ []) (3 ∷ 4 ∷ 12 ∷ 13 ∷ []) ∷ []) [])
+    -- cell 15, of level 1, row 0, column 7, stands on column 3 of level 0: it reaches columns 1 to 5 there
+    ∷ reached (plan 8 1 3 1 1 2) 15 (1 ∷ 2 ∷ 3 ∷ 4 ∷ 5 ∷ 15 ∷ []) 26
+    -- at the edge a window ends with the level
+    ∷ reached (plan 8 1 3 1 1 2) 8 (0 ∷ 1 ∷ 2 ∷ 8 ∷ []) 26
+    -- 5 rows of 5 columns and the cell itself: where a window lies inside, the mark reaches as many cells as the bound says
+    ∷ full (plan 5 5 3 1 1 2) 69 26
+    -- degrees 2 and 1: columns up to 4 away, and rows up to 2: 9 · 5 and 1
+    ∷ full (plan 9 5 3 2 1 2) 125 46
+    -- a mark of level 0, and any in class 0, reaches itself alone
+    ∷ reached W2 1 (1 ∷ []) 1
+    ∷ reached W0 7 (7 ∷ []) 1
+    -- class 3: from level 2 to level 0, past level 1; from level 1 nowhere
+    ∷ reached (plan 3 1 4 1 1 3) 15 (0 ∷ 1 ∷ 2 ∷ 15 ∷ []) 26
+    ∷ reached (plan 3 1 4 1 1 3) 3 (3 ∷ []) 1
+    -- two columns away, the most that degree 1 allows: the cell of level 2, row 0, column 8 needs cell 0, in two steps
+    ∷ needed (plan 3 1 4 1 1 2) 23 0
+    -- P7: cell 3 needs cell 1. It does not need cell 2, which it reaches
+    ∷ needed W2 3 1
+    ∷ spared W2 3 2
+    -- marks of levels 1, 0 and 2; one mark twice
+    ∷ costing (plan 8 1 5 1 1 2) (15 ∷ 3 ∷ 40 ∷ []) 78
+    ∷ costing (plan 8 1 5 1 1 2) (15 ∷ 15 ∷ []) 52
+    -- near the bound: 3 by 3 cells with the one in the middle refined, and a mark on a child of it. 9 cells of at most 26
+    ∷ refines (plan 3 3 3 1 1 2) (4 ∷ []) 23 (0 ∷ 1 ∷ 2 ∷ 3 ∷ 5 ∷ 6 ∷ 7 ∷ 8 ∷ 23 ∷ [])
+    -- class 3, a mark of level 2: it reaches level 0. 2 cells of at most 26
+    ∷ refines (plan 2 1 4 1 1 3) (0 ∷ 2 ∷ []) 10 (1 ∷ 10 ∷ [])
+    ∷ []
+
+pub worked : T (allHold table)
+unfolding table atMost window reaches mostOf inSpan inRectangle planRefusal some every sum elem all listed tabulate stored first reach needs closure offset number levelOf placeOn place between numbersInRange cornersInRange inRange ratio grown tooLarge lastLevel above below parent child isSet isCorner cornersTo times knotFrom knot beyond functionCount covers apart together supportedAt supported ancestor nearAt near absent active refined children cellFits isMesh isAdmissible labelOf labels isLabelled refusal3 refusal6 check freshCells freshFunctions openMesh reactivable eligible isTooDeep markRefusal underMarked underKept selected base tableOf smallest changed written refused settle newCells refusal outcome covered
+worked = tt

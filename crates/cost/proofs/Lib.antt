@@ -1,0 +1,3 @@
+pub mod Computed
+pub mod Reach
+pub mod Cost
