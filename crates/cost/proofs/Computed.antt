@@ -3,7 +3,7 @@
 use Prim.Native.Nat.{ℕ}
 use mathlib.Core.Bool.{Bool, true, not, _&&_}
 use mathlib.Core.List.{List, [], _∷_}
-use lib.Dec.{T, eqb}
+use lib.Dec.{T, eqb, leb}
 use lib.ListN.{length}
 use Rattle.facts.specs.Bounded.{some, every, sum}
 use Rattle.facts.specs.Numbers.{elem, all, listed, tabulate, stored, first}
@@ -30,8 +30,8 @@ pub data Row : Type 0 where
   needed spared : Plan → ℕ → ℕ → Row
   -- cells of a list cost at most n together
   costing : Plan → List ℕ → ℕ → Row
-  -- where the cells of the first list are refined, a mark on c refines those of the second
-  refines : Plan → List ℕ → ℕ → List ℕ → Row
+  -- where the cells of the first list are refined, a mark on c refines those of the second, of at most n
+  refines : Plan → List ℕ → ℕ → List ℕ → ℕ → Row
   -- a whole call, as in crate outcomes
   called : calls.Row → Row
 
@@ -47,7 +47,7 @@ holds (full p c n) = eqb (length (listed (cellTotal p) (reaches p c))) n && eqb 
 holds (needed p c x) = needs (hierarchy p) c x && reaches p c x
 holds (spared p c x) = not (needs (hierarchy p) c x) && reaches p c x
 holds (costing p cs n) = eqb (mostOf p cs) n
-holds (refines p old c xs) = same (added p old c) xs
+holds (refines p old c xs n) = same (added p old c) xs && (leb (length xs) (mostRefined p (cellLevel p c)) && eqb (mostRefined p (cellLevel p c)) n)
 holds (called r) = calls.holds r
 
 -- what stands in a `let` is computed only where it is asked for
@@ -83,9 +83,9 @@ table =
     ∷ costing (plan 8 1 5 1 1 2) (15 ∷ 3 ∷ 40 ∷ []) 78
     ∷ costing (plan 8 1 5 1 1 2) (15 ∷ 15 ∷ []) 52
     -- near the bound: 3 by 3 cells with the one in the middle refined, and a mark on a child of it. 9 cells of at most 26
-    ∷ refines (plan 3 3 3 1 1 2) (4 ∷ []) 23 (0 ∷ 1 ∷ 2 ∷ 3 ∷ 5 ∷ 6 ∷ 7 ∷ 8 ∷ 23 ∷ [])
+    ∷ refines (plan 3 3 3 1 1 2) (4 ∷ []) 23 (0 ∷ 1 ∷ 2 ∷ 3 ∷ 5 ∷ 6 ∷ 7 ∷ 8 ∷ 23 ∷ []) 26
     -- class 3, a mark of level 2: it reaches level 0. 2 cells of at most 26
-    ∷ refines (plan 2 1 4 1 1 3) (0 ∷ 2 ∷ []) 10 (1 ∷ 10 ∷ [])
+    ∷ refines (plan 2 1 4 1 1 3) (0 ∷ 2 ∷ []) 10 (1 ∷ 10 ∷ []) 26
     ∷ []
 
 pub worked : T (allHold table)
