@@ -13,7 +13,7 @@ use Rattle.grid.specs.Range.{InRange}
 use Rattle.grid.specs.Spans.{ancestorOf}
 use Rattle.grid.proofs.Rising.{Apart}
 use Rattle.grid.proofs.SideLaws.{together-near}
-use Rattle.grid.proofs.Laws.{ratio-two, across-sized, up-sized, cell-inside, near-in, near-places}
+use Rattle.grid.proofs.Laws.{ratio-ge, across-sized, up-sized, cell-inside, near-in, near-places}
 use Rattle.grid.proofs.Spans.{ancestor-in, near-neighbourhood}
 
 -- ---- one direction
@@ -49,7 +49,7 @@ module _ (p : Plan) where
   -- ancestors are at most half as far apart
   pub ancestors-apart : (d g x y : ℕ) → 0 < d → Apart (2 * g) x y → Apart g (ancestor p d x) (ancestor p d y)
   unfolding ancestor
-  ancestors-apart d g x y one a = halves-apart (ratio p ^ d) g (pow-two (ratio p) d (ratio-two p) one) x y a
+  ancestors-apart d g x y one a = halves-apart (ratio p ^ d) g (pow-two (ratio p) d (ratio-ge p) one) x y a
 
 -- ---- neighbourhoods
 

@@ -171,9 +171,9 @@ pub ratio-pos : (p : Plan) → 0 < ratio p
 unfolding ratio
 ratio-pos p = omega arith
 
-pub ratio-two : (p : Plan) → 2 ≤ ratio p
+pub ratio-ge : (p : Plan) → 2 ≤ ratio p
 unfolding ratio
-ratio-two p = omega arith
+ratio-ge p = omega arith
 
 module _ (p : Plan) (range : InRange p) where
   wide : (k : ℕ) → 0 < columnsAt p k
