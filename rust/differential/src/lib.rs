@@ -562,6 +562,9 @@ impl Tables {
                     functions: change.function_list.len() as u32,
                 };
                 assert_eq!(answer, accepted, "{}", said());
+                if kind.refines() {
+                    self.expect_cost(kind, marks, &change.cell_list, &said);
+                }
                 (self.cells, self.functions) = (change.cells, change.functions);
                 self.expect_few_levels(&said);
                 Outcome { number: 0, cells: change.cell_list, functions: change.function_list }
@@ -640,6 +643,7 @@ impl Tables {
                         functions: change.function_list.len() as u32,
                     };
                     assert_eq!(answer, accepted, "{}", said());
+                    self.expect_cost(kind, marks, &change.cell_list, &said);
                     (self.cells, self.functions) = (change.cells, change.functions);
                     *heights = carried;
                     Outcome { number: 0, cells: change.cell_list, functions: change.function_list }
@@ -674,6 +678,34 @@ impl Tables {
                 && levels_with(model::PASSIVE).all(|l| k < l + class)
                 && levels_with(model::DEACTIVATED).all(|l| l <= k);
             assert!(few, "{over:?} after {}", said());
+        }
+    }
+
+    /// The cells that the marks of a refining call stand for. For tables and marks that it accepts.
+    pub fn meant(&self, kind: Kind, marks: &[u32]) -> BTreeSet<Cell> {
+        let (plan, marks) = (self.plan, marks.iter().map(|&mark| mark as usize));
+        if !kind.by_functions() {
+            return marks.map(|mark| plan.cell_at(mark)).collect();
+        }
+        marks
+            .flat_map(|mark| plan.support(plan.function_at(mark)))
+            .filter(|&cell| self.cells[plan.cell_number(cell)] == model::ACTIVE)
+            .collect()
+    }
+
+    /// The cells that a refinement of these tables listed are those that the marks stand for and
+    /// others within their reach, and no more than their bounds together; so in class 0 there are no
+    /// others. `said` tells of what call.
+    fn expect_cost(&self, kind: Kind, marks: &[u32], listed: &[u32], said: &dyn Fn() -> String) {
+        let plan = self.plan;
+        let meant = self.meant(kind, marks);
+        let most: usize = meant.iter().map(|cell| plan.most_refined(cell.level)).sum();
+        assert!(listed.len() <= most, "{} cells, not {most}: {}", listed.len(), said());
+        let listed: BTreeSet<Cell> = listed.iter().map(|&n| plan.cell_at(n as usize)).collect();
+        assert!(meant.is_subset(&listed), "{}", said());
+        for &cell in listed.difference(&meant) {
+            let reached = meant.iter().any(|&mark| plan.reaches(mark, cell));
+            assert!(reached, "{cell:?} is out of reach: {}", said());
         }
     }
 
@@ -733,6 +765,30 @@ pub fn undo_by_functions(tables: &mut Tables, log: &Log, spare: usize, random: &
         let undone = tables.call(CoarsenFunctions, &outcome.functions, &cell_list, &function_list);
         assert_eq!(undone, Outcome { number: 0, ..outcome.clone() });
     }
+}
+
+/// Just beyond so many numbers, and far beyond.
+pub fn beyond(total: usize) -> [u32; 6] {
+    let beyond = |more: u32| (total as u32).saturating_add(more);
+    [beyond(0), beyond(1), beyond(1 << 16), 1 << 31, u32::MAX - 1, u32::MAX]
+}
+
+/// The plan with one number out of range, for each number and some values.
+pub fn out_of_range(plan: Plan) -> Vec<Plan> {
+    let far = [u32::MAX, u32::MAX - 1, 1 << 31, 33, 32];
+    let mut plans = vec![];
+    for value in far.into_iter().chain([0, 17]) {
+        plans.extend([Plan { columns: value, ..plan }, Plan { rows: value, ..plan }]);
+        plans.extend([Plan { levels: value, ..plan }, Plan { degree_across: value, ..plan }]);
+        plans.push(Plan { degree_up: value, ..plan });
+    }
+    for value in far.into_iter().chain([1, 9]) {
+        plans.push(Plan { class: value, ..plan });
+    }
+    for value in [1, 1 << 31, u32::MAX, 1 << plan.columns.max(plan.rows)] {
+        plans.extend([Plan { corners_across: value, ..plan }, Plan { corners_up: value, ..plan }]);
+    }
+    plans
 }
 
 /// A plan of these degrees and class with at most so many cells on all levels, and with corners of

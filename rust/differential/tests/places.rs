@@ -1,7 +1,9 @@
 //! The calls on a plan alone, compared with the model: which plans are refused, how long the tables
 //! are, where cells lie and what functions cover; as they are exported, and by the wrapper.
 
-use differential::{all_corners, has_corners, of_wrapper, plan, random_plan, raw, Random};
+use differential::{
+    all_corners, beyond, has_corners, of_wrapper, out_of_range, plan, random_plan, raw, Random,
+};
 use model::Plan;
 use wallmirror::{ffi, Cell, Function, Heights, Level, Mesh, Place, Refusal, Support};
 
@@ -122,12 +124,6 @@ fn expect_support(plan: Plan, function: u32) {
     assert_eq!(of_wrapper(plan).support(Function(function)), support, "{function} {plan:?}");
 }
 
-/// Just beyond so many numbers, and far beyond.
-fn beyond(total: usize) -> [u32; 6] {
-    let beyond = |more: u32| (total as u32).saturating_add(more);
-    [beyond(0), beyond(1), beyond(1 << 16), 1 << 31, u32::MAX - 1, u32::MAX]
-}
-
 /// Every cell and every function is where the model has it, and there are no others.
 fn expect_places(plan: Plan) {
     let (t, f) = expect_lengths(plan);
@@ -237,24 +233,6 @@ fn plans_of_any_numbers() {
         }
     }
     assert!(seen.iter().all(|&often| often > 1000), "{seen:?}");
-}
-
-/// A plan with one number out of range, for each number and some values.
-fn out_of_range(plan: Plan) -> Vec<Plan> {
-    let far = [u32::MAX, u32::MAX - 1, 1 << 31, 33, 32];
-    let mut plans = vec![];
-    for value in far.into_iter().chain([0, 17]) {
-        plans.extend([Plan { columns: value, ..plan }, Plan { rows: value, ..plan }]);
-        plans.extend([Plan { levels: value, ..plan }, Plan { degree_across: value, ..plan }]);
-        plans.push(Plan { degree_up: value, ..plan });
-    }
-    for value in far.into_iter().chain([1, 9]) {
-        plans.push(Plan { class: value, ..plan });
-    }
-    for value in [1, 1 << 31, u32::MAX, 1 << plan.columns.max(plan.rows)] {
-        plans.extend([Plan { corners_across: value, ..plan }, Plan { corners_up: value, ..plan }]);
-    }
-    plans
 }
 
 #[test]

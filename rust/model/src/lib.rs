@@ -13,6 +13,7 @@ use knots::{Direction, Knots};
 use std::collections::BTreeSet;
 use std::rc::Rc;
 
+mod cost;
 pub mod file;
 pub mod height;
 pub mod knots;
@@ -616,7 +617,7 @@ pub fn coarsen_functions(
 mod tests {
     use super::*;
 
-    fn plan(numbers: [u32; 8]) -> Plan {
+    pub fn plan(numbers: [u32; 8]) -> Plan {
         let [columns, rows, levels, degree_across, degree_up, class, corners_across, corners_up] =
             numbers;
         Plan { columns, rows, levels, degree_across, degree_up, class, corners_across, corners_up }
