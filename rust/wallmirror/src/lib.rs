@@ -134,6 +134,35 @@
 //! # Ok::<(), wallmirror::Refusal>(())
 //! ```
 //!
+//! # What a mark can cost
+//!
+//! In class m, not 0, one marked cell of level j refines at most
+//! 1 + ⌊j/(m-1)⌋ · (4p + 1) · (4q + 1) cells, itself included, with degrees p across and q up:
+//! [`Plan::most_refined`] tells it. They are the marked cell and cells that are i · (m-1) levels above
+//! it, for i from 1 to ⌊j/(m-1)⌋, at most 2p columns and 2q rows from its ancestor there:
+//! [`Plan::reach`] tells where. Several marks refine at most the sum of their bounds, repeats counted
+//! once, and each cell that they refine is within the reach of one of them. A marked function counts
+//! as the cells that it stands for. In class 0 just the cells that the marks stand for become refined.
+//! All of it holds on every mesh, with corners and without, and of the calls with heights too.
+//!
+//! ```
+//! # use wallmirror::{Cell, Mesh, Plan};
+//! let plan = Plan { columns: 8, levels: 5, admissibility_class: 2, ..Plan::default() };
+//! let mut mesh = Mesh::open(plan)?;
+//! mesh.refine_cells(&[Cell(3)])?;
+//! // Cell 15 is of level 1, so it reaches one level more, level 0.
+//! let (most, reach) = (plan.most_refined(1).unwrap(), plan.reach(Cell(15)).unwrap());
+//! assert_eq!(most, 1 + (4 + 1) * (4 + 1));
+//! let refined = mesh.refine_cells(&[Cell(15)])?.cells;
+//! assert_eq!(refined, [2, 4, 15].map(Cell));
+//! assert!(refined.len() <= most);
+//! for cell in refined {
+//!     let place = plan.place(cell).unwrap();
+//!     assert!(reach.iter().any(|window| window.contains(place)));
+//! }
+//! # Ok::<(), wallmirror::Refusal>(())
+//! ```
+//!
 //! # Undo
 //!
 //! A run of calls is undone by its own cell lists, given from the last to the first, each to the
@@ -771,7 +800,8 @@ pub fn count(plan: Plan, cells: &[u8], functions: &[u8]) -> Result<Count, Refusa
 /// Refines the marked cells, which are to be active, and what the class needs besides: the mesh
 /// becomes the smallest admissible one with the old refined cells and the marked ones. Lists the
 /// cells that became refined and the functions that became deactivated, each in rising order.
-/// Entries past the answered lengths keep their values. Refuses 1 to 11.
+/// Entries past the answered lengths keep their values. How many cells become refined at most, and
+/// where, is said [above](crate#what-a-mark-can-cost). Refuses 1 to 11.
 pub fn refine_cells(
     plan: Plan,
     cells: &mut [u8],
