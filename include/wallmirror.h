@@ -65,6 +65,20 @@
  * function x + (degree_across - 1) * c, where c corners are on lines 1 to x of that level; up it is
  * the same.
  *
+ * What a mark can cost. In class m, not 0, one marked cell of level j refines, itself included, at
+ * most
+ *   1 + j / (m - 1) * (4 * degree_across + 1) * (4 * degree_up + 1)
+ * cells, with / as in C. They are the marked cell and, on each level j - i * (m - 1) for i from 1
+ * to j / (m - 1), cells that are at most 2 * degree_across columns and 2 * degree_up rows from its
+ * ancestor there. With r rows on level j and s on the coarser one, the ancestor of a cell in row x
+ * is in row x / (r / s), and its column is found likewise. Several marks refine at most the sum of
+ * their bounds, repeats counted once, and each cell that they refine is one that one of them can
+ * reach. A marked function counts as the cells that it stands for. In class 0 just the cells that
+ * the marks stand for become refined. All of it holds on every mesh, with corners and without, and
+ * of the calls with heights too. Example: columns 8, rows 1, levels 5, both degrees 1, class 2,
+ * cell 3 refined. Cell 15 is in column 7 of level 1, so its bound is 26, and besides itself it can
+ * reach columns 1 to 5 of level 0. Marked, it refines 2, 4 and 15.
+ *
  * Undo. Keep the lists of each call, cut to the answered lengths. To take a run of calls back, give
  * the kept cell lists from the last call to the first, as marks, each to the opposite call by
  * cells: wallmirror_coarsen_cells for a refining call, with heights or without,
@@ -526,7 +540,7 @@ WallmirrorCount wallmirror_count(WallmirrorPlan plan,
  * The cells and their list are written first; the functions and their list follow from the settled
  * cells and the old function bytes alone. No cell is written after the first function. Lists of
  * cells_len and functions_len entries are never too short, and with them a call is fastest.
- * How a run of them is undone is said at the top.
+ * How a run of them is undone, and how many cells a mark can refine, is said at the top.
  */
 
 /* Marks are active cells. The smallest admissible mesh of the plan's class in which the cells

@@ -136,14 +136,14 @@
 //!
 //! # What a mark can cost
 //!
-//! In class m, not 0, one marked cell of level j refines at most
-//! 1 + ⌊j/(m-1)⌋ · (4p + 1) · (4q + 1) cells, itself included, with degrees p across and q up:
-//! [`Plan::most_refined`] tells it. They are the marked cell and cells that are i · (m-1) levels above
-//! it, for i from 1 to ⌊j/(m-1)⌋, at most 2p columns and 2q rows from its ancestor there:
-//! [`Plan::reach`] tells where. Several marks refine at most the sum of their bounds, repeats counted
-//! once, and each cell that they refine is within the reach of one of them. A marked function counts
-//! as the cells that it stands for. In class 0 just the cells that the marks stand for become refined.
-//! All of it holds on every mesh, with corners and without, and of the calls with heights too.
+//! In class m, not 0, one marked cell of level j refines at most 1 + ⌊j/(m-1)⌋·(4p+1)·(4q+1) cells,
+//! itself included, where p and q are the degrees across and up: [`Plan::most_refined`]. They are
+//! the marked cell and, on each level j - i·(m-1) for i from 1 to ⌊j/(m-1)⌋, cells that are at most
+//! 2p columns and 2q rows from its ancestor there: [`Plan::reach`]. Several marks refine at most
+//! the sum of their bounds, repeats counted once, and each cell that they refine is within the
+//! reach of one of them. A marked function counts as the cells that it stands for. In class 0 just
+//! the cells that the marks stand for become refined. All of it holds on every mesh, with corners
+//! and without, and of the calls with heights too.
 //!
 //! ```
 //! # use wallmirror::{Cell, Mesh, Plan};

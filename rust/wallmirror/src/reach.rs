@@ -29,10 +29,9 @@ impl Window {
 
 impl Plan {
     /// The most cells that one marked cell of this level refines, itself included:
-    /// 1 + ⌊j/(m-1)⌋ · (4p + 1) · (4q + 1) for level j, class m and degrees p across and q up, and
-    /// 1 in class 0. It holds on every mesh of the plan. What it means for several marks and for
-    /// marked functions is said [above](crate#what-a-mark-can-cost). `None` where [`Plan::level`]
-    /// is.
+    /// 1 + ⌊j/(m-1)⌋·(4p+1)·(4q+1) for level j, class m and degrees p across and q up, and 1 in
+    /// class 0. It holds on every mesh of the plan. What it means for several marks and for marked
+    /// functions is said [above](crate#what-a-mark-can-cost). `None` where [`Plan::level`] is.
     ///
     /// ```
     /// # use wallmirror::Plan;
@@ -50,10 +49,10 @@ impl Plan {
         Some(1 + self.levels_reached(level).count() * across * up)
     }
 
-    /// Where the cells lie that one marked cell can refine: first the cell itself, and then, for
-    /// each level that is m-1, 2 · (m-1), .. levels above its own, the cells there that are at most
-    /// 2p columns and 2q rows from its ancestor. It holds on every mesh of the plan. In class 0 it
-    /// is the cell alone. `None` where [`Plan::place`] is.
+    /// Where the cells lie that one marked cell of level j can refine: first the cell itself, and
+    /// then, on each of the levels j - (m-1), j - 2·(m-1), .. that there are, the cells that are at
+    /// most 2p columns and 2q rows from its ancestor there. It holds on every mesh of the plan. In
+    /// class 0 it is the cell alone. `None` where [`Plan::place`] is.
     ///
     /// ```
     /// # use wallmirror::{Cell, Plan, Window};
