@@ -308,7 +308,8 @@ fn runs_in_class_3() {
     assert!(seen.with_others > 50 && seen.of_several_levels > 0, "{seen:?}");
 }
 
-/// From class 4 on a mark reaches other cells only on large plans, and from class 7 on none.
+/// From class 4 on a mark reaches other cells only where there are many levels. In class 7 there have
+/// to be eight, and then level 0 has one cell, which is refined before; in class 8 there are too few.
 #[test]
 fn runs_in_classes_4_to_8() {
     let mut random = Random::new(914);
@@ -397,7 +398,8 @@ fn the_sample() {
     assert_eq!(cost([8, 1, 5, 1, 1, 2], [1, 0, 7]), (3, 26));
 }
 
-/// Marks that come near the bound, and the one that refines the most.
+/// Without corners no mark comes nearer to a bound of one, two, three or four windows than the first
+/// four, and none refines more cells than the last.
 #[test]
 fn marks_that_cost_much() {
     assert_eq!(cost([3, 3, 3, 1, 1, 2], [1, 2, 2]), (9, 26));
