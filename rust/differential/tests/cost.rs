@@ -398,8 +398,8 @@ fn the_sample() {
     assert_eq!(cost([8, 1, 5, 1, 1, 2], [1, 0, 7]), (3, 26));
 }
 
-/// Without corners no mark comes nearer to a bound of one, two, three or four windows than the first
-/// four, and none refines more cells than the last.
+/// Found by a search over all plans without corners, which is not part of the tests: the marks that come
+/// nearest to bounds of one, two, three and four windows, and one of those that refine the most cells.
 #[test]
 fn marks_that_cost_much() {
     assert_eq!(cost([3, 3, 3, 1, 1, 2], [1, 2, 2]), (9, 26));
