@@ -25,7 +25,7 @@ _wallmirror()
         words=$commands
     elif [[ $word == -* ]]; then
         case $command in
-            draw) words="-o --functions --changed --help" ;;
+            draw) words="-o --functions --changed --reach --help" ;;
             export) words="-o --help" ;;
             *) words="--help" ;;
         esac

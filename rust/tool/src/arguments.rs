@@ -4,7 +4,7 @@ use crate::failure::Failure;
 use crate::help::{topic, Kind, Topic};
 use crate::words;
 use std::ffi::{OsStr, OsString};
-use wallmirror::{Call, Plan};
+use wallmirror::{Call, Cell, Plan};
 
 /// A command with all that it needs.
 #[derive(Debug)]
@@ -36,6 +36,7 @@ pub enum Command {
         out: Option<OsString>,
         functions: bool,
         changed: bool,
+        reach: Option<Cell>,
     },
     Export {
         file: OsString,
@@ -92,6 +93,7 @@ fn of_topic(topic: &'static Topic, rest: Vec<OsString>) -> Result<Command, Failu
             out: given.out.take(),
             functions: given.functions,
             changed: given.changed,
+            reach: given.reach,
         },
         Kind::Export => Command::Export { file: given.file()?, out: given.out.take() },
         Kind::Restore => Command::Restore { file: given.file()? },
@@ -116,12 +118,19 @@ struct Given {
     out: Option<OsString>,
     functions: bool,
     changed: bool,
+    reach: Option<Cell>,
 }
 
 impl Given {
     fn read(topic: &'static Topic, rest: Vec<OsString>) -> Result<Given, Failure> {
-        let mut given =
-            Given { topic, operands: vec![], out: None, functions: false, changed: false };
+        let mut given = Given {
+            topic,
+            operands: vec![],
+            out: None,
+            functions: false,
+            changed: false,
+            reach: None,
+        };
         let mut rest = rest.into_iter();
         while let Some(argument) = rest.next() {
             let has = |option: &str| argument == option && topic.kind.options().contains(&option);
@@ -133,6 +142,8 @@ impl Given {
                 given.functions = true;
             } else if has("--changed") {
                 given.changed = true;
+            } else if has("--reach") {
+                given.set_reach(rest.next())?;
             } else if argument.as_encoded_bytes().starts_with(b"-") {
                 let argument = argument.to_string_lossy();
                 return Err(wrong(topic, &format!("there is no option '{argument}'")));
@@ -148,6 +159,15 @@ impl Given {
             return Err(wrong(self.topic, "'-o' is given twice"));
         }
         self.out = Some(self.name_of_file(out, "'-o' needs the name of a file")?);
+        Ok(())
+    }
+
+    fn set_reach(&mut self, cell: Option<OsString>) -> Result<(), Failure> {
+        if self.reach.is_some() {
+            return Err(wrong(self.topic, "'--reach' is given twice"));
+        }
+        let missing = || wrong(self.topic, "'--reach' needs the number of a cell");
+        self.reach = Some(Cell(number(&cell.ok_or_else(missing)?, "of a cell")?));
         Ok(())
     }
 
@@ -200,17 +220,8 @@ impl Given {
 
     /// All that is left.
     fn numbers(&mut self, what_for: &str) -> Result<Vec<u32>, Failure> {
-        let number = |text: &OsString| {
-            let wrong = || {
-                let text = text.to_string_lossy();
-                Failure::bad(format!(
-                    "'{text}' is no number {what_for}; give digits alone, of a value up to {}",
-                    u32::MAX
-                ))
-            };
-            text.to_str().and_then(words::number).ok_or_else(wrong)
-        };
-        std::mem::take(&mut self.operands).iter().map(number).collect()
+        let words = std::mem::take(&mut self.operands);
+        words.iter().map(|text| number(text, what_for)).collect()
     }
 
     fn nothing_left(&self) -> Result<(), Failure> {
@@ -222,6 +233,16 @@ impl Given {
             }
         }
     }
+}
+
+fn number(text: &OsStr, what_for: &str) -> Result<u32, Failure> {
+    text.to_str().and_then(words::number).ok_or_else(|| {
+        let text = text.to_string_lossy();
+        Failure::bad(format!(
+            "'{text}' is no number {what_for}; give digits alone, of a value up to {}",
+            u32::MAX
+        ))
+    })
 }
 
 fn wrong(topic: &Topic, what: &str) -> Failure {

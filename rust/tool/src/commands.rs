@@ -1,7 +1,7 @@
 //! What each command does. All answer what they print, so that no answer is printed while a wall is
 //! locked.
 
-use crate::drawing::{self, Changes};
+use crate::drawing::{self, Changes, Reach};
 use crate::failure::{self, Failure};
 use crate::store::{self, Folder};
 use crate::wall::{self, Wall};
@@ -123,17 +123,28 @@ pub fn draw(
     out: Option<&OsStr>,
     functions: bool,
     changed: bool,
+    reach: Option<Cell>,
 ) -> Result<String, Failure> {
     let wall = Wall::look(file)?;
+    let reach = reach.map(|cell| reach_of(wall.mesh(), cell)).transpose()?;
     if changed && !wall.has_journal() {
         failure::say(&format!("nothing is known of the last change of '{}', so none is outlined: there is no journal beside it", wall.name()));
     }
     let before = wall.journal().before().filter(|_| changed);
     let [split, joined] = before.map_or([vec![], vec![]], |before| changes(before, wall.mesh()));
     let changed = before.map(|_| Changes { split: &split, joined: &joined });
-    let name = short_name(file);
-    let picture = drawing::svg(&name, wall.mesh(), &drawing::Options { functions, changed });
+    let options = drawing::Options { functions, changed, reach };
+    let picture = drawing::svg(&short_name(file), wall.mesh(), &options);
     give(wall, out, picture)
+}
+
+/// What a split of a cell can reach, whether the wall as it is takes it or not.
+fn reach_of(mesh: &Mesh, cell: Cell) -> Result<Reach, Failure> {
+    let fault = words::fault(mesh, &Call::RefineCells(vec![cell]));
+    Reach::of(mesh.plan, cell, fault.clone()).ok_or_else(|| {
+        let fault = fault.unwrap_or_default();
+        Failure::bad(format!("the number after '--reach' is not that of a cell: {fault}"))
+    })
 }
 
 pub fn export(file: &OsStr, out: Option<&OsStr>) -> Result<String, Failure> {

@@ -1,10 +1,11 @@
 //! A wall as an SVG picture: its active cells by level, with their numbers; what the last change
-//! split and joined; and the functions, as dots. Row 0 is at the bottom.
+//! split and joined; what a split can reach; and the functions, as dots. Row 0 is at the bottom.
 
 mod dots;
 mod legend;
 mod numbers;
 mod outlines;
+mod reach;
 #[cfg(test)]
 pub mod samples;
 #[cfg(test)]
@@ -15,6 +16,7 @@ use crate::words;
 use dots::Dots;
 use numbers::Numbers;
 use outlines::Outlines;
+pub use reach::Reach;
 use wallmirror::{Cell, Mesh, Place, Plan};
 use xml::{escaped, number};
 
@@ -22,6 +24,7 @@ use xml::{escaped, number};
 pub struct Options<'a> {
     pub functions: bool,
     pub changed: Option<Changes<'a>>,
+    pub reach: Option<Reach>,
 }
 
 /// The cells that the last change split, and those that it joined.
@@ -57,7 +60,7 @@ const READABLE_SIDE: f64 = 30.0;
 pub fn svg(name: &str, mesh: &Mesh, options: &Options) -> String {
     let frame = Frame::of(mesh, legend::least_width(options));
     let dots = options.functions.then(|| Dots::of(&frame));
-    let outlines = Outlines::of(&frame, options.changed.as_ref());
+    let outlines = Outlines::of(&frame, options);
     let (legend, legend_height) = legend::legend(&frame, mesh, options, dots.as_ref());
     let mut picture = heading(&frame, name);
     picture += &cells(&frame, mesh);

@@ -32,7 +32,7 @@ impl Kind {
     /// The options of the command, but for `--help`.
     pub fn options(self) -> &'static [&'static str] {
         match self {
-            Kind::Draw => &["-o", "--functions", "--changed"],
+            Kind::Draw => &["-o", "--functions", "--changed", "--reach"],
             Kind::Export => &["-o"],
             _ => &[],
         }
@@ -147,7 +147,7 @@ whole. Calls that were walked back are marked.
     Topic {
         name: "draw",
         kind: Kind::Draw,
-        usage: "FILE [-o OUT.svg] [--functions] [--changed]",
+        usage: "FILE [-o OUT.svg] [--functions] [--changed] [--reach CELL]",
         about: "draw the wall",
         text: "\
 Draws the active cells, coloured by level, as an SVG picture, on standard output or in a file.
@@ -155,6 +155,8 @@ Draws the active cells, coloured by level, as an SVG picture, on standard output
   --functions   the functions too, at the middle of their supports, side by side where these are
                 the same: active ones are dots, deactivated ones hollow
   --changed     outline the cells that the last change split or joined
+  --reach CELL  outline the cell, and where the cells lie that a split of it can split besides, with
+                an outline for each level, and say how many it splits at the most
 ",
     },
     Topic {

@@ -49,8 +49,8 @@ fn run(command: Command) -> Result<String, Failure> {
         Command::Change { file, call } => commands::change(&file, call),
         Command::Back { file, count } => commands::back(&file, count),
         Command::Log { file } => commands::log(&file),
-        Command::Draw { file, out, functions, changed } => {
-            commands::draw(&file, out.as_deref(), functions, changed)
+        Command::Draw { file, out, functions, changed, reach } => {
+            commands::draw(&file, out.as_deref(), functions, changed, reach)
         }
         Command::Export { file, out } => commands::export(&file, out.as_deref()),
         Command::Restore { file } => commands::restore(&file),

@@ -135,6 +135,12 @@ pub fn number(text: &str) -> Option<u32> {
     digits.then(|| text.parse().ok())?
 }
 
+/// What is wrong with the mark for which a call would be refused. `None` if it would be accepted.
+pub fn fault(mesh: &Mesh, call: &Call) -> Option<String> {
+    let refusal = mesh.clone().make(call).err()?;
+    at_fault(mesh, call, refusal)
+}
+
 /// What is wrong with the mark for which a call was refused so.
 pub fn at_fault(mesh: &Mesh, refused: &Call, refusal: Refusal) -> Option<String> {
     let mark = marks(refused)[mesh.first_fault(refused)?];

@@ -8,7 +8,7 @@ use wallmirror::{Function, Mesh};
 /// Of dots, by level. Each is dark enough for white, which is around the filled dots and in the
 /// hollow ones, so that they are seen on cells of any level. Neighbouring levels differ for those
 /// too who do not tell red from green, and none is like an outline.
-const COLOURS: [&str; 8] =
+pub const COLOURS: [&str; 8] =
     ["#7a1526", "#e0246e", "#00897b", "#a58812", "#17401a", "#cc1fd6", "#664400", "#2d810e"];
 
 /// The largest dots, in pixels and by the side of the cells of level 0.

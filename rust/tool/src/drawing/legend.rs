@@ -1,7 +1,8 @@
 //! What stands below a wall: what its colours, lines and dots mean, and how many there are of each.
 
 use super::dots::{Dots, Style};
-use super::{number, on_level, outlines, Changes, Frame, Options};
+use super::outlines::{self, Kind};
+use super::{number, on_level, Changes, Frame, Options};
 use super::{BORDERS, CORNER_LINE, CORNER_LINE_WIDTH, FILLS, INKS, MARGIN};
 use crate::words;
 use wallmirror::Mesh;
@@ -18,12 +19,15 @@ const DEACTIVATED: f64 = 340.0;
 const LEVEL_WIDTH: f64 = 160.0;
 const LEVEL_WITH_DOTS_WIDTH: f64 = 470.0;
 const NOTE_WIDTH: f64 = 200.0;
+const REACH_WIDTH: f64 = 450.0;
 const ELLIPSIS_WIDTH: f64 = 17.0;
 
 /// What the picture needs for its legend and its heading.
 pub fn least_width(options: &Options) -> f64 {
     if options.functions {
         LEVEL_WITH_DOTS_WIDTH
+    } else if options.reach.is_some() {
+        REACH_WIDTH
     } else {
         2.0 * LEVEL_WIDTH
     }
@@ -91,9 +95,16 @@ fn dot_entry(mesh: &Mesh, dots: Option<&Dots>, level: u32) -> String {
 fn notes(frame: &Frame, options: &Options) -> Vec<String> {
     let mut notes = vec![];
     if let Some(Changes { split, joined }) = &options.changed {
-        let drawn = [("split", split), ("joined", joined)];
-        let drawn = drawn.iter().filter(|(_, cells)| !cells.is_empty());
-        notes.extend(drawn.map(|(kind, cells)| outline_entry(kind, cells.len())));
+        let drawn = [(Kind::Split, "split", split), (Kind::Joined, "joined", joined)];
+        let drawn = drawn.iter().filter(|(_, _, cells)| !cells.is_empty());
+        notes.extend(drawn.map(|(kind, word, cells)| {
+            let cells = words::count(cells.len(), "cell");
+            outline_entry(*kind, &format!("{cells} just {word}"))
+        }));
+    }
+    if let Some(reach) = &options.reach {
+        let kinds = reach.windows.iter().map(|window| Kind::Reach(window.level));
+        notes.extend(kinds.zip(reach.notes()).map(|(kind, note)| outline_entry(kind, &note)));
     }
     if frame.has_corners() {
         let line = format!(
@@ -105,15 +116,16 @@ fn notes(frame: &Frame, options: &Options) -> Vec<String> {
     notes
 }
 
-fn outline_entry(kind: &str, count: usize) -> String {
+fn outline_entry(kind: Kind, said: &str) -> String {
     let style = outlines::style(kind, 2.5);
     format!("<rect x=\"1\" y=\"4\" width=\"17\" height=\"13\" {style}/>")
-        + &text(SAMPLE_WIDTH, &format!("{} just {kind}", words::count(count, "cell")))
+        + &text(SAMPLE_WIDTH, said)
 }
 
 /// What is said below, each on a line of its own.
 fn sentences(options: &Options, dots: Option<&Dots>) -> Vec<String> {
     let nothing = |changes: &Changes| changes.split.is_empty() && changes.joined.is_empty();
+    let reach = options.reach.iter().flat_map(|reach| reach.sentences());
     let said = [
         (
             options.changed.as_ref().is_some_and(nothing),
@@ -125,7 +137,8 @@ fn sentences(options: &Options, dots: Option<&Dots>) -> Vec<String> {
             "Functions that cover the same cells stand side by side.",
         ),
     ];
-    said.iter().filter(|(holds, _)| *holds).map(|(_, sentence)| text(0.0, sentence)).collect()
+    let said = said.iter().filter(|(holds, _)| *holds).map(|(_, sentence)| sentence.to_string());
+    reach.chain(said).map(|sentence| text(0.0, &sentence)).collect()
 }
 
 /// As much of a name as has room in the heading.

@@ -1,78 +1,143 @@
-//! Lines just inside the edges of the cells that the last change split or joined, which hide neither
-//! the cells beside them nor the numbers.
+//! Lines just inside the edges of cells, which hide neither the cells beside them nor the numbers:
+//! around those that the last change split or joined, and around what a split can reach.
 
-use super::{ancestors, number, Changes, Frame, CORNER_LINE_WIDTH};
-use std::collections::BTreeSet;
+use super::{dots, number, Frame, Options, CORNER_LINE_WIDTH};
 use std::ops::Range;
-use wallmirror::{Cell, Place};
+use wallmirror::{Cell, Place, Window};
+
+/// What an outline shows.
+#[derive(Clone, Copy, PartialEq)]
+pub enum Kind {
+    Split,
+    Joined,
+    /// What a split can reach on this level.
+    Reach(u32),
+}
 
 /// Orange and violet differ for those too who do not tell red from green.
 const SPLIT: &str = "#d9541e";
 const JOINED: &str = "#6a3d9a";
+/// What is seen between the dashes of a line, which is lost on a dark level without it.
+const GROUND: &str = "stroke=\"#ffffff\"";
 /// A dash and the gap behind it, by the thickness of the line.
 const JOINED_DASHES: [f64; 2] = [2.4, 1.6];
+const REACH_DASHES: [f64; 2] = [4.0, 1.4];
 const GREATEST_THICKNESS: f64 = 3.0;
-/// From an outline to the next within it, so that both are seen where their cells share an edge.
+/// From an outline to the next within it, so that both are seen where they share an edge.
 const STEP: f64 = GREATEST_THICKNESS + 1.0;
-/// Of a cell: no outline is farther from its edges.
+/// Of a cell: no outline is farther from the edges.
 const GREATEST_INSET: f64 = 0.25;
 
-/// The outlines of a picture, by kind.
-pub struct Outlines {
-    split: Vec<Outline>,
-    joined: Vec<Outline>,
-}
+/// The outlines of a picture, those of the coarsest level first.
+pub struct Outlines(Vec<Outline>);
 
 impl Outlines {
-    /// None where the changes are not drawn.
-    pub fn of(frame: &Frame, changes: Option<&Changes>) -> Outlines {
-        let around = |cells: Option<&[Cell]>| cells.map_or(vec![], |cells| around(frame, cells));
-        Outlines {
-            split: around(changes.map(|changes| changes.split)),
-            joined: around(changes.map(|changes| changes.joined)),
+    pub fn of(frame: &Frame, options: &Options) -> Outlines {
+        let mut outlines = vec![];
+        for (kind, window) in outlined(frame, options) {
+            outlines.push(Outline::of(frame, kind, &window, &outlines));
         }
+        Outlines(outlines)
     }
 
     pub fn svg(&self, frame: &Frame) -> String {
-        let kinds = [("ground", &self.joined), ("joined", &self.joined), ("split", &self.split)];
-        let drawn = kinds.iter().filter(|(_, outlines)| !outlines.is_empty());
-        drawn.map(|(kind, outlines)| group(frame, kind, outlines)).collect()
+        let own = |outline: &Outline| style(outline.kind, outline.thickness);
+        let ground = |outline: &Outline| line(GROUND, outline.thickness);
+        let is_reach = |kind| matches!(kind, Kind::Reach(_));
+        let is_joined = |kind| kind == Kind::Joined;
+        self.group(frame, "reach-ground", is_reach, ground)
+            + &self.group(frame, "reach", is_reach, own)
+            + &self.group(frame, "ground", is_joined, ground)
+            + &self.group(frame, "joined", is_joined, own)
+            + &self.group(frame, "split", |kind| kind == Kind::Split, own)
+    }
+
+    fn group(
+        &self,
+        frame: &Frame,
+        id: &str,
+        is_drawn: impl Fn(Kind) -> bool,
+        style: impl Fn(&Outline) -> String,
+    ) -> String {
+        let drawn = self.0.iter().filter(|outline| is_drawn(outline.kind));
+        let lines: String = drawn.map(|outline| outline.svg(frame, &style(outline))).collect();
+        if lines.is_empty() {
+            return lines;
+        }
+        format!("<g id=\"{id}\" pointer-events=\"none\">\n{lines}</g>\n")
     }
 
     /// Those that meet a rectangle.
     pub fn meeting(&self, x: &Range<f64>, y: &Range<f64>) -> Vec<&Outline> {
-        let all = self.split.iter().chain(&self.joined);
-        all.filter(|outline| outline.meets(x, y)).collect()
+        self.0.iter().filter(|outline| outline.meets(x, y)).collect()
     }
 }
 
-/// A square line.
+/// What is outlined, the coarsest level first, and on each level what a split can reach before cells.
+fn outlined(frame: &Frame, options: &Options) -> Vec<(Kind, Window)> {
+    let mut all = vec![];
+    if let Some(reach) = &options.reach {
+        all.extend(reach.windows.iter().map(|window| (Kind::Reach(window.level), window.clone())));
+    }
+    if let Some(changes) = &options.changed {
+        for (kind, cells) in [(Kind::Split, changes.split), (Kind::Joined, changes.joined)] {
+            all.extend(cells.iter().filter_map(|&cell| Some((kind, around(frame, cell)?))));
+        }
+    }
+    all.sort_by_key(|(_, window)| window.level);
+    all
+}
+
+/// A cell alone.
+fn around(frame: &Frame, cell: Cell) -> Option<Window> {
+    let Place { level, row, column } = frame.plan.place(cell)?;
+    Some(Window { level, rows: row..row + 1, columns: column..column + 1 })
+}
+
+/// A line around cells of one level.
 pub struct Outline {
-    /// Of the cell within whose edges it is.
+    kind: Kind,
     pub level: u32,
-    /// Its outer edge, from the wall's left edge and its lower edge.
+    /// The edges of the cells, from the wall's left edge and its lower edge.
+    cells: [Range<f64>; 2],
+    /// How many outlines are around it, one in the other.
+    depth: usize,
+    /// Its outer edge.
     x: Range<f64>,
     y: Range<f64>,
     thickness: f64,
 }
 
 impl Outline {
-    /// Around a cell that lies in so many others of its list.
-    fn of(frame: &Frame, place: Place, around: usize) -> Outline {
-        let side = frame.side(place.level);
-        // Where a corner may run along the cell, it is seen beside the outline.
+    /// The others are those of coarser levels, and those of its level that came before it.
+    fn of(frame: &Frame, kind: Kind, window: &Window, others: &[Outline]) -> Outline {
+        let level = window.level;
+        let side = frame.side(level);
+        let edges = |k: &Range<u32>| f64::from(k.start) * side..f64::from(k.end) * side;
+        let cells = [edges(&window.columns), edges(&window.rows)];
+        let around = others.iter().filter(|other| other.is_around(kind, &cells));
+        let depth = around.map(|other| other.depth + 1).max().unwrap_or(0);
+        // Where a corner may run along the cells, it is seen beside the outline.
         let beside = if frame.has_corners() { CORNER_LINE_WIDTH / 2.0 } else { 0.0 };
-        let inset = beside.min(side / 30.0) + STEP * around as f64;
+        let inset = beside.min(side / 30.0) + STEP * depth as f64;
         let inset = inset.min(GREATEST_INSET * side);
-        let edges = |k: u32| f64::from(k) * side + inset..f64::from(k + 1) * side - inset;
+        let [x, y] = cells.clone().map(|edges| edges.start + inset..edges.end - inset);
         let thickness = (0.1 * side).clamp(1.0, GREATEST_THICKNESS).min(0.25 * side);
-        Outline { level: place.level, x: edges(place.column), y: edges(place.row), thickness }
+        Outline { kind, level, cells, depth, x, y, thickness }
+    }
+
+    /// Whether an outline of this kind around these cells is to keep within this one: they lie on each
+    /// other and, unless both are around changed cells, share an edge.
+    fn is_around(&self, kind: Kind, cells: &[Range<f64>; 2]) -> bool {
+        let mut pairs = self.cells.iter().zip(cells);
+        let overlap = pairs.clone().all(|(own, other)| !apart(own, other));
+        let share = pairs.any(|(own, other)| own.start == other.start || own.end == other.end);
+        let is_reach = |kind| matches!(kind, Kind::Reach(_));
+        overlap && (share || !is_reach(self.kind) && !is_reach(kind))
     }
 
     /// Whether the line meets a rectangle.
     pub fn meets(&self, x: &Range<f64>, y: &Range<f64>) -> bool {
-        let apart =
-            |own: &Range<f64>, other: &Range<f64>| other.end <= own.start || own.end <= other.start;
         !apart(&self.x, x) && !apart(&self.y, y) && !self.surrounds(x, y)
     }
 
@@ -84,42 +149,34 @@ impl Outline {
         within(&self.x, x) && within(&self.y, y)
     }
 
-    fn svg(&self, frame: &Frame, kind: &str) -> String {
+    fn svg(&self, frame: &Frame, style: &str) -> String {
         let half = self.thickness / 2.0;
         let (x, y) = (number(frame.x(self.x.start + half)), number(frame.y(self.y.end - half)));
-        let side = number(self.x.end - self.x.start - self.thickness);
-        let style = style(kind, self.thickness);
-        format!("<rect x=\"{x}\" y=\"{y}\" width=\"{side}\" height=\"{side}\" {style}/>\n")
+        let length = |own: &Range<f64>| number(own.end - own.start - self.thickness);
+        let (width, height) = (length(&self.x), length(&self.y));
+        format!("<rect x=\"{x}\" y=\"{y}\" width=\"{width}\" height=\"{height}\" {style}/>\n")
     }
 }
 
-/// The outlines around the cells of a list.
-fn around(frame: &Frame, cells: &[Cell]) -> Vec<Outline> {
-    let places = || cells.iter().filter_map(|&cell| frame.plan.place(cell));
-    let listed: BTreeSet<Place> = places().collect();
-    places().map(|place| Outline::of(frame, place, listed_around(&listed, place))).collect()
+fn apart(one: &Range<f64>, other: &Range<f64>) -> bool {
+    other.end <= one.start || one.end <= other.start
 }
 
-/// How many of the listed cells a cell lies in, itself not counted.
-fn listed_around(listed: &BTreeSet<Place>, place: Place) -> usize {
-    ancestors(place).filter(|ancestor| listed.contains(ancestor)).count()
-}
-
-fn group(frame: &Frame, kind: &str, outlines: &[Outline]) -> String {
-    let lines: String = outlines.iter().map(|outline| outline.svg(frame, kind)).collect();
-    format!("<g id=\"{kind}\" pointer-events=\"none\">\n{lines}</g>\n")
-}
-
-/// The same for the outlines of a kind and for the sample in the legend. The ground is what is seen
-/// between the dashes around joined cells, which are lost on a dark level without it.
-pub fn style(kind: &str, thickness: f64) -> String {
-    let colour = match kind {
-        "split" => format!("stroke=\"{SPLIT}\""),
-        "joined" => {
-            let [dash, gap] = JOINED_DASHES.map(|share| number(share * thickness));
-            format!("stroke=\"{JOINED}\" stroke-dasharray=\"{dash} {gap}\"")
-        }
-        _ => String::from("stroke=\"#ffffff\""),
+/// The same for the outlines of a kind and for the sample in the legend. What a split can reach on a
+/// level has the colour of that level's dots.
+pub fn style(kind: Kind, thickness: f64) -> String {
+    let dashed = |colour: &str, dashes: [f64; 2]| {
+        let [dash, gap] = dashes.map(|share| number(share * thickness));
+        format!("stroke=\"{colour}\" stroke-dasharray=\"{dash} {gap}\"")
     };
-    format!("fill=\"none\" {colour} stroke-width=\"{}\"", number(thickness))
+    let stroke = match kind {
+        Kind::Split => format!("stroke=\"{SPLIT}\""),
+        Kind::Joined => dashed(JOINED, JOINED_DASHES),
+        Kind::Reach(level) => dashed(dots::COLOURS[level as usize], REACH_DASHES),
+    };
+    line(&stroke, thickness)
+}
+
+fn line(stroke: &str, thickness: f64) -> String {
+    format!("fill=\"none\" {stroke} stroke-width=\"{}\"", number(thickness))
 }

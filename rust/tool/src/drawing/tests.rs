@@ -8,8 +8,8 @@ use parser::{parse, Node};
 use std::collections::{BTreeMap, BTreeSet, HashSet};
 use wallmirror::Function;
 
-const PLAIN: Options = Options { functions: false, changed: None };
-const WITH_FUNCTIONS: Options = Options { functions: true, changed: None };
+const PLAIN: Options = Options { functions: false, changed: None, reach: None };
+const WITH_FUNCTIONS: Options = Options { functions: true, ..PLAIN };
 
 /// A picture that was read again: where its wall is.
 struct Read {
@@ -429,7 +429,7 @@ fn the_largest_plans_are_drawn() {
     let mesh = finest(plan([1, 1, 8, 4, 4, 8, 0, 0]));
     let split: Vec<Cell> = (0..5461).map(Cell).collect();
     let changed = Some(Changes { split: &split, joined: &[] });
-    let root = parse(&svg("cave.wall", &mesh, &Options { functions: false, changed }));
+    let root = parse(&svg("cave.wall", &mesh, &Options { changed, ..PLAIN }));
     assert_eq!(root.find("split").unwrap().children("rect").count(), 5461);
 }
 

@@ -36,7 +36,7 @@ fn cells(outlines: &[Drawn]) -> Vec<Cell> {
 }
 
 fn changed<'a>(split: &'a [Cell], joined: &'a [Cell]) -> Options<'a> {
-    Options { functions: false, changed: Some(Changes { split, joined }) }
+    Options { changed: Some(Changes { split, joined }), ..PLAIN }
 }
 
 #[test]
@@ -141,7 +141,7 @@ fn a_number_is_not_in_the_outline_of_a_smaller_cell() {
         let joined = refined(&mesh);
         assert_eq!(joined, [Cell(0), Cell(1), Cell(3)]);
         let changed = Some(Changes { split: &[], joined: &joined });
-        let read = read(&first, &Options { functions, changed });
+        let read = read(&first, &Options { functions, changed, ..PLAIN });
         let (_, top, side) = read.place(&first, Cell(3));
         let [left, _, _, bottom] = number_boxes(&read.root)[&0];
         assert!(left > read.left + side || bottom < top);
@@ -152,7 +152,7 @@ fn a_number_is_not_in_the_outline_of_a_smaller_cell() {
 fn outlines_are_above_corners_and_below_dots() {
     let mesh = Mesh::open(plan([2, 1, 2, 1, 1, 0, 2, 0])).unwrap();
     let changed = Some(Changes { split: &[Cell(0)], joined: &[Cell(1)] });
-    let root = read(&mesh, &Options { functions: true, changed }).root;
+    let root = read(&mesh, &Options { changed, ..WITH_FUNCTIONS }).root;
     let order: Vec<&str> = root.children.iter().filter_map(|child| child.attribute("id")).collect();
     assert_eq!(
         order[1..],
