@@ -138,11 +138,10 @@ pub fn draw(
     give(wall, out, picture)
 }
 
-/// What a split of a cell can reach, whether the wall as it is takes it or not.
+/// What a split of a cell can reach, whether the wall takes the split or not.
 fn reach_of(mesh: &Mesh, cell: Cell) -> Result<Reach, Failure> {
-    let fault = words::fault(mesh, &Call::RefineCells(vec![cell]));
-    Reach::of(mesh.plan, cell, fault.clone()).ok_or_else(|| {
-        let fault = fault.unwrap_or_default();
+    Reach::of(mesh, cell).ok_or_else(|| {
+        let fault = words::fault(mesh, &words::split(vec![cell.0])).unwrap_or_default();
         Failure::bad(format!("the number after '--reach' is not that of a cell: {fault}"))
     })
 }

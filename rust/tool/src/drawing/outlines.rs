@@ -45,11 +45,11 @@ impl Outlines {
         let ground = |outline: &Outline| line(GROUND, outline.thickness);
         let is_reach = |kind| matches!(kind, Kind::Reach(_));
         let is_joined = |kind| kind == Kind::Joined;
-        self.group(frame, "reach-ground", is_reach, ground)
-            + &self.group(frame, "reach", is_reach, own)
-            + &self.group(frame, "ground", is_joined, ground)
+        self.group(frame, "ground", is_joined, ground)
             + &self.group(frame, "joined", is_joined, own)
             + &self.group(frame, "split", |kind| kind == Kind::Split, own)
+            + &self.group(frame, "reach-ground", is_reach, ground)
+            + &self.group(frame, "reach", is_reach, own)
     }
 
     fn group(
@@ -98,10 +98,10 @@ fn around(frame: &Frame, cell: Cell) -> Option<Window> {
 pub struct Outline {
     kind: Kind,
     pub level: u32,
-    /// The edges of the cells, from the wall's left edge and its lower edge.
-    cells: [Range<f64>; 2],
-    /// How many outlines are around it, one in the other.
-    depth: usize,
+    /// The edges of the cells, from the wall's left edge and its lower edge: left, right, lower, upper.
+    edges: [f64; 4],
+    /// How many outlines are around it, one in the other, at each of these edges.
+    depths: [usize; 4],
     /// Its outer edge.
     x: Range<f64>,
     y: Range<f64>,
@@ -111,29 +111,34 @@ pub struct Outline {
 impl Outline {
     /// The others are those of coarser levels, and those of its level that came before it.
     fn of(frame: &Frame, kind: Kind, window: &Window, others: &[Outline]) -> Outline {
-        let level = window.level;
-        let side = frame.side(level);
-        let edges = |k: &Range<u32>| f64::from(k.start) * side..f64::from(k.end) * side;
-        let cells = [edges(&window.columns), edges(&window.rows)];
-        let around = others.iter().filter(|other| other.is_around(kind, &cells));
-        let depth = around.map(|other| other.depth + 1).max().unwrap_or(0);
+        let Window { level, rows, columns } = window;
+        let side = frame.side(*level);
+        let edges = [columns.start, columns.end, rows.start, rows.end].map(|k| f64::from(k) * side);
+        let depths = [0, 1, 2, 3].map(|at| {
+            let around = others.iter().filter(|other| other.is_around(kind, &edges, at));
+            around.map(|other| other.depths[at] + 1).max().unwrap_or(0)
+        });
         // Where a corner may run along the cells, it is seen beside the outline.
         let beside = if frame.has_corners() { CORNER_LINE_WIDTH / 2.0 } else { 0.0 };
-        let inset = beside.min(side / 30.0) + STEP * depth as f64;
-        let inset = inset.min(GREATEST_INSET * side);
-        let [x, y] = cells.clone().map(|edges| edges.start + inset..edges.end - inset);
+        let inset = |at: usize| {
+            let inset = beside.min(side / 30.0) + STEP * depths[at] as f64;
+            inset.min(GREATEST_INSET * side)
+        };
+        let x = edges[0] + inset(0)..edges[1] - inset(1);
+        let y = edges[2] + inset(2)..edges[3] - inset(3);
         let thickness = (0.1 * side).clamp(1.0, GREATEST_THICKNESS).min(0.25 * side);
-        Outline { kind, level, cells, depth, x, y, thickness }
+        Outline { kind, level: *level, edges, depths, x, y, thickness }
     }
 
-    /// Whether an outline of this kind around these cells is to keep within this one: they lie on each
-    /// other and, unless both are around changed cells, share an edge.
-    fn is_around(&self, kind: Kind, cells: &[Range<f64>; 2]) -> bool {
-        let mut pairs = self.cells.iter().zip(cells);
-        let overlap = pairs.clone().all(|(own, other)| !apart(own, other));
-        let share = pairs.any(|(own, other)| own.start == other.start || own.end == other.end);
+    /// Whether an outline of this kind is to keep within this one at one of its edges: they lie on each
+    /// other, and share the edge unless both are around changed cells.
+    fn is_around(&self, kind: Kind, edges: &[f64; 4], at: usize) -> bool {
+        let [left, right, lower, upper] = *edges;
+        let own = &self.edges;
+        let overlap =
+            !apart(&(own[0]..own[1]), &(left..right)) && !apart(&(own[2]..own[3]), &(lower..upper));
         let is_reach = |kind| matches!(kind, Kind::Reach(_));
-        overlap && (share || !is_reach(self.kind) && !is_reach(kind))
+        overlap && (own[at] == edges[at] || !is_reach(self.kind) && !is_reach(kind))
     }
 
     /// Whether the line meets a rectangle.

@@ -2,7 +2,7 @@
 //! of every split that is accepted, on every wall of the plan.
 
 use crate::words;
-use wallmirror::{Cell, Plan, Window};
+use wallmirror::{Cell, Mesh, Window};
 
 pub struct Reach {
     cell: Cell,
@@ -16,13 +16,15 @@ pub struct Reach {
 
 impl Reach {
     /// `None` if the plan does not have the cell.
-    pub fn of(plan: Plan, cell: Cell, fault: Option<String>) -> Option<Reach> {
+    pub fn of(mesh: &Mesh, cell: Cell) -> Option<Reach> {
+        let plan = mesh.plan;
         let mut windows = plan.reach(cell)?;
         let level = windows.first()?.level;
         let most = plan.most_refined(level).filter(|_| level + 1 < plan.levels);
         if most.is_none() {
             windows.truncate(1);
         }
+        let fault = words::fault(mesh, &words::split(vec![cell.0]));
         Some(Reach { cell, windows, most, fault })
     }
 

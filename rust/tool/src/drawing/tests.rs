@@ -1,5 +1,6 @@
 mod outlines;
 mod parser;
+mod reach;
 
 use super::numbers::{width_of, DIGIT_HEIGHT, SMALLEST_FONT};
 use super::samples::{finest, meshes, plan, worked};

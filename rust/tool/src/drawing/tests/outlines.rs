@@ -152,10 +152,10 @@ fn a_number_is_not_in_the_outline_of_a_smaller_cell() {
 fn outlines_are_above_corners_and_below_dots() {
     let mesh = Mesh::open(plan([2, 1, 2, 1, 1, 0, 2, 0])).unwrap();
     let changed = Some(Changes { split: &[Cell(0)], joined: &[Cell(1)] });
-    let root = read(&mesh, &Options { changed, ..WITH_FUNCTIONS }).root;
+    let reach = Reach::of(&mesh, Cell(0));
+    let root = read(&mesh, &Options { functions: true, changed, reach }).root;
     let order: Vec<&str> = root.children.iter().filter_map(|child| child.attribute("id")).collect();
-    assert_eq!(
-        order[1..],
-        ["cells", "corners", "ground", "joined", "split", "functions", "numbers", "legend"]
-    );
+    assert_eq!(order[1..3], ["cells", "corners"]);
+    assert_eq!(order[3..8], ["ground", "joined", "split", "reach-ground", "reach"]);
+    assert_eq!(order[8..], ["functions", "numbers", "legend"]);
 }

@@ -1,0 +1,327 @@
+//! The outlines of what a split can reach, and what the legend says of it.
+
+use super::*;
+use wallmirror::Window;
+
+fn reaching(mesh: &Mesh, cell: u32) -> Options<'static> {
+    let reach = Some(Reach::of(mesh, Cell(cell)).unwrap());
+    Options { reach, ..PLAIN }
+}
+
+/// A mesh of a plan in which these cells were marked, one after the other.
+fn marked(numbers: [u32; 8], cells: &[u32]) -> Mesh {
+    let mut mesh = Mesh::open(plan(numbers)).unwrap();
+    cells.iter().for_each(|&cell| drop(mesh.refine_cells(&[Cell(cell)]).unwrap()));
+    mesh
+}
+
+/// An outline that was read: its outer edge and its thickness.
+struct Frame {
+    colour: String,
+    left: f64,
+    top: f64,
+    right: f64,
+    bottom: f64,
+    thickness: f64,
+}
+
+/// The outlines of a kind.
+fn frames(read: &Read, kind: &str) -> Vec<Frame> {
+    let frame = |rect: &Node| {
+        let [x, y, width, height, thickness] =
+            ["x", "y", "width", "height", "stroke-width"].map(|name| rect.number(name));
+        let half = thickness / 2.0;
+        let colour = rect.attribute("stroke").unwrap().to_string();
+        let (left, top) = (x - half, y - half);
+        let (right, bottom) = (x + width + half, y + height + half);
+        assert_eq!(rect.attribute("fill"), Some("none"));
+        Frame { colour, left, top, right, bottom, thickness }
+    };
+    read.root.find(kind).map_or(vec![], |group| group.children("rect").map(frame).collect())
+}
+
+/// The cells of a level that lie in a frame by their middles.
+fn window_of(mesh: &Mesh, read: &Read, frame: &Frame, level: u32) -> Window {
+    let side = read.side(mesh, level);
+    let whole = |length: f64| (length / side).round() as u32;
+    Window {
+        level,
+        rows: whole(read.bottom - frame.bottom)..whole(read.bottom - frame.top),
+        columns: whole(frame.left - read.left)..whole(frame.right - read.left),
+    }
+}
+
+/// The level of a colour, which is that of its dots.
+fn level_of(frame: &Frame) -> u32 {
+    dots::COLOURS.iter().position(|colour| *colour == frame.colour).unwrap() as u32
+}
+
+/// What the outlines hold, the finest level first.
+fn windows(mesh: &Mesh, read: &Read) -> Vec<Window> {
+    let frames = frames(read, "reach");
+    frames.iter().rev().map(|frame| window_of(mesh, read, frame, level_of(frame))).collect()
+}
+
+/// What the legend says besides the levels.
+fn said(mesh: &Mesh, options: &Options) -> Vec<String> {
+    texts(&read(mesh, options).root, "legend")[mesh.plan.levels as usize..].to_vec()
+}
+
+/// Req 09's wall: cell 15 is column 7 of level 1, which stands on column 3 of level 0.
+#[test]
+fn the_reach_of_a_cell_in_a_row() {
+    let mesh = marked([8, 1, 5, 1, 1, 2, 0, 0], &[3]);
+    let options = reaching(&mesh, 15);
+    let own = Window { level: 1, rows: 0..1, columns: 7..8 };
+    let coarser = Window { level: 0, rows: 0..1, columns: 1..6 };
+    assert_eq!(windows(&mesh, &read(&mesh, &options)), [own, coarser]);
+    assert_eq!(
+        said(&mesh, &options),
+        [
+            "cell 15, of level 1",
+            "up to 5 cells of level 0",
+            "A split of cell 15 splits at most 26 cells, itself included.",
+            "Each lies in the outline of its level; the wall's edges leave 6 of them.",
+        ]
+    );
+}
+
+/// Cell 508 is row 8, column 12 of level 2. It stands on row 4, column 6 of level 1 and on row 2,
+/// column 3 of level 0, and no window meets the wall's edge.
+#[test]
+fn each_level_has_an_outline() {
+    let mesh = marked([8, 6, 4, 1, 1, 2, 0, 0], &[19, 118]);
+    let options = reaching(&mesh, 508);
+    let own = Window { level: 2, rows: 8..9, columns: 12..13 };
+    let next = Window { level: 1, rows: 2..7, columns: 4..9 };
+    let last = Window { level: 0, rows: 0..5, columns: 1..6 };
+    assert_eq!(windows(&mesh, &read(&mesh, &options)), [own, next, last]);
+    assert_eq!(
+        said(&mesh, &options),
+        [
+            "cell 508, of level 2",
+            "up to 25 cells of level 1",
+            "up to 25 cells of level 0",
+            "A split of cell 508 splits at most 51 cells, itself included.",
+            "Each lies in the outline of its level.",
+        ]
+    );
+}
+
+/// In class 3 a split reaches every other level, and in class 0 none.
+#[test]
+fn levels_are_those_of_the_class() {
+    for (class, level, levels, most) in [
+        (3, 0, &[0][..], "this cell alone"),
+        (3, 1, &[1], "this cell alone"),
+        (3, 2, &[2, 0], "at most 26 cells, itself included"),
+        (3, 3, &[3, 1], "at most 26 cells, itself included"),
+        (2, 3, &[3, 2, 1, 0], "at most 76 cells, itself included"),
+        (0, 0, &[0], "this cell alone"),
+        (0, 3, &[3], "this cell alone"),
+    ] {
+        let mesh = Mesh::open(plan([5, 5, 5, 1, 1, class, 0, 0])).unwrap();
+        let middle = (5 << level) / 2;
+        let cell = mesh.plan.cell_at(Place { level, row: middle, column: middle }).unwrap();
+        let options = reaching(&mesh, cell.0);
+        let drawn = windows(&mesh, &read(&mesh, &options));
+        assert_eq!(drawn.iter().map(|window| window.level).collect::<Vec<u32>>(), levels);
+        let said = said(&mesh, &options).join(" ");
+        assert!(said.contains(&format!(" splits {most}.")), "{said}");
+        assert_eq!(said.contains("Each lies in the outline of its level"), levels.len() > 1);
+    }
+}
+
+/// Cells 0, 1 and 3 are split, and 7 is absent. Both are of level 1, in columns 0 and 4 of six.
+#[test]
+fn a_split_that_is_refused_is_not_promised() {
+    let (mesh, _) = worked();
+    let alone = said(&mesh, &reaching(&mesh, 0));
+    let refused = "A split is refused here: cell 0 is split already.";
+    let once = "Where cell 0 is active, a split splits this cell alone.";
+    assert_eq!(alone, ["cell 0, of level 0", refused, once]);
+    for (cell, state) in [(3, "is split already"), (7, "is absent")] {
+        let refused = format!("A split is refused here: cell {cell} {state}.");
+        let once = "is active, a split splits at most 26 cells, itself included.";
+        let edges = "Each lies in the outline of its level; the wall's edges leave 4 of them.";
+        let said = said(&mesh, &reaching(&mesh, cell));
+        assert_eq!(said[..2], [&format!("cell {cell}, of level 1"), "up to 3 cells of level 0"]);
+        assert_eq!(said[2..], [refused, format!("Where cell {cell} {once}"), edges.into()]);
+    }
+}
+
+/// No cell of the last level is ever split. Cell 15 is active, and 17 is absent.
+#[test]
+fn nothing_is_reached_from_the_last_level() {
+    let (mesh, _) = worked();
+    for (cell, column, state) in [(15, 0, "is of the last level"), (17, 2, "is absent")] {
+        let options = reaching(&mesh, cell);
+        let own = Window { level: 2, rows: 0..1, columns: column..column + 1 };
+        assert_eq!(windows(&mesh, &read(&mesh, &options)), [own]);
+        let refused = format!("A split is refused here: cell {cell} {state}.");
+        assert_eq!(said(&mesh, &options), [format!("cell {cell}, of level 2"), refused]);
+    }
+}
+
+#[test]
+fn the_plan_has_no_such_cell() {
+    for mesh in &meshes() {
+        let cells = mesh.cells.len() as u32;
+        assert!(Reach::of(mesh, Cell(cells - 1)).is_some());
+        assert!([cells, u32::MAX].iter().all(|&cell| Reach::of(mesh, Cell(cell)).is_none()));
+    }
+}
+
+/// A few cells of a mesh, of each level the first, the last and some between.
+fn some_cells(mesh: &Mesh) -> Vec<u32> {
+    let cells = (0..mesh.plan.levels).flat_map(|level| {
+        let cells = mesh.plan.cells_on(level).unwrap();
+        let step = (cells.len() / 3).max(1);
+        cells.clone().step_by(step).chain([cells.end - 1])
+    });
+    cells.collect()
+}
+
+#[test]
+fn outlines_are_the_windows() {
+    for mesh in &meshes() {
+        for cell in some_cells(mesh) {
+            let read = read(mesh, &reaching(mesh, cell));
+            let mut expected = mesh.plan.reach(Cell(cell)).unwrap();
+            if expected[0].level + 1 == mesh.plan.levels {
+                expected.truncate(1);
+            }
+            assert_eq!(windows(mesh, &read), expected);
+        }
+    }
+}
+
+/// What is split lies in the outlines, and is not more than is said.
+#[test]
+fn what_is_said_holds_of_each_split() {
+    let mut splits = 0;
+    for mesh in &meshes() {
+        for cell in active_cells(mesh).into_iter().step_by(3) {
+            let mut after = mesh.clone();
+            let Ok(lists) = after.refine_cells(&[Cell(cell)]) else { continue };
+            splits += 1;
+            let options = reaching(mesh, cell);
+            let outlines = windows(mesh, &read(mesh, &options));
+            let inside = |cell: &Cell| {
+                let place = mesh.plan.place(*cell).unwrap();
+                outlines.iter().any(|window| window.contains(place))
+            };
+            assert!(lists.cells.iter().all(inside));
+            let said = said(mesh, &options).join(" ");
+            let begin = format!("A split of cell {cell} splits ");
+            let (_, said) = said.split_once(&begin).unwrap();
+            let most = match said.strip_prefix("at most ") {
+                None => said.starts_with("this cell alone.").then_some(1),
+                Some(rest) => rest.split(' ').next().unwrap().parse().ok(),
+            };
+            assert!(lists.cells.len() <= most.unwrap());
+        }
+    }
+    assert!(splits > 100, "{splits}");
+}
+
+/// Whether the line of a frame meets a rectangle: left, top, right, bottom.
+fn meets(frame: &Frame, [left, top, right, bottom]: [f64; 4]) -> bool {
+    let Frame { thickness, .. } = *frame;
+    let within = frame.left + thickness < left
+        && frame.top + thickness < top
+        && right < frame.right - thickness
+        && bottom < frame.bottom - thickness;
+    let outside =
+        right < frame.left || bottom < frame.top || frame.right < left || frame.bottom < top;
+    !within && !outside
+}
+
+#[test]
+fn no_outline_of_a_reach_covers_a_number() {
+    for mesh in &meshes() {
+        for cell in some_cells(mesh) {
+            for functions in [false, true] {
+                let read = read(mesh, &Options { functions, ..reaching(mesh, cell) });
+                let frames = frames(&read, "reach");
+                for number in number_boxes(&read.root).into_values() {
+                    assert!(!frames.iter().any(|frame| meets(frame, number)));
+                }
+            }
+        }
+    }
+}
+
+/// The sides of a line: for each whether it is upright, where it is across itself, and from where to
+/// where along itself.
+fn sides(frame: &Frame) -> [(bool, [f64; 2], [f64; 2]); 4] {
+    let Frame { left, top, right, bottom, thickness, .. } = *frame;
+    [
+        (true, [left, left + thickness], [top, bottom]),
+        (true, [right - thickness, right], [top, bottom]),
+        (false, [top, top + thickness], [left, right]),
+        (false, [bottom - thickness, bottom], [left, right]),
+    ]
+}
+
+/// Whether two lines lie on each other, and do not only cross.
+fn covers(one: &Frame, other: &Frame) -> bool {
+    let meet = |a: [f64; 2], b: [f64; 2]| a[0] + 0.001 < b[1] && b[0] + 0.001 < a[1];
+    sides(one).iter().any(|(upright, across, along)| {
+        sides(other)
+            .iter()
+            .any(|side| side.0 == *upright && meet(side.1, *across) && meet(side.2, *along))
+    })
+}
+
+/// Also where they share an edge, and with those of the last change.
+#[test]
+fn no_outline_lies_on_another() {
+    for (earlier, last, cell) in [
+        (&[19][..], 118, 508),
+        (&[19], 118, 135),
+        (&[0], 48, 52),
+        (&[], 47, 239),
+        (&[], 19, 19),
+        (&[40], 224, 1004),
+    ] {
+        let mut mesh = marked([8, 6, 4, 1, 1, 2, 0, 0], earlier);
+        let split = mesh.refine_cells(&[Cell(last)]).unwrap().cells;
+        let changed = Some(Changes { split: &split, joined: &[] });
+        let read = read(&mesh, &Options { changed, ..reaching(&mesh, cell) });
+        let reach = frames(&read, "reach");
+        let all: Vec<Frame> =
+            frames(&read, "split").into_iter().chain(frames(&read, "reach")).collect();
+        for (i, frame) in reach.iter().enumerate() {
+            let others = all.iter().enumerate().filter(|(k, _)| *k != split.len() + i);
+            assert!(others.into_iter().all(|(_, other)| !covers(frame, other)), "{cell}");
+        }
+    }
+}
+
+#[test]
+fn what_is_said_of_a_reach_has_room() {
+    // A letter of the legend is about so wide, in DejaVu Sans.
+    const LETTER: f64 = 5.7;
+    for mesh in meshes().iter().chain([&Mesh::open(plan([1, 1, 8, 4, 4, 2, 0, 0])).unwrap()]) {
+        for cell in some_cells(mesh) {
+            let options = reaching(mesh, cell);
+            let room = read(mesh, &options).root.number("width") - 2.0 * MARGIN;
+            let said = said(mesh, &options);
+            assert!(
+                said.iter().all(|said| LETTER * said.chars().count() as f64 <= room),
+                "{said:?}"
+            );
+        }
+    }
+}
+
+#[test]
+fn a_reach_is_drawn_only_where_it_is_asked_for() {
+    for mesh in &meshes() {
+        let root = read(mesh, &PLAIN).root;
+        assert!(root.find("reach").is_none() && root.find("reach-ground").is_none());
+        let legend = texts(&root, "legend");
+        assert!(!legend.iter().any(|said| said.contains("up to") || said.contains("split")));
+    }
+}
