@@ -31,6 +31,12 @@ draw march.wall wall-after --functions --changed
 wallmirror back march.wall
 draw march.wall wall-back --functions --changed
 
+# What a split can reach.
+wallmirror new reach.wall 8 6 4 1 1 2
+wallmirror split reach.wall 19
+wallmirror split reach.wall 118
+draw reach.wall wall-reach --reach 508
+
 # A wall with a corner.
 wallmirror new corner.wall 3 2 3 2 2 2 2 0
 wallmirror split corner.wall 0

@@ -29,7 +29,10 @@ _wallmirror()
             export) words="-o --help" ;;
             *) words="--help" ;;
         esac
-    elif [[ $COMP_CWORD -eq 2 || $before == -o || $before == -- || $before == --functions || $before == --changed ]]; then
+    elif [ "$before" = --reach ]; then
+        return
+    elif [[ $COMP_CWORD -eq 2 || $before == -o || $before == -- || $before == --functions || $before == --changed ||
+        ${COMP_WORDS[COMP_CWORD - 2]} == --reach ]]; then
         if [ "$command" = restore ]; then
             _wallmirror_files "$word" lost
         else

@@ -136,11 +136,79 @@ fn command_lines_that_are_wrong() {
     for line in ["info march.wall -o x", "split march.wall --changed", "export --functions a"] {
         bad(&folder, line, &["there is no option '", "; usage: wallmirror "]);
     }
+    for command in ALL.iter().filter(|command| **command != "draw") {
+        let line = format!("{command} march.wall --reach 2");
+        bad(&folder, &line, &["there is no option '--reach'; usage: wallmirror "]);
+    }
     for line in ["draw march.wall -o", "export march.wall -o", "draw march.wall -o "] {
         bad(&folder, line, &["'-o' needs the name of a file; usage: "]);
     }
     bad(&folder, "draw march.wall -o a.svg -o b.svg", &["'-o' is given twice; usage: "]);
     bad(&folder, "draw march.wall -o a/", &["'a/' is a folder, not a file; usage: "]);
+}
+
+#[test]
+fn reaches_that_are_wrong() {
+    let folder = march();
+    bad(&folder, "draw march.wall --reach", &["'--reach' needs the number of a cell; usage: "]);
+    for line in ["draw march.wall --reach 2 --reach 2", "draw --reach 2 march.wall --reach"] {
+        bad(&folder, line, &["'--reach' is given twice; usage: wallmirror draw FILE"]);
+    }
+    for option in ["-1", "--", "--changed", "-o"] {
+        let said = format!("'{option}' is no number of a cell; give digits alone");
+        bad(&folder, &format!("draw march.wall --reach {option}"), &[&said]);
+    }
+    bad(&folder, "draw march.wall --reach=2", &["there is no option '--reach=2'; usage: "]);
+    bad(&folder, "draw --reach 2", &["the name of the wall's file is missing; usage: "]);
+    bad(&folder, "draw march.wall --reach 2 3", &["'3' is one word too many; usage: "]);
+    bad(&folder, "draw no.wall --reach 2", &["there is no file 'no.wall'"]);
+    // Cells go by the plan, and no picture is written.
+    for cell in ["63", "4294967295"] {
+        let said = format!("not that of a cell: {cell}, where cells go from 0 to 62");
+        bad(&folder, &format!("draw march.wall -o a.svg --reach {cell}"), &[&said]);
+    }
+}
+
+/// Cells 0, 1 and 3 are split, and the last level has the cells from 15 on.
+#[test]
+fn reaches_of_all_cells_are_drawn() {
+    let folder = march();
+    let before = folder.all();
+    for cell in 0..63 {
+        let refused = match cell {
+            0 | 1 | 3 => Some("is split already"),
+            15 | 16 | 27 | 28 => Some("is of the last level"),
+            7 | 8 | 13 | 14 | 17..63 => Some("is absent"),
+            _ => None,
+        };
+        let picture = done(&folder, &format!("draw march.wall --reach {cell}"));
+        let of_cell = format!(">A split of cell {cell} splits ");
+        assert_eq!(picture.contains(&of_cell), refused.is_none(), "{cell}");
+        let said = refused.map(|state| format!(">A split is refused here: cell {cell} {state}."));
+        assert!(said.is_none_or(|said| picture.contains(&said)), "{cell}");
+        // The call that the picture is about is refused where it says so.
+        if refused.is_some() {
+            assert_eq!(run(&folder, words(&format!("split march.wall {cell}"))).2, 1);
+        }
+    }
+    assert_eq!(folder.all(), before);
+}
+
+#[test]
+fn the_options_of_a_picture_in_any_order() {
+    let folder = march();
+    let picture = done(&folder, "draw march.wall --functions --changed --reach 4");
+    for id in ["functions", "split", "reach"] {
+        assert!(picture.contains(&format!("<g id=\"{id}\"")), "{id}");
+    }
+    for line in [
+        "draw --reach 4 --changed march.wall --functions",
+        "draw --functions --reach 0004 --changed --changed -- march.wall",
+        "draw march.wall -o - --reach 4 --functions --changed",
+    ] {
+        assert_eq!(done(&folder, line), picture, "{line}");
+    }
+    assert!(!done(&folder, "draw march.wall --functions --changed").contains("reach"));
 }
 
 /// Words that are no numbers, or too large ones.
@@ -160,6 +228,8 @@ fn numbers_that_are_none() {
             let words = [word, "march.wall"].map(OsStr::new);
             bad_words(&folder, &[&words[..], &[&wrong]].concat(), &is_none);
         }
+        let words = ["draw", "march.wall", "-o", "a.svg", "--reach"].map(OsStr::new);
+        bad_words(&folder, &[&words[..], &[&wrong]].concat(), &is_none);
         // Also behind good ones.
         let words = ["split", "march.wall", "2"].map(OsStr::new);
         bad_words(&folder, &[&words[..], &[&wrong, OsStr::new("2")]].concat(), &is_none);
@@ -410,7 +480,7 @@ fn pictures_in_files() {
     fs::create_dir(folder.path("april")).expect("a folder");
     symlink("april/b", folder.path("link")).expect("a link");
     folder.write("april/b", "something longer than nothing");
-    for command in ["draw", "export", "draw --functions", "draw --changed"] {
+    for command in ["draw", "export", "draw --functions", "draw --changed", "draw --reach 4"] {
         let printed = done(&folder, &format!("{command} march.wall"));
         assert_eq!(done(&folder, &format!("{command} march.wall -o -")), printed);
         for out in ["a", "a", "april/a", "./april/a", "link", "/dev/null"] {

@@ -4,6 +4,7 @@ mod common;
 
 use common::{done, run, words, Folder};
 use std::path::Path;
+use std::process::Command;
 
 fn document(name: &str) -> String {
     let path = Path::new(env!("CARGO_MANIFEST_DIR")).join("../..").join(name);
@@ -56,6 +57,35 @@ fn the_journal_that_is_shown() {
     let is_journal = |block: &String| block.starts_with("wallmirror journal 1:");
     let journals: Vec<String> = blocks(&text, "text").into_iter().filter(is_journal).collect();
     assert_eq!(journals, [String::from_utf8(folder.read("corner.wall.journal")).expect("text")]);
+}
+
+#[test]
+fn the_reach_that_is_shown() {
+    let console = blocks(&document("docs/TOOL.md"), "console");
+    let block = console.iter().find(|block| block.contains(" --reach ")).expect("a block");
+    let picture = String::from_utf8(shown(block).0.read("reach.svg")).expect("text");
+    assert_eq!(picture, document("docs/wall-reach.svg"));
+    // 1 + 2 (4 + 1) (4 + 1) for level 2, class 2 and degrees 1.
+    assert!(picture.contains(">A split of cell 508 splits at most 51 cells, itself included.<"));
+    let lists = block.lines().last().expect("an answer");
+    assert_eq!(lists.split(';').nth(1).expect("cells").split(' ').count(), 16);
+}
+
+/// The options of a command by its usage, and those that the completion for bash offers.
+#[test]
+fn options_that_are_completed() {
+    let script = Path::new(env!("CARGO_MANIFEST_DIR")).join("wallmirror.bash");
+    let complete = ". \"$1\"; COMP_WORDS=(wallmirror \"$2\" -); COMP_CWORD=2; _wallmirror; echo \"${COMPREPLY[@]}\"";
+    for usage in documented() {
+        let name = usage.split(' ').next().expect("a name");
+        let options = usage.split('[').filter(|part| part.starts_with('-'));
+        let options = options.map(|part| part.split([' ', ']']).next().expect("an option"));
+        let expected: Vec<&str> = options.chain(["--help"]).collect();
+        let bash =
+            Command::new("bash").args(["-c", complete, "bash"]).arg(&script).arg(name).output();
+        let offered = String::from_utf8(bash.expect("bash starts").stdout).expect("text");
+        assert_eq!(offered.trim_end().split(' ').collect::<Vec<_>>(), expected, "{usage}");
+    }
 }
 
 /// The commands of the overview with what follows them. A long one has a line to itself.
