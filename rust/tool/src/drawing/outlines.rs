@@ -14,6 +14,12 @@ pub enum Kind {
     Reach(u32),
 }
 
+impl Kind {
+    fn is_reach(self) -> bool {
+        matches!(self, Kind::Reach(_))
+    }
+}
+
 /// Orange and violet differ for those too who do not tell red from green.
 const SPLIT: &str = "#d9541e";
 const JOINED: &str = "#6a3d9a";
@@ -43,13 +49,12 @@ impl Outlines {
     pub fn svg(&self, frame: &Frame) -> String {
         let own = |outline: &Outline| style(outline.kind, outline.thickness);
         let ground = |outline: &Outline| line(GROUND, outline.thickness);
-        let is_reach = |kind| matches!(kind, Kind::Reach(_));
         let is_joined = |kind| kind == Kind::Joined;
         self.group(frame, "ground", is_joined, ground)
             + &self.group(frame, "joined", is_joined, own)
             + &self.group(frame, "split", |kind| kind == Kind::Split, own)
-            + &self.group(frame, "reach-ground", is_reach, ground)
-            + &self.group(frame, "reach", is_reach, own)
+            + &self.group(frame, "reach-ground", Kind::is_reach, ground)
+            + &self.group(frame, "reach", Kind::is_reach, own)
     }
 
     fn group(
@@ -137,8 +142,8 @@ impl Outline {
         let own = &self.edges;
         let overlap =
             !apart(&(own[0]..own[1]), &(left..right)) && !apart(&(own[2]..own[3]), &(lower..upper));
-        let is_reach = |kind| matches!(kind, Kind::Reach(_));
-        overlap && (own[at] == edges[at] || !is_reach(self.kind) && !is_reach(kind))
+        let both_changed = !self.kind.is_reach() && !kind.is_reach();
+        overlap && (both_changed || own[at] == edges[at])
     }
 
     /// Whether the line meets a rectangle.

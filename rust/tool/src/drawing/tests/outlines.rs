@@ -98,18 +98,41 @@ fn outlines_in_each_other_are_told_apart() {
     }
 }
 
-/// Whether the line of an outline meets a rectangle: left, top, right, bottom.
-fn meets(mesh: &Mesh, read: &Read, outline: &Drawn, [left, top, right, bottom]: [f64; 4]) -> bool {
-    let (x, y, side) = read.place(mesh, outline.cell);
+/// The line of an outline that was read: its outer edge and how thick it is.
+pub struct Line {
+    pub colour: String,
+    pub left: f64,
+    pub top: f64,
+    pub right: f64,
+    pub bottom: f64,
+    pub thickness: f64,
+}
+
+/// The lines of a kind.
+pub fn lines(read: &Read, kind: &str) -> Vec<Line> {
+    let line = |rect: &Node| {
+        let [x, y, width, height, thickness] =
+            ["x", "y", "width", "height", "stroke-width"].map(|name| rect.number(name));
+        let half = thickness / 2.0;
+        let colour = rect.attribute("stroke").unwrap().to_string();
+        let (left, top) = (x - half, y - half);
+        let (right, bottom) = (x + width + half, y + height + half);
+        assert_eq!(rect.attribute("fill"), Some("none"));
+        Line { colour, left, top, right, bottom, thickness }
+    };
+    read.root.find(kind).map_or(vec![], |group| group.children("rect").map(line).collect())
+}
+
+/// Whether a line meets a rectangle: left, top, right, bottom.
+pub fn meets(line: &Line, [left, top, right, bottom]: [f64; 4]) -> bool {
     let within = |by: f64| {
-        let end = side - by;
-        x + by < left && y + by < top && right < x + end && bottom < y + end
+        line.left + by < left
+            && line.top + by < top
+            && right < line.right - by
+            && bottom < line.bottom - by
     };
-    let outside = |by: f64| {
-        let end = side - by;
-        right < x + by || bottom < y + by || x + end < left || y + end < top
-    };
-    !within(outline.inset + outline.thickness) && !outside(outline.inset)
+    let outside = right < line.left || bottom < line.top || line.right < left || line.bottom < top;
+    !within(line.thickness) && !outside
 }
 
 #[test]
@@ -123,10 +146,9 @@ fn no_outline_covers_a_number() {
                     if kind == "split" { (&listed, &[]) } else { (&[], &listed) };
                 let options = Options { functions, ..changed(split, joined) };
                 let read = read(mesh, &options);
-                let outlines = drawn(mesh, &read, kind);
+                let lines = lines(&read, kind);
                 for number in number_boxes(&read.root).into_values() {
-                    let mut lines = outlines.iter();
-                    assert!(!lines.any(|outline| meets(mesh, &read, outline, number)));
+                    assert!(!lines.iter().any(|line| meets(line, number)));
                 }
             }
         }

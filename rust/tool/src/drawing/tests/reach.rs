@@ -1,5 +1,6 @@
 //! The outlines of what a split can reach, and what the legend says of it.
 
+use super::outlines::{lines, meets, Line};
 use super::*;
 use wallmirror::Window;
 
@@ -15,51 +16,26 @@ fn marked(numbers: [u32; 8], cells: &[u32]) -> Mesh {
     mesh
 }
 
-/// An outline that was read: its outer edge and its thickness.
-struct Frame {
-    colour: String,
-    left: f64,
-    top: f64,
-    right: f64,
-    bottom: f64,
-    thickness: f64,
-}
-
-/// The outlines of a kind.
-fn frames(read: &Read, kind: &str) -> Vec<Frame> {
-    let frame = |rect: &Node| {
-        let [x, y, width, height, thickness] =
-            ["x", "y", "width", "height", "stroke-width"].map(|name| rect.number(name));
-        let half = thickness / 2.0;
-        let colour = rect.attribute("stroke").unwrap().to_string();
-        let (left, top) = (x - half, y - half);
-        let (right, bottom) = (x + width + half, y + height + half);
-        assert_eq!(rect.attribute("fill"), Some("none"));
-        Frame { colour, left, top, right, bottom, thickness }
-    };
-    read.root.find(kind).map_or(vec![], |group| group.children("rect").map(frame).collect())
-}
-
-/// The cells of a level that lie in a frame by their middles.
-fn window_of(mesh: &Mesh, read: &Read, frame: &Frame, level: u32) -> Window {
+/// The cells of a level that lie in an outline.
+fn window_of(mesh: &Mesh, read: &Read, line: &Line, level: u32) -> Window {
     let side = read.side(mesh, level);
     let whole = |length: f64| (length / side).round() as u32;
     Window {
         level,
-        rows: whole(read.bottom - frame.bottom)..whole(read.bottom - frame.top),
-        columns: whole(frame.left - read.left)..whole(frame.right - read.left),
+        rows: whole(read.bottom - line.bottom)..whole(read.bottom - line.top),
+        columns: whole(line.left - read.left)..whole(line.right - read.left),
     }
 }
 
 /// The level of a colour, which is that of its dots.
-fn level_of(frame: &Frame) -> u32 {
-    dots::COLOURS.iter().position(|colour| *colour == frame.colour).unwrap() as u32
+fn level_of(line: &Line) -> u32 {
+    dots::COLOURS.iter().position(|colour| *colour == line.colour).unwrap() as u32
 }
 
 /// What the outlines hold, the finest level first.
 fn windows(mesh: &Mesh, read: &Read) -> Vec<Window> {
-    let frames = frames(read, "reach");
-    frames.iter().rev().map(|frame| window_of(mesh, read, frame, level_of(frame))).collect()
+    let lines = lines(read, "reach");
+    lines.iter().rev().map(|line| window_of(mesh, read, line, level_of(line))).collect()
 }
 
 /// What the legend says besides the levels.
@@ -132,7 +108,7 @@ fn levels_are_those_of_the_class() {
     }
 }
 
-/// Cells 0, 1 and 3 are split, and 7 is absent. Both are of level 1, in columns 0 and 4 of six.
+/// Cells 0, 1 and 3 are split, and 7 is absent. 3 and 7 are in columns 0 and 4 of six on level 1.
 #[test]
 fn a_split_that_is_refused_is_not_promised() {
     let (mesh, _) = worked();
@@ -225,27 +201,15 @@ fn what_is_said_holds_of_each_split() {
     assert!(splits > 100, "{splits}");
 }
 
-/// Whether the line of a frame meets a rectangle: left, top, right, bottom.
-fn meets(frame: &Frame, [left, top, right, bottom]: [f64; 4]) -> bool {
-    let Frame { thickness, .. } = *frame;
-    let within = frame.left + thickness < left
-        && frame.top + thickness < top
-        && right < frame.right - thickness
-        && bottom < frame.bottom - thickness;
-    let outside =
-        right < frame.left || bottom < frame.top || frame.right < left || frame.bottom < top;
-    !within && !outside
-}
-
 #[test]
 fn no_outline_of_a_reach_covers_a_number() {
     for mesh in &meshes() {
         for cell in some_cells(mesh) {
             for functions in [false, true] {
                 let read = read(mesh, &Options { functions, ..reaching(mesh, cell) });
-                let frames = frames(&read, "reach");
+                let lines = lines(&read, "reach");
                 for number in number_boxes(&read.root).into_values() {
-                    assert!(!frames.iter().any(|frame| meets(frame, number)));
+                    assert!(!lines.iter().any(|line| meets(line, number)));
                 }
             }
         }
@@ -254,8 +218,8 @@ fn no_outline_of_a_reach_covers_a_number() {
 
 /// The sides of a line: for each whether it is upright, where it is across itself, and from where to
 /// where along itself.
-fn sides(frame: &Frame) -> [(bool, [f64; 2], [f64; 2]); 4] {
-    let Frame { left, top, right, bottom, thickness, .. } = *frame;
+fn sides(line: &Line) -> [(bool, [f64; 2], [f64; 2]); 4] {
+    let Line { left, top, right, bottom, thickness, .. } = *line;
     [
         (true, [left, left + thickness], [top, bottom]),
         (true, [right - thickness, right], [top, bottom]),
@@ -265,7 +229,7 @@ fn sides(frame: &Frame) -> [(bool, [f64; 2], [f64; 2]); 4] {
 }
 
 /// Whether two lines lie on each other, and do not only cross.
-fn covers(one: &Frame, other: &Frame) -> bool {
+fn covers(one: &Line, other: &Line) -> bool {
     let meet = |a: [f64; 2], b: [f64; 2]| a[0] + 0.001 < b[1] && b[0] + 0.001 < a[1];
     sides(one).iter().any(|(upright, across, along)| {
         sides(other)
@@ -289,14 +253,37 @@ fn no_outline_lies_on_another() {
         let split = mesh.refine_cells(&[Cell(last)]).unwrap().cells;
         let changed = Some(Changes { split: &split, joined: &[] });
         let read = read(&mesh, &Options { changed, ..reaching(&mesh, cell) });
-        let reach = frames(&read, "reach");
-        let all: Vec<Frame> =
-            frames(&read, "split").into_iter().chain(frames(&read, "reach")).collect();
-        for (i, frame) in reach.iter().enumerate() {
-            let others = all.iter().enumerate().filter(|(k, _)| *k != split.len() + i);
-            assert!(others.into_iter().all(|(_, other)| !covers(frame, other)), "{cell}");
+        let lines: Vec<Line> =
+            ["split", "reach"].iter().flat_map(|kind| lines(&read, kind)).collect();
+        assert!(lines.len() > split.len());
+        for (i, line) in lines.iter().enumerate() {
+            assert!(lines[..i].iter().all(|other| !covers(line, other)), "{cell}");
         }
     }
+}
+
+#[test]
+fn corners_change_no_reach() {
+    let [without, with] =
+        [[0, 0], [4, 2]].map(|[across, up]| marked([8, 6, 4, 2, 1, 3, across, up], &[19]));
+    for cell in some_cells(&with) {
+        let [plain, options] = [&without, &with].map(|mesh| reaching(mesh, cell));
+        let drawn = windows(&with, &read(&with, &options));
+        assert_eq!(drawn, windows(&without, &read(&without, &plain)));
+        let mut expected = said(&without, &plain);
+        expected.insert(drawn.len(), "corner".into());
+        assert_eq!(said(&with, &options), expected);
+    }
+}
+
+/// Cell 120 is row 4, column 8 of level 1, so the window on level 0 begins with column 2.
+#[test]
+fn a_corner_is_seen_beside_a_reach() {
+    let mesh = marked([8, 6, 3, 1, 1, 2, 1 << 2, 0], &[20]);
+    let read = read(&mesh, &reaching(&mesh, 120));
+    let corner = read.left + 2.0 * read.side(&mesh, 0);
+    let from_corner = lines(&read, "reach")[0].left - corner;
+    assert_eq!(from_corner, CORNER_LINE_WIDTH / 2.0);
 }
 
 #[test]
