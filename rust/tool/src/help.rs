@@ -155,8 +155,8 @@ Draws the active cells, coloured by level, as an SVG picture, on standard output
   --functions   the functions too, at the middle of their supports, side by side where these are
                 the same: active ones are dots, deactivated ones hollow
   --changed     outline the cells that the last change split or joined
-  --reach CELL  outline the cell, and where the cells lie that a split of it can split besides, with
-                an outline for each level, and say how many it splits at the most
+  --reach CELL  outline what a split of this cell can reach: the cell and, for each coarser level on
+                which it can split cells, where these lie; and say how many it splits at the most
 ",
     },
     Topic {
