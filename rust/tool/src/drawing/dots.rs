@@ -5,9 +5,10 @@ use super::{number, Frame};
 use std::ops::Range;
 use wallmirror::{Function, Mesh};
 
-/// Of dots, by level. Each is dark enough for white, which is around the filled dots and in the
-/// hollow ones, so that they are seen on cells of any level. Neighbouring levels differ for those
-/// too who do not tell red from green, and none is like an outline.
+/// Of dots, and of outlines of what a split can reach, by level. Each is dark enough for white, which
+/// is around the filled dots, in the hollow ones and between the dashes of the outlines, so that they
+/// are seen on cells of any level. Neighbouring levels differ for those too who do not tell red from
+/// green, and none is like the outline of a changed cell.
 pub const COLOURS: [&str; 8] =
     ["#7a1526", "#e0246e", "#00897b", "#a58812", "#17401a", "#cc1fd6", "#664400", "#2d810e"];
 
