@@ -58,11 +58,11 @@ impl Reach {
         said
     }
 
-    /// How many cells the outlines hold, where the wall ends before so many.
+    /// How many cells the outlines hold, where that is fewer because the wall ends.
     fn cut_off(&self, most: usize) -> String {
         let held: usize = self.windows.iter().map(size).sum();
         if held < most {
-            format!("; the wall's edges leave {held} of them")
+            format!("; the outlines hold {held} cells in all")
         } else {
             String::new()
         }

@@ -57,7 +57,7 @@ fn the_reach_of_a_cell_in_a_row() {
             "cell 15, of level 1",
             "up to 5 cells of level 0",
             "A split of cell 15 splits at most 26 cells, itself included.",
-            "Each lies in the outline of its level; the wall's edges leave 6 of them.",
+            "Each lies in the outline of its level; the outlines hold 6 cells in all.",
         ]
     );
 }
@@ -119,7 +119,7 @@ fn a_split_that_is_refused_is_not_promised() {
     for (cell, state) in [(3, "is split already"), (7, "is absent")] {
         let refused = format!("A split is refused here: cell {cell} {state}.");
         let once = "is active, a split splits at most 26 cells, itself included.";
-        let edges = "Each lies in the outline of its level; the wall's edges leave 4 of them.";
+        let edges = "Each lies in the outline of its level; the outlines hold 4 cells in all.";
         let said = said(&mesh, &reaching(&mesh, cell));
         assert_eq!(said[..2], [&format!("cell {cell}, of level 1"), "up to 3 cells of level 0"]);
         assert_eq!(said[2..], [refused, format!("Where cell {cell} {once}"), edges.into()]);
