@@ -14,7 +14,7 @@ use Rattle.grid.specs.Spans.{inRectangle}
 unfoldable pub atMost : ℕ → ℕ → Span
 atMost g x = record { first = x - g; end = x + g + 1 }
 
--- the window of the cell at c, d levels up: at most 2·p columns and 2·q rows from its ancestor there
+-- the window of the cell at c, d levels up: the cells at most 2·p columns and 2·q rows from its ancestor there
 unfoldable pub window : Plan → ℕ → Place → Rectangle
 window p d c = record {
   level = c .level - d;

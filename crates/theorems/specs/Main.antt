@@ -106,12 +106,12 @@ pub record Main : Type 0 where
       → ((x : ℕ) → elem x marks ≡ elem x others)
       → SameButNumber cs fs cl fl (outcome d by p cs fs marks cl fl) (outcome d by p cs fs others cl fl)
   -- Document 02, Req 09: "In a graded wall, one marked cell of level j splits at most 1 + ⌊j/(m-1)⌋·(4p+1)·(4q+1) cells, itself
-  -- included": so many does an accepted call answer whose marks are all one cell c, once or more
+  -- included". This is the number of cells that an accepted call answers; its marks are all one cell c, once or more
   pub oneMark : (p : Plan) (cs fs marks cl fl : List ℕ) (c : ℕ) → p .class ≢ 0 → ((x : ℕ) → T (elem x marks) → x ≡ c)
       → outcome refine cells p cs fs marks cl fl .answer .number ≡ 0
       → outcome refine cells p cs fs marks cl fl .answer .cells
       ≤ 1 + cellLevel p c / (p .class - 1) * (4 * p .«degree_across» + 1) * (4 * p .«degree_up» + 1)
-  -- several marks: at most the sum, each cell counted once
+  -- several marks: at most the sum of their bounds, each cell counted once
   pub severalMarks : (p : Plan) (cs fs marks cl fl : List ℕ) → outcome refine cells p cs fs marks cl fl .answer .number ≡ 0
       → outcome refine cells p cs fs marks cl fl .answer .cells ≤ mostOf p (once marks)
   -- by cells or by functions, in any class: how many, where they lie, and class 0
