@@ -1,6 +1,7 @@
 -- Document 02, Req 09, computed on small plans: what a marked cell reaches, needs, and costs, one table under one theorem. Assumes
 -- nothing.
 use Prim.Native.Nat.{ℕ}
+use mathlib.Core.Path.{_≡_, refl}
 use mathlib.Core.Bool.{Bool, true, not, _&&_}
 use mathlib.Core.List.{List, [], _∷_}
 use lib.Dec.{T, eqb, leb}
@@ -20,6 +21,12 @@ use Rattle.outcomes.proofs.Examples.{same, plan, refining, split, row, W0, W2}
 use Rattle.outcomes.proofs.Examples as calls
 use Rattle.cost.specs.Reach.{atMost, window, reaches, mostRefined}
 use Rattle.cost.specs.Cost.{mostOf}
+
+-- the cell 23, of level 2, row 0, column 8, needs cell 0 (`needed`, below), and reaches it: two levels up, and two columns from its
+-- ancestor, the most that degree 1 allows
+pub two-columns : reaches (plan 3 1 4 1 1 2) 23 0 ≡ true
+unfolding atMost window reaches inSpan inRectangle some offset number levelOf placeOn place ratio grown ancestor
+two-columns = refl
 
 pub data Row : Type 0 where
   -- a mark on the cell c reaches just these cells, and costs at most n
@@ -74,7 +81,7 @@ table =
     -- class 3: from level 2 to level 0, past level 1; from level 1 nowhere
     ∷ reached (plan 3 1 4 1 1 3) 15 (0 ∷ 1 ∷ 2 ∷ 15 ∷ []) 26
     ∷ reached (plan 3 1 4 1 1 3) 3 (3 ∷ []) 1
-    -- two columns away, the most that degree 1 allows: the cell of level 2, row 0, column 8 needs cell 0, in two steps
+    -- in two steps, by way of a cell of level 1
     ∷ needed (plan 3 1 4 1 1 2) 23 0
     -- P7: cell 3 needs cell 1. It does not need cell 2, which it reaches
     ∷ needed W2 3 1
