@@ -16,13 +16,14 @@ use Rattle.facts.proofs.Turns.{listed-between}
 abbrev pub Few : ℕ → (ℕ → Bool) → ℕ → Type 0
 Few n p a = length (listed n p) ≤ a
 
-one-more : (n : ℕ) (b : Bool) → length {A = ℕ} (cond b (n ∷ []) []) ≡ cond b 1 0
-one-more n true = refl
-one-more n false = refl
-
-listed-next : (n : ℕ) (p : ℕ → Bool) → length (listed (suc n) p) ≡ length (listed n p) + cond (p n) 1 0
+-- n is one more if it passes
+pub listed-next : (n : ℕ) (p : ℕ → Bool) → length (listed (suc n) p) ≡ length (listed n p) + cond (p n) 1 0
 unfolding listed
-listed-next n p = omega (arith, length-append (listed n p) (cond (p n) (n ∷ []) []), one-more n (p n))
+listed-next n p = omega (arith, length-append (listed n p) (cond (p n) (n ∷ []) []), one (p n))
+  where
+    one : (b : Bool) → length {A = ℕ} (cond b (n ∷ []) []) ≡ cond b 1 0
+    one true = refl
+    one false = refl
 
 -- where each that passes passes one of two other tests, there are no more of them than of those two
 listed-or : (n : ℕ) (r p q : ℕ → Bool) → ((c : ℕ) → c < n → T (r c) → T (p c || q c)) → length (listed n r) ≤ length (listed n p) + length (listed n q)

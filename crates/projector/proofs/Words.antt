@@ -12,6 +12,7 @@ use Rattle.facts.specs.Bounded.{sum}
 use Rattle.facts.specs.Numbers.{listed}
 use Rattle.facts.specs.Writing.{Writes}
 use Rattle.facts.proofs.Turns.{listed-none, listed-yes, listed-no, listed-longer, listed-le, listed-short}
+use Rattle.facts.proofs.Counting.{listed-next}
 use Rattle.facts.proofs.Writing.{writes-more, writes-front, writes-length}
 use Rattle.grid.specs.declared.Plan.{Plan}
 use Rattle.grid.specs.declared.Place.{Place}
@@ -61,13 +62,9 @@ module _ (p : Plan) (functions : List ℕ) (heights : List ℤ) (c : Place) wher
 -- ---- the active cells below i
 
 pub listed-tally : (n : ℕ) (p : ℕ → Bool) → length (listed n p) ≡ tally n p
-unfolding listed tally sum
-listed-tally zero p = refl
-listed-tally (suc n) p = length-append (listed n p) (cond (p n) (n ∷ []) []) ∙ rw (listed-tally n p) (ap (λ (k : ℕ). tally n p + k) (one (p n)))
-  where
-    one : (b : Bool) → length (cond b (n ∷ []) []) ≡ cond b 1 0
-    one true = refl
-    one false = refl
+unfolding tally sum
+listed-tally zero p = unfold listed in refl
+listed-tally (suc n) p = listed-next n p ∙ ap (λ (k : ℕ). k + cond (p n) 1 0) (listed-tally n p)
 
 -- those from c on, where c is one of them
 more : (q : ℕ → Bool) (c n : ℕ) (b : Bool) → q n ≡ b → (rest : List ℕ) → listed n q ≡ listed c q ++ (c ∷ rest)
