@@ -2,10 +2,10 @@
 -- made, and that this is enough. Assumes nothing.
 use mathlib.Core.Path.{_≡_, refl, sym, ap, ap₂, _∙_, subst}
 use mathlib.Core.Bool.{Bool, true, false, not, _&&_, Bool·beq, or-false, and-true}
-use mathlib.Core.List.{List, []}
+use mathlib.Core.List.{List, [], _∷_}
 use Prim.Native.Nat.{ℕ, zero, suc, _≤_, _<_}
 use lib.Dec.{T, ltb, lt→ltb}
-use lib.ListN.{length, take}
+use lib.ListN.{length}
 use Rattle.facts.specs.Numbers.{elem, listed}
 use Rattle.facts.proofs.Tests.{and-l, and-r, T-true, T-false}
 use Rattle.facts.proofs.Bounded.{some-e}
@@ -18,11 +18,11 @@ use Rattle.grid.proofs.Laws.{lawful}
 use Rattle.mesh.specs.Mesh.{active, refined, reactivable, tableOf, labels, check}
 use Rattle.mesh.proofs.Bridge.{Good, check-good, good-check, good-inside}
 use Rattle.outcomes.specs.Calls.{Direction, refine, coarsen, By, cells, functions, underMarked, selected, changed, Outcome, refused, newCells, outcome}
-use Rattle.outcomes.specs.Runs.{Tables, LentLists, Call, Entry, result, after, entry, opposite, taking, taken}
+use Rattle.outcomes.specs.Runs.{Tables, LentLists, Call, Entry, leaving, keeping, result, after, entry, opposite, taking, taken}
 use Rattle.outcomes.proofs.Sets.{put, beq-sym}
 use Rattle.outcomes.proofs.Marks.{Fits, refusal-e, refusal-i, inside-ext, closure-same-below}
 use Rattle.outcomes.proofs.Results.{new-is, new-good, accepted, Made, refusal-of, accepted-as, made, outcome-accepted, written-take}
-use Rattle.outcomes.proofs.Runs.{Back}
+use Rattle.outcomes.proofs.Runs.{Back, Undoes, spoken}
 
 -- ---- changes
 
@@ -77,17 +77,17 @@ module _ (by : By) (d : Direction) (p : Plan) (cs cs′ : List ℕ) (G : Good p 
         (rw (old-again, changed-sym (functionTotal p) (labels p cs) (labels p cs′)) b)
         ∙ ap (λ u. accepted p cs′ (labels p cs′) rc rf u (labels p u)) old-again
 
--- ---- one call of a run: what it turned the cells into, and that this can be taken back
+-- ---- one call of a run, with the outcome o: what it turned the cells into, and that this can be taken back
 
-pub record Turn (by : By) (p : Plan) (t : Tables) (a : Call) : Type 0 where
+pub record Turn (by : By) (p : Plan) (t : Tables) (d : Direction) (o : Outcome) : Type 0 where
   pub new : List ℕ
   pub good : Good p (t .cells)
   pub good′ : Good p new
   pub labelled : t .functions ≡ labels p (t .cells)
-  pub left : after p t a ≡ record { cells = new; functions = labels p new }
-  pub named : entry p t a .cells ≡ changed (cellTotal p) (t .cells) new
-  pub named′ : entry p t a .functions ≡ changed (functionTotal p) (t .functions) (labels p new)
-  pub undoable : Undoable by (a .direction) p (t .cells) new good good′
+  pub left : leaving o ≡ record { cells = new; functions = labels p new }
+  pub named : keeping d o .cells ≡ changed (cellTotal p) (t .cells) new
+  pub named′ : keeping d o .functions ≡ changed (functionTotal p) (t .functions) (labels p new)
+  pub undoable : Undoable by d p (t .cells) new good good′
 
 -- a refused call turns nothing, and no marks at all mean nothing
 module _ (by : By) (d : Direction) (p : Plan) (cs : List ℕ) (G : Good p cs) where
@@ -119,22 +119,8 @@ module _ (by : By) (d : Direction) (p : Plan) (cs : List ℕ) (G : Good p cs) wh
 
 -- ---- from outcomes to what a run keeps
 
-module _ (p : Plan) (t : Tables) (a : Call) where
-  abbrev keeping : Outcome → Entry
-  keeping o = record { direction = a .direction; number = o .answer .number; cells = take (o .answer .cells) (o .cellList); functions = take (o .answer .functions) (o .functionList) }
-
-  abbrev leaving : Outcome → Tables
-  leaving o = record { cells = o .cells; functions = o .functions }
-
-  entry-of : (o : Outcome) → result p t a ≡ o → entry p t a ≡ keeping o
-  unfolding entry
-  entry-of o e = ap keeping e
-
-  after-of : (o : Outcome) → result p t a ≡ o → after p t a ≡ leaving o
-  unfolding after
-  after-of o e = ap leaving e
-
-  keeping-refused : (n : ℕ) (cs fs cl fl : List ℕ) → keeping (refused n cs fs cl fl) ≡ record { direction = a .direction; number = n; cells = []; functions = [] }
+module _ (p : Plan) (d : Direction) where
+  keeping-refused : (n : ℕ) (cs fs cl fl : List ℕ) → keeping d (refused n cs fs cl fl) ≡ record { direction = d; number = n; cells = []; functions = [] }
   unfolding refused
   keeping-refused n cs fs cl fl = refl
 
@@ -142,11 +128,11 @@ module _ (p : Plan) (t : Tables) (a : Call) where
   unfolding refused
   leaving-refused n cs fs cl fl = refl
 
-  keeping-accepted : (cs fs cl fl cs′ fs′ : List ℕ) → keeping (accepted p cs fs cl fl cs′ fs′)
-      ≡ record { direction = a .direction; number = 0; cells = changed (cellTotal p) cs cs′; functions = changed (functionTotal p) fs fs′ }
+  keeping-accepted : (cs fs cl fl cs′ fs′ : List ℕ) → keeping d (accepted p cs fs cl fl cs′ fs′)
+      ≡ record { direction = d; number = 0; cells = changed (cellTotal p) cs cs′; functions = changed (functionTotal p) fs fs′ }
   unfolding accepted
   keeping-accepted cs fs cl fl cs′ fs′ = λ i. record {
-    direction = a .direction;
+    direction = d;
     number = 0;
     cells = written-take (changed (cellTotal p) cs cs′) cl i;
     functions = written-take (changed (functionTotal p) fs fs′) fl i;
@@ -156,6 +142,23 @@ module _ (p : Plan) (t : Tables) (a : Call) where
   unfolding accepted
   leaving-accepted cs fs cl fl cs′ fs′ = refl
 
+  -- whatever refuses a call, and with whatever number
+  pub turn-refused : (by : By) (t : Tables) → check p (t .cells) (t .functions) ≡ 0 → (n : ℕ) (cl fl : List ℕ) {o : Outcome} → o ≡ refused n (t .cells) (t .functions) cl fl → Turn by p t d o
+  turn-refused by t k n cl fl {o} e =
+      let (G, l) = check-good p (t .cells) (t .functions) k in
+      let E = ap (keeping d) e ∙ keeping-refused n _ _ _ _ in
+      record {
+        new = t .cells;
+        good = G;
+        good′ = G;
+        labelled = l;
+        left = ap leaving e ∙ leaving-refused n _ _ _ _ ∙ ap (λ f. record { cells = t .cells; functions = f }) l;
+        named = ap (λ e. e .cells) E ∙ sym (changed-none (cellTotal p) (t .cells));
+        named′ = ap (λ e. e .functions) E ∙ sym (changed-none (functionTotal p) (t .functions)) ∙ ap (changed (functionTotal p) (t .functions)) l;
+        undoable = nothing by d p (t .cells) G;
+      }
+
+module _ (p : Plan) (t : Tables) (a : Call) where
   -- what the accepted call turns the cells into can be taken back
   abbrev pub Taking : By → Type 0
   Taking by = (G : Good p (t .cells)) (fit : (x : ℕ) → T (elem x (a .marks)) → Fits (a .direction) (a .by) p (t .cells) (t .functions) x)
@@ -163,41 +166,29 @@ module _ (p : Plan) (t : Tables) (a : Call) where
       → Undoable by (a .direction) p (t .cells) (newCells (a .direction) (a .by) p (t .cells) (t .functions) (a .marks)) G
       (new-good (a .direction) (a .by) p (t .cells) (t .functions) (a .marks) G fit)
 
-  turn-of : (by : By) → Taking by → check p (t .cells) (t .functions) ≡ 0 → (o : Outcome) → result p t a ≡ o
-      → Made (a .direction) (a .by) p (t .cells) (t .functions) (a .marks) (a .room .cells) (a .room .functions) o → Turn by p t a
-  turn-of by u k o r (refusal-of n e) =
-      let (G, l) = check-good p (t .cells) (t .functions) k in
-      let E = entry-of _ (r ∙ e) ∙ keeping-refused (suc n) _ _ _ _ in
-      record {
-        new = t .cells;
-        good = G;
-        good′ = G;
-        labelled = l;
-        left = after-of _ (r ∙ e) ∙ leaving-refused (suc n) _ _ _ _ ∙ ap (λ f. record { cells = t .cells; functions = f }) l;
-        named = ap (λ e. e .cells) E ∙ sym (changed-none (cellTotal p) (t .cells));
-        named′ = ap (λ e. e .functions) E ∙ sym (changed-none (functionTotal p) (t .functions)) ∙ ap (changed (functionTotal p) (t .functions)) l;
-        undoable = nothing by (a .direction) p (t .cells) G;
-      }
-  turn-of by u k o r (accepted-as cs′ fs′ ec ef z x y e) =
+  turn-of : (by : By) → Taking by → check p (t .cells) (t .functions) ≡ 0 → (o : Outcome)
+      → Made (a .direction) (a .by) p (t .cells) (t .functions) (a .marks) (a .room .cells) (a .room .functions) o → Turn by p t (a .direction) o
+  turn-of by u k o (refusal-of n e) = turn-refused p (a .direction) by t k (suc n) _ _ e
+  turn-of by u k o (accepted-as cs′ fs′ ec ef z x y e) =
       let (G, l) = check-good p (t .cells) (t .functions) k in
       let fit = refusal-e (a .direction) (a .by) p (t .cells) (t .functions) (a .marks) z .1 in
       let new : List ℕ = newCells (a .direction) (a .by) p (t .cells) (t .functions) (a .marks) in
-      let q = r ∙ e ∙ ap₂ (accepted p (t .cells) (t .functions) (a .room .cells) (a .room .functions)) ec (ef ∙ ap (labels p) ec) in
-      let E = entry-of _ q ∙ keeping-accepted _ _ _ _ new (labels p new) in
+      let q = e ∙ ap₂ (accepted p (t .cells) (t .functions) (a .room .cells) (a .room .functions)) ec (ef ∙ ap (labels p) ec) in
+      let E = ap (keeping (a .direction)) q ∙ keeping-accepted p (a .direction) _ _ _ _ new (labels p new) in
       record {
         new = new;
         good = G;
         good′ = new-good (a .direction) (a .by) p (t .cells) (t .functions) (a .marks) G fit;
         labelled = l;
-        left = after-of _ q ∙ leaving-accepted _ _ _ _ new (labels p new);
+        left = ap leaving q ∙ leaving-accepted p (a .direction) _ _ _ _ new (labels p new);
         named = ap (λ e. e .cells) E;
         named′ = ap (λ e. e .functions) E;
         undoable = u G fit l;
       }
 
-  pub turn : (by : By) → Taking by → check p (t .cells) (t .functions) ≡ 0 → Turn by p t a
+  pub turn : (by : By) → Taking by → check p (t .cells) (t .functions) ≡ 0 → Turn by p t (a .direction) (result p t a)
   unfolding result
-  turn by u k = turn-of by u k (result p t a) refl (made (a .direction) (a .by) p (t .cells) (t .functions) (a .marks) (a .room .cells) (a .room .functions))
+  turn by u k = turn-of by u k (result p t a) (made (a .direction) (a .by) p (t .cells) (t .functions) (a .marks) (a .room .cells) (a .room .functions))
 
   -- the tables afterwards: as they were, or the new ones
   pub data After : Type 0 where
@@ -208,10 +199,11 @@ module _ (p : Plan) (t : Tables) (a : Call) where
 
   after-made : (o : Outcome) → result p t a ≡ o
       → Made (a .direction) (a .by) p (t .cells) (t .functions) (a .marks) (a .room .cells) (a .room .functions) o → After
-  after-made o r (refusal-of n e) = as-before (after-of _ (r ∙ e) ∙ leaving-refused (suc n) _ _ _ _)
+  unfolding after
+  after-made o r (refusal-of n e) = as-before (ap leaving (r ∙ e) ∙ leaving-refused p (a .direction) (suc n) _ _ _ _)
   after-made o r (accepted-as cs′ fs′ ec ef z x y e) =
       as-made (refusal-e (a .direction) (a .by) p (t .cells) (t .functions) (a .marks) z .1)
-      (after-of _ (r ∙ e) ∙ leaving-accepted _ _ _ _ cs′ fs′ ∙ ap₂ (λ u v. record { cells = u; functions = v }) ec (ef ∙ ap (labels p) ec))
+      (ap leaving (r ∙ e) ∙ leaving-accepted p (a .direction) _ _ _ _ cs′ fs′ ∙ ap₂ (λ u v. record { cells = u; functions = v }) ec (ef ∙ ap (labels p) ec))
 
   pub after-is : After
   unfolding result
@@ -219,53 +211,65 @@ module _ (p : Plan) (t : Tables) (a : Call) where
 
 -- ---- back
 
-module _ (by : By) (p : Plan) (t : Tables) (a : Call) (K : Turn by p t a) where
+module _ (by : By) (p : Plan) (t : Tables) (d : Direction) (o : Outcome) (K : Turn by p t d o) where
   abbrev e : Entry
-  e = entry p t a
+  e = keeping d o
 
   abbrev t′ : Tables
   t′ = record { cells = K .new; functions = labels p (K .new) }
 
   abbrev list : By → List ℕ
-  list = kept by (a .direction) p (t .cells) (K .new) (K .good) (K .good′)
+  list = kept by d p (t .cells) (K .new) (K .good) (K .good′)
 
   named-functions : e .functions ≡ list functions
   named-functions = K .named′ ∙ ap (λ f. changed (functionTotal p) f (labels p (K .new))) (K .labelled)
 
-  taking-is : (b : By) (room : LentLists) → taking b e room ≡ record { direction = opposite (a .direction); by = b; marks = list b; room = room }
-  unfolding taking entry
-  taking-is cells room = ap (λ m. record { direction = opposite (a .direction); by = cells; marks = m; room = room }) (K .named)
-  taking-is functions room = ap (λ m. record { direction = opposite (a .direction); by = functions; marks = m; room = room }) named-functions
+  taking-is : (b : By) (room : LentLists) → taking b e room ≡ record { direction = opposite d; by = b; marks = list b; room = room }
+  unfolding taking
+  taking-is cells room = ap (λ m. record { direction = opposite d; by = cells; marks = m; room = room }) (K .named)
+  taking-is functions room = ap (λ m. record { direction = opposite d; by = functions; marks = m; room = room }) named-functions
 
   same-tables : record { cells = t .cells; functions = labels p (t .cells) } ≡ t
   same-tables = ap (λ f. record { cells = t .cells; functions = f }) (sym (K .labelled))
 
   module _ (room : LentLists) (x : length (e .cells) ≤ length (room .cells)) (y : length (e .functions) ≤ length (room .functions)) where
     abbrev b : Call
-    b = record { direction = opposite (a .direction); by = by; marks = list by; room = room }
+    b = record { direction = opposite d; by = by; marks = list by; room = room }
 
     back-result : result p t′ b ≡ accepted p (K .new) (labels p (K .new)) (room .cells) (room .functions) (t .cells) (labels p (t .cells))
     unfolding result
     back-result =
-        taken-back by (a .direction) p (t .cells) (K .new) (K .good) (K .good′) (K .undoable) (room .cells) (room .functions)
+        taken-back by d p (t .cells) (K .new) (K .good) (K .good′) (K .undoable) (room .cells) (room .functions)
         (subst (λ l. length l ≤ length (room .cells)) (K .named) x) (subst (λ l. length l ≤ length (room .functions)) named-functions y)
 
     back-named : entry p t′ b ≡ taken e
     unfolding taken entry
     back-named =
-        entry-of p t′ b _ back-result ∙ keeping-accepted p t′ b _ _ _ _ _ _
-        ∙ ap₂ (λ c f. record { direction = opposite (a .direction); number = 0; cells = c; functions = f })
+        ap (keeping (opposite d)) back-result ∙ keeping-accepted p (opposite d) _ _ _ _ _ _
+        ∙ ap₂ (λ c f. record { direction = opposite d; number = 0; cells = c; functions = f })
         (changed-sym (cellTotal p) (t .cells) (K .new) ∙ sym (K .named))
         (changed-sym (functionTotal p) (labels p (t .cells)) (labels p (K .new)) ∙ sym named-functions)
 
     back-left : after p t′ b ≡ t
-    back-left = after-of p t′ b _ back-result ∙ leaving-accepted p t′ b _ _ _ _ _ _ ∙ same-tables
+    unfolding after
+    back-left = ap leaving back-result ∙ leaving-accepted p (opposite d) _ _ _ _ _ _ ∙ same-tables
 
-  pub turn-back : Back by p t a
+  pub turn-back : Back by p t (leaving o) e
   turn-back = record {
     named = λ room x y. ap₂ (entry p) (K .left) (taking-is by room) ∙ back-named room x y;
     restored = λ room x y. ap₂ (after p) (K .left) (taking-is by room) ∙ back-left room x y;
   }
 
-  pub turn-checked : check p (after p t a .cells) (after p t a .functions) ≡ 0
-  turn-checked = ap (λ s. check p (s .cells) (s .functions)) (K .left) ∙ good-check p (K .new) (K .good′)
+  pub turn-checked : check p (o .cells) (o .functions) ≡ 0
+  turn-checked = ap (λ (s : Tables). check p (s .cells) (s .functions)) (K .left) ∙ good-check p (K .new) (K .good′)
+
+-- ---- of one of the four calls
+
+module _ (by : By) (p : Plan) (t : Tables) (a : Call) (K : Turn by p t (a .direction) (result p t a)) where
+  pub call-undoes : Undoes by p t (after p t a) (entry p t a ∷ [])
+  unfolding after entry
+  call-undoes = spoken (turn-back by p t (a .direction) (result p t a) K)
+
+  pub call-checked : check p (after p t a .cells) (after p t a .functions) ≡ 0
+  unfolding after
+  call-checked = turn-checked by p t (a .direction) (result p t a) K

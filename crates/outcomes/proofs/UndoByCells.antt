@@ -14,12 +14,12 @@ use Rattle.grid.proofs.Laws.{lawful}
 use Rattle.mesh.specs.Mesh.{refined, labels, check}
 use Rattle.mesh.proofs.Bridge.{Good, active-is, reactivable-is}
 use Rattle.outcomes.specs.Calls.{Direction, refine, coarsen, By, cells, eligible, isTooDeep, selected, changed, newCells}
-use Rattle.outcomes.specs.Runs.{Tables, LentLists, Call, log, backwards, opposite, LongEnough, Undone}
+use Rattle.outcomes.specs.Runs.{Tables, LentLists, Call, result, after, entry, log, backwards, opposite, LongEnough, Undone}
 use Rattle.outcomes.proofs.Sets.{put, difference, May, changed-may, put-back}
 use Rattle.outcomes.proofs.Marks.{Fits, closure-same-below}
 use Rattle.outcomes.proofs.Results.{may, new-good, new-refined, new-difference}
-use Rattle.outcomes.proofs.Runs.{Each, done, next, run-undone}
-use Rattle.outcomes.proofs.Undo.{elem-changed, Undoable, Turn, turn, turn-back, turn-checked}
+use Rattle.outcomes.proofs.Runs.{every-call, run-undone}
+use Rattle.outcomes.proofs.Undo.{elem-changed, Undoable, Turn, turn, call-undoes, call-checked}
 
 -- ---- marks by cells that may be selected fit
 
@@ -67,9 +67,10 @@ module _ (d : Direction) (by : By) (p : Plan) (cs fs marks : List ℕ) (G : Good
             ∙ put-back H L (refined cs) M (G .admissible) (G .mesh) d m c i;
       }
 
-every-call : (run : List Call) → Each (λ _. T true) run
-every-call [] = done
-every-call (a ∷ rest) = next tt (every-call rest)
+-- ---- one call
+
+pub by-cells : (p : Plan) (t : Tables) (a : Call) → check p (t .cells) (t .functions) ≡ 0 → Turn cells p t (a .direction) (result p t a)
+by-cells p t a = turn p t a cells (λ G fit _. cells-undoable (a .direction) (a .by) p (t .cells) (t .functions) (a .marks) G fit)
 
 -- For every mesh that check passes, in any class, and every run of calls on it, by cells or by functions, refused ones included,
 -- whatever their marks and lists: the copied cell lists, last first, each to the opposite call by cells, with lists long enough,
@@ -77,9 +78,6 @@ every-call (a ∷ rest) = next tt (every-call rest)
 pub undone-by-cells : (p : Plan) (t : Tables) (run : List Call) (rooms : List LentLists) → check p (t .cells) (t .functions) ≡ 0
     → LongEnough (backwards (log p t run)) rooms → Undone cells p t run rooms
 undone-by-cells p t run rooms k l =
-    run-undone cells p (λ t. check p (t .cells) (t .functions) ≡ 0) (λ _. T true)
-    (λ t a k _. turn-checked cells p t a (turning t a k)) (λ t a k _. turn-back cells p t a (turning t a k))
+    run-undone (λ t. t) (after p) (λ t a. entry p t a ∷ []) cells p (λ t. check p (t .cells) (t .functions) ≡ 0) (λ _. T true)
+    (λ t a k _. call-checked cells p t a (by-cells p t a k)) (λ t a k _. call-undoes cells p t a (by-cells p t a k))
     run t rooms k (every-call run) l
-  where
-    turning : (t : Tables) (a : Call) → check p (t .cells) (t .functions) ≡ 0 → Turn cells p t a
-    turning t a = turn p t a cells (λ G fit _. cells-undoable (a .direction) (a .by) p (t .cells) (t .functions) (a .marks) G fit)

@@ -2,7 +2,7 @@
 -- deactivated functions of their level, is undone by its own function lists. Assumes nothing.
 use mathlib.Core.Path.{_≡_, refl, sym, ap, _∙_, subst}
 use mathlib.Core.Bool.{Bool, true, false, not, _&&_, _||_, Bool·beq}
-use mathlib.Core.List.{List}
+use mathlib.Core.List.{List, [], _∷_}
 use Prim.Native.Nat.{ℕ, zero, suc, _<_, _≤_}
 use native.Mathlib.Omega.{arith}
 use lib.Dec.{T, eqb, eqb→eq}
@@ -21,12 +21,12 @@ use Rattle.grid.proofs.Laws.{lawful, near-places}
 use Rattle.mesh.specs.Mesh.{absent, active, refined, deactivated, reactivable, labelOf, labels, check}
 use Rattle.mesh.proofs.Bridge.{Good, check-good, getD-labels, reactivable-is, byte-at-most, deactivated-e, deactivated-i, deactivated-grow}
 use Rattle.outcomes.specs.Calls.{refine, coarsen, cells, functions, eligible, isTooDeep, underMarked, underKept, selected, changed, newCells}
-use Rattle.outcomes.specs.Runs.{Tables, LentLists, Call, after, log, backwards, LongEnough, Undone, covered, RefinesByFunctions, end, and}
+use Rattle.outcomes.specs.Runs.{Tables, LentLists, Call, result, after, entry, log, backwards, LongEnough, Undone, covered, RefinesByFunctions, end, and}
 use Rattle.outcomes.proofs.Sets.{put, differs, May, changed-may}
 use Rattle.outcomes.proofs.Marks.{Fits}
 use Rattle.outcomes.proofs.Results.{may, new-good, new-refined, refining-keeps}
 use Rattle.outcomes.proofs.Runs.{Each, done, next, run-undone}
-use Rattle.outcomes.proofs.Undo.{Undoable, Turn, turn, turn-back, turn-checked, After, as-before, as-made, after-is}
+use Rattle.outcomes.proofs.Undo.{Undoable, Turn, turn, call-undoes, call-checked, After, as-before, as-made, after-is}
 
 -- ---- class 0: every set is admissible
 
@@ -237,7 +237,7 @@ module _ (p : Plan) (zero-class : p .class ≡ 0) (cs marks : List ℕ) (G : Goo
 -- ---- the run
 
 -- each call refines by functions
-data Refines : Call → Type 0 where
+pub data Refines : Call → Type 0 where
   refines : {marks : List ℕ} {room : LentLists} → Refines (record { direction = refine; by = functions; marks = marks; room = room })
 
 each : {run : List Call} → RefinesByFunctions run → Each Refines run
@@ -246,9 +246,9 @@ each (and r) = next refines (each r)
 
 module _ (p : Plan) (zero-class : p .class ≡ 0) where
   -- what each call finds
-  record Found (t : Tables) : Type 0 where
-    passes : check p (t .cells) (t .functions) ≡ 0
-    covers : T (covered p (t .cells) (t .functions))
+  pub record Found (t : Tables) : Type 0 where
+    pub passes : check p (t .cells) (t .functions) ≡ 0
+    pub covers : T (covered p (t .cells) (t .functions))
 
   module _ (t : Tables) (marks : List ℕ) (covers : T (covered p (t .cells) (t .functions))) (G : Good p (t .cells)) (l : t .functions ≡ labels p (t .cells)) where
     undoable : (fit : (x : ℕ) → T (elem x marks) → Fits refine functions p (t .cells) (t .functions) x)
@@ -264,14 +264,14 @@ module _ (p : Plan) (zero-class : p .class ≡ 0) where
         → let new = newCells refine functions p (t .cells) f marks in T (covered p new (labels p new))) (sym l)
         (λ fit. covered-kept p zero-class (t .cells) marks G fit (subst (λ f. T (covered p (t .cells) f)) l covers))
 
-  turning : (t : Tables) (a : Call) → Found t → Refines a → Turn functions p t a
-  turning t a F (refines {marks = marks}) = turn p t a functions (λ G fit l. undoable t marks (F .covers) G l fit) (F .passes)
+  pub by-functions : (t : Tables) (a : Call) → Found t → Refines a → Turn functions p t (a .direction) (result p t a)
+  by-functions t a F (refines {marks = marks}) = turn p t a functions (λ G fit l. undoable t marks (F .covers) G l fit) (F .passes)
 
-  keeping : (t : Tables) (a : Call) → Found t → Refines a → Found (after p t a)
-  keeping t a F (refines {marks = marks} {room = room}) =
+  pub stays-found : (t : Tables) (a : Call) → Found t → Refines a → Found (after p t a)
+  stays-found t a F (refines {marks = marks} {room = room}) =
       let (G, l) = check-good p (t .cells) (t .functions) (F .passes) in
       record {
-        passes = turn-checked functions p t a (turning t a F refines);
+        passes = call-checked functions p t a (by-functions t a F refines);
         covers = go G l (after-is p t (record { direction = refine; by = functions; marks = marks; room = room }));
       }
     where
@@ -288,5 +288,5 @@ module _ (p : Plan) (zero-class : p .class ≡ 0) where
   pub undone-by-functions : (t : Tables) (run : List Call) (rooms : List LentLists) → check p (t .cells) (t .functions) ≡ 0
       → T (covered p (t .cells) (t .functions)) → RefinesByFunctions run → LongEnough (backwards (log p t run)) rooms → Undone functions p t run rooms
   undone-by-functions t run rooms k c r l =
-      run-undone functions p Found Refines keeping (λ t a F f. turn-back functions p t a (turning t a F f))
+      run-undone (λ t. t) (after p) (λ t a. entry p t a ∷ []) functions p Found Refines stays-found (λ t a F f. call-undoes functions p t a (by-functions t a F f))
       run t rooms (record { passes = k; covers = c }) (each r) l

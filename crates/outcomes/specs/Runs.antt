@@ -34,30 +34,48 @@ pub record Entry : Type 0 where
   pub cells : List ℕ
   pub functions : List ℕ
 
+-- the tables as a call with this outcome leaves them, "refused or not"
+abbrev pub leaving : Outcome → Tables
+leaving o = record { cells = o .cells; functions = o .functions }
+
+-- and what is kept of it
+abbrev pub keeping : Direction → Outcome → Entry
+keeping d o = record {
+  direction = d;
+  number = o .answer .number;
+  cells = take (o .answer .cells) (o .cellList);
+  functions = take (o .answer .functions) (o .functionList);
+}
+
+-- ---- runs of calls of any kind A, on anything S that has tables: `leave` is what a call leaves, `keep` what is kept of it, an entry, or
+-- none where it is no split and no join
+
+-- "each later one finds them as the call before left them"
+unfoldable pub finalOf : {S A : Type 0} → (S → A → S) → S → List A → S
+finalOf leave s [] = s
+finalOf leave s (a ∷ rest) = finalOf leave (leave s a) rest
+
+unfoldable pub logOf : {S A : Type 0} → (S → A → S) → (S → A → List Entry) → S → List A → List Entry
+logOf leave keep s [] = []
+logOf leave keep s (a ∷ rest) = keep s a ++ logOf leave keep (leave s a) rest
+
+-- ---- runs of the four calls
+
 module _ (p : Plan) where
   unfoldable pub result : Tables → Call → Outcome
   result t a = outcome (a .direction) (a .by) p (t .cells) (t .functions) (a .marks) (a .room .cells) (a .room .functions)
 
-  -- the tables as the call leaves them, "refused or not"
   unfoldable pub after : Tables → Call → Tables
-  after t a = record { cells = result t a .cells; functions = result t a .functions }
+  after t a = leaving (result t a)
 
   unfoldable pub entry : Tables → Call → Entry
-  entry t a = record {
-    direction = a .direction;
-    number = result t a .answer .number;
-    cells = take (result t a .answer .cells) (result t a .cellList);
-    functions = take (result t a .answer .functions) (result t a .functionList);
-  }
+  entry t a = keeping (a .direction) (result t a)
 
-  -- a run: "each later one finds them as the call before left them"
-  unfoldable pub final : Tables → List Call → Tables
-  final t [] = t
-  final t (a ∷ rest) = final (after t a) rest
+  abbrev pub final : Tables → List Call → Tables
+  final = finalOf after
 
-  unfoldable pub log : Tables → List Call → List Entry
-  log t [] = []
-  log t (a ∷ rest) = entry t a ∷ log (after t a) rest
+  abbrev pub log : Tables → List Call → List Entry
+  log = logOf after (λ t a. entry t a ∷ [])
 
 -- "from the last to the first"
 unfoldable pub backwards : List Entry → List Entry
@@ -98,9 +116,13 @@ allTaken (e ∷ es) = taken e ∷ allTaken es
 
 -- "Then every opposite call answers 0, its cell list and function list, cut to their lengths, equal the copies from the call it
 -- takes back, and at the end every byte of both tables is what it was before the run"
-pub record Undone (by : By) (p : Plan) (t : Tables) (run : List Call) (rooms : List LentLists) : Type 0 where
-  pub named : log p (final p t run) (undo by (backwards (log p t run)) rooms) ≡ allTaken (backwards (log p t run))
-  pub restored : final p (final p t run) (undo by (backwards (log p t run)) rooms) ≡ t
+-- said of what was kept on the way from the tables t to the tables t′
+pub record WalkedBack (by : By) (p : Plan) (t t′ : Tables) (entries : List Entry) (rooms : List LentLists) : Type 0 where
+  pub named : log p t′ (undo by (backwards entries) rooms) ≡ allTaken (backwards entries)
+  pub restored : final p t′ (undo by (backwards entries) rooms) ≡ t
+
+abbrev pub Undone : By → Plan → Tables → List Call → List LentLists → Type 0
+Undone by p t run rooms = WalkedBack by p t (final p t run) (log p t run) rooms
 
 -- "a first wall in which each split cell lies in the support of a deactivated function of its own level": the premise of the undo
 -- by functions

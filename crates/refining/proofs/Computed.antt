@@ -19,6 +19,7 @@ use Rattle.grid.specs.Plan.{between, numbersInRange, cornersInRange, inRange, t
 use Rattle.mesh.specs.Mesh.{absent, active, refined, reactivable, children, cellFits, isMesh, isAdmissible, tableOf, labelOf, labels, isLabelled, refusal3, refusal6, check}
 use Rattle.outcomes.specs.Calls.{coarsen, cells as byCells, functions as byFunctions, underKept, eligible, isTooDeep, markRefusal, underMarked, selected, base, smallest, changed, written, refused, settle, newCells, refusal, outcome}
 use Rattle.outcomes.specs.Runs.{Tables, LentLists, Entry, result}
+use Rattle.outcomes.specs.Runs as runs
 use Rattle.splines.specs.Values.{rise, fall, box, basis, scale, cellOf, value, valueIn, valueOn}
 use Rattle.heights.specs.declared.Height.the-variants.{At}
 use Rattle.heights.specs.Heights.{eighths, onMesh, valueAt, productOf, heightSum, inexact, low, lowOn, allLow, heightsRefusal, refusal as pointRefusal, answer}
@@ -181,5 +182,5 @@ pub seasons :
     ∷ ((15 ∷ []) ∷ [] ∷ [] ∷ [])
     ∷ ((0 ∷ []) ∷ (0 ∷ []) ∷ (0 ∷ 3 ∷ []) ∷ [])
     ∷ []
-unfolding some every elem listed tabulate stored first reach needs closure offset number levelOf placeOn place between numbersInRange cornersInRange inRange ratio grown tooLarge lastLevel above below parent child isSet isCorner cornersTo times knotFrom knot beyond functionCount covers apart together supportedAt supported ancestor nearAt near absent active refined children cellFits isMesh isAdmissible tableOf labelOf labels isLabelled refusal3 refusal6 check eligible isTooDeep markRefusal underMarked selected base smallest changed written refused settle newCells refusal outcome rise fall box basis scale cellOf inexact low lowOn allLow heightsRefusal coefficient quarters sixteenths heightsOf passOn carried onlyActive carry tablesRefusal refusedWith carryInto outcomeWithHeights reactivable underKept result directionOf resultOf afterIt entryOf finalOf logOf keptOf
+unfolding some every elem listed tabulate stored first reach needs closure offset number levelOf placeOn place between numbersInRange cornersInRange inRange ratio grown tooLarge lastLevel above below parent child isSet isCorner cornersTo times knotFrom knot beyond functionCount covers apart together supportedAt supported ancestor nearAt near absent active refined children cellFits isMesh isAdmissible tableOf labelOf labels isLabelled refusal3 refusal6 check eligible isTooDeep markRefusal underMarked selected base smallest changed written refused settle newCells refusal outcome rise fall box basis scale cellOf inexact low lowOn allLow heightsRefusal coefficient quarters sixteenths heightsOf passOn carried onlyActive carry tablesRefusal refusedWith carryInto outcomeWithHeights reactivable underKept result directionOf resultOf afterIt entryOf runs.finalOf runs.logOf keptOf
 seasons = refl

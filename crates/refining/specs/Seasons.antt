@@ -1,13 +1,12 @@
 -- A season: a run in which refinements may have heights. Req 08: "nor do the opposite calls of the walk back" carry heights, "which still
 -- concerns the two tables and the two lists only". Definitions only.
 use mathlib.Core.List.{List, [], _∷_}
-use mathlib.Core.Path.{_≡_}
 use Prim.Native.Nat.{ℕ}
 use lib.IntN.{ℤ}
-use lib.ListN.{take}
 use Rattle.grid.specs.declared.Plan.{Plan}
 use Rattle.outcomes.specs.Calls.{Direction, refine, By, functions, Outcome}
-use Rattle.outcomes.specs.Runs.{Tables, LentLists, Call, Entry, result, final, log, backwards, undo, allTaken}
+use Rattle.outcomes.specs.Runs.{Tables, LentLists, Call, Entry, leaving, keeping, result, WalkedBack}
+use Rattle.outcomes.specs.Runs as runs
 use Rattle.refining.specs.Refining.{outcomeWithHeights}
 
 pub data SeasonCall : Type 0 where
@@ -28,29 +27,21 @@ module _ (p : Plan) where
 
   -- the tables as the call leaves them, what is kept of it, a whole season and its log: as of a run
   unfoldable pub afterIt : Tables → SeasonCall → Tables
-  afterIt t a = record { cells = resultOf t a .cells; functions = resultOf t a .functions }
+  afterIt t a = leaving (resultOf t a)
 
   unfoldable pub entryOf : Tables → SeasonCall → Entry
-  entryOf t a = record {
-    direction = directionOf a;
-    number = resultOf t a .answer .number;
-    cells = take (resultOf t a .answer .cells) (resultOf t a .cellList);
-    functions = take (resultOf t a .answer .functions) (resultOf t a .functionList);
-  }
+  entryOf t a = keeping (directionOf a) (resultOf t a)
 
-  unfoldable pub finalOf : Tables → List SeasonCall → Tables
-  finalOf t [] = t
-  finalOf t (a ∷ rest) = finalOf (afterIt t a) rest
+  abbrev pub finalOf : Tables → List SeasonCall → Tables
+  finalOf = runs.finalOf afterIt
 
-  unfoldable pub logOf : Tables → List SeasonCall → List Entry
-  logOf t [] = []
-  logOf t (a ∷ rest) = entryOf t a ∷ logOf (afterIt t a) rest
+  abbrev pub logOf : Tables → List SeasonCall → List Entry
+  logOf = runs.logOf afterIt (λ t a. entryOf t a ∷ [])
 
 -- the undo of the season's log, by calls without heights, its marks cells or functions: every one is accepted and names the same cells and
 -- functions as the call that it takes back, and both tables end as they began
-pub record SeasonUndone (by : By) (p : Plan) (t : Tables) (season : List SeasonCall) (rooms : List LentLists) : Type 0 where
-  pub named : log p (finalOf p t season) (undo by (backwards (logOf p t season)) rooms) ≡ allTaken (backwards (logOf p t season))
-  pub restored : final p (finalOf p t season) (undo by (backwards (logOf p t season)) rooms) ≡ t
+abbrev pub SeasonUndone : By → Plan → Tables → List SeasonCall → List LentLists → Type 0
+SeasonUndone by p t season rooms = WalkedBack by p t (finalOf p t season) (logOf p t season) rooms
 
 -- "runs of splits by functions alone", each with heights or without
 pub data FunctionSeason : List SeasonCall → Type 0 where

@@ -2,6 +2,10 @@
 use calls::By;
 use calls::Call;
 use calls::Direction;
+use drafts::CloseAnswer;
+use drafts::Draft;
+use drafts::DraftAnswer;
+use drafts::ReadBesideAnswer;
 use files::ReadAnswer;
 use files::WriteAnswer;
 use grid::Place;
@@ -27,13 +31,17 @@ ghost use Rattle.refining.specs.Refining.{refineCellsWithHeights, refineFunctio
 ghost use Rattle.refining.specs.Steps.{MeetsWithHeights};
 ghost use Rattle.projector.specs.Projector.{project};
 ghost use Rattle.projector.specs.Steps.{leftByCorners};
+ghost use Rattle.outcomes.specs.Calls as calls;
+ghost use Rattle.outcomes.specs.Calls.{refine, coarsen};
+ghost use Rattle.drafts.specs.Drafts.{openDraft, dropDraft, addMarks, closeDraft, changeBeside, carryBeside, openedBeside, readBeside};
+ghost use Rattle.drafts.specs.Steps.{leftByAdd, leftByClose, MeetsBeside, MeetsWithHeightsBeside};
 
-// 0.9.0, as major * 1,000,000 + minor * 1,000 + patch.
+// 0.10.0, as major * 1,000,000 + minor * 1,000 + patch.
 #[no_mangle]
 pub extern "C" fn wallmirror_version() -> u32
-    ensures { λ r. ⌜ r ≡ 9000 ⌝ }
+    ensures { λ r. ⌜ r ≡ 10000 ⌝ }
 {
-    9000
+    10000
 }
 
 #[no_mangle]
@@ -298,4 +306,253 @@ pub extern "C" fn wallmirror_refine_functions_with_heights(
         cell_list,
         function_list,
     )
+}
+
+#[no_mangle]
+pub extern "C" fn wallmirror_draft_open(
+    plan: Plan,
+    cells: &[u8],
+    functions: &[u8],
+    draft: Draft,
+    list: &[u32],
+) -> DraftAnswer
+    ensures { λ r. ⌜ r ≡ openDraft plan (now (cells .entry)) (now (functions .entry)) draft (now (list .entry)) ⌝ }
+{
+    drafts::open(plan, cells, functions, draft, list)
+}
+
+#[no_mangle]
+pub extern "C" fn wallmirror_draft_add(
+    plan: Plan,
+    cells: &[u8],
+    functions: &[u8],
+    draft: Draft,
+    list: &mut [u32],
+    marks: &[u32],
+) -> DraftAnswer
+    ensures { λ r. ⌜ leftByAdd r list ≡ addMarks plan (now (cells .entry)) (now (functions .entry)) draft (now (list .entry)) (now (marks .entry)) ⌝ }
+{
+    drafts::add(plan, cells, functions, draft, list, marks)
+}
+
+#[no_mangle]
+pub extern "C" fn wallmirror_draft_close(
+    plan: Plan,
+    cells: &mut [u8],
+    functions: &mut [u8],
+    draft: Draft,
+    list: &[u32],
+    cell_list: &mut [u32],
+    function_list: &mut [u32],
+) -> CloseAnswer
+    ensures { λ r. ⌜ leftByClose r cells functions «cell_list» «function_list» ≡ closeDraft plan (now (cells .entry)) (now (functions .entry)) draft (now (list .entry)) (now («cell_list» .entry)) (now («function_list» .entry)) ⌝ }
+{
+    drafts::close(
+        plan,
+        cells,
+        functions,
+        draft,
+        list,
+        cell_list,
+        function_list,
+    )
+}
+
+#[no_mangle]
+pub extern "C" fn wallmirror_draft_drop(
+    plan: Plan,
+    cells: &[u8],
+    functions: &[u8],
+    draft: Draft,
+    list: &[u32],
+) -> DraftAnswer
+    ensures { λ r. ⌜ r ≡ dropDraft plan (now (cells .entry)) (now (functions .entry)) draft (now (list .entry)) ⌝ }
+{
+    drafts::discard(plan, cells, functions, draft, list)
+}
+
+#[no_mangle]
+pub extern "C" fn wallmirror_refine_cells_with_draft(
+    plan: Plan,
+    cells: &mut [u8],
+    functions: &mut [u8],
+    draft: Draft,
+    list: &[u32],
+    marks: &[u32],
+    cell_list: &mut [u32],
+    function_list: &mut [u32],
+) -> Answer
+    ensures { λ r. ⌜ MeetsBeside (changeBeside refine calls.cells plan) draft (now (list .entry)) r cells functions marks «cell_list» «function_list» ⌝ }
+{
+    drafts::change(
+        Call(Direction::Refine, By::Cells),
+        plan,
+        cells,
+        functions,
+        draft,
+        list,
+        marks,
+        cell_list,
+        function_list,
+    )
+}
+
+#[no_mangle]
+pub extern "C" fn wallmirror_refine_functions_with_draft(
+    plan: Plan,
+    cells: &mut [u8],
+    functions: &mut [u8],
+    draft: Draft,
+    list: &[u32],
+    marks: &[u32],
+    cell_list: &mut [u32],
+    function_list: &mut [u32],
+) -> Answer
+    ensures { λ r. ⌜ MeetsBeside (changeBeside refine calls.functions plan) draft (now (list .entry)) r cells functions marks «cell_list» «function_list» ⌝ }
+{
+    drafts::change(
+        Call(Direction::Refine, By::Functions),
+        plan,
+        cells,
+        functions,
+        draft,
+        list,
+        marks,
+        cell_list,
+        function_list,
+    )
+}
+
+#[no_mangle]
+pub extern "C" fn wallmirror_coarsen_cells_with_draft(
+    plan: Plan,
+    cells: &mut [u8],
+    functions: &mut [u8],
+    draft: Draft,
+    list: &[u32],
+    marks: &[u32],
+    cell_list: &mut [u32],
+    function_list: &mut [u32],
+) -> Answer
+    ensures { λ r. ⌜ MeetsBeside (changeBeside coarsen calls.cells plan) draft (now (list .entry)) r cells functions marks «cell_list» «function_list» ⌝ }
+{
+    drafts::change(
+        Call(Direction::Coarsen, By::Cells),
+        plan,
+        cells,
+        functions,
+        draft,
+        list,
+        marks,
+        cell_list,
+        function_list,
+    )
+}
+
+#[no_mangle]
+pub extern "C" fn wallmirror_coarsen_functions_with_draft(
+    plan: Plan,
+    cells: &mut [u8],
+    functions: &mut [u8],
+    draft: Draft,
+    list: &[u32],
+    marks: &[u32],
+    cell_list: &mut [u32],
+    function_list: &mut [u32],
+) -> Answer
+    ensures { λ r. ⌜ MeetsBeside (changeBeside coarsen calls.functions plan) draft (now (list .entry)) r cells functions marks «cell_list» «function_list» ⌝ }
+{
+    drafts::change(
+        Call(Direction::Coarsen, By::Functions),
+        plan,
+        cells,
+        functions,
+        draft,
+        list,
+        marks,
+        cell_list,
+        function_list,
+    )
+}
+
+#[no_mangle]
+pub extern "C" fn wallmirror_refine_cells_with_heights_and_draft(
+    plan: Plan,
+    cells: &mut [u8],
+    functions: &mut [u8],
+    heights: &mut [i32],
+    draft: Draft,
+    list: &[u32],
+    marks: &[u32],
+    cell_list: &mut [u32],
+    function_list: &mut [u32],
+) -> Answer
+    ensures { λ r. ⌜ MeetsWithHeightsBeside (carryBeside calls.cells plan) draft (now (list .entry)) r cells functions heights marks «cell_list» «function_list» ⌝ }
+{
+    drafts::refine_cells(
+        plan,
+        cells,
+        functions,
+        heights,
+        draft,
+        list,
+        marks,
+        cell_list,
+        function_list,
+    )
+}
+
+#[no_mangle]
+pub extern "C" fn wallmirror_refine_functions_with_heights_and_draft(
+    plan: Plan,
+    cells: &mut [u8],
+    functions: &mut [u8],
+    heights: &mut [i32],
+    draft: Draft,
+    list: &[u32],
+    marks: &[u32],
+    cell_list: &mut [u32],
+    function_list: &mut [u32],
+) -> Answer
+    ensures { λ r. ⌜ MeetsWithHeightsBeside (carryBeside calls.functions plan) draft (now (list .entry)) r cells functions heights marks «cell_list» «function_list» ⌝ }
+{
+    drafts::refine_functions(
+        plan,
+        cells,
+        functions,
+        heights,
+        draft,
+        list,
+        marks,
+        cell_list,
+        function_list,
+    )
+}
+
+#[no_mangle]
+pub extern "C" fn wallmirror_open_with_draft(
+    plan: Plan,
+    cells: &mut [u8],
+    functions: &mut [u8],
+    draft: Draft,
+) -> DraftAnswer
+    ensures number { λ r. ⌜ r .number ≡ openMesh plan (now (cells .entry)) (now (functions .entry)) .number ⌝ }
+    ensures cells { λ r. ⌜ now (cells .exit) ≡ openMesh plan (now (cells .entry)) (now (functions .entry)) .cells ⌝ }
+    ensures functions { λ r. ⌜ now (functions .exit) ≡ openMesh plan (now (cells .entry)) (now (functions .entry)) .functions ⌝ }
+    ensures draft { λ r. ⌜ r .draft ≡ openedBeside plan (now (cells .entry)) (now (functions .entry)) draft ⌝ }
+{
+    drafts::open_mesh(plan, cells, functions, draft)
+}
+
+#[no_mangle]
+pub extern "C" fn wallmirror_read_with_draft(
+    file: &[u8],
+    cells: &mut [u8],
+    functions: &mut [u8],
+    draft: Draft,
+) -> ReadBesideAnswer
+    ensures outcome { λ r. ⌜ leftByRead (r .answer) cells functions ≡ readMesh (now (file .entry)) (now (cells .entry)) (now (functions .entry)) ⌝ }
+    ensures draft { λ r. ⌜ r .draft ≡ readBeside (now (file .entry)) (now (cells .entry)) (now (functions .entry)) draft ⌝ }
+{
+    drafts::read_mesh(file, cells, functions, draft)
 }

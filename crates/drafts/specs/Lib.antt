@@ -1,0 +1,4 @@
+pub mod Drafts
+pub mod Afternoons
+pub mod Demands
+pub mod Steps
