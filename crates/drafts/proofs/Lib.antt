@@ -2,4 +2,7 @@ pub mod Computed
 pub mod Refusals
 pub mod Turns
 pub mod Whole
+pub mod Seasons
+pub mod Kept
+pub mod Filled
 pub mod Results

@@ -20,39 +20,39 @@ use Rattle.outcomes.proofs.Results.{outcome-check}
 use Rattle.refining.specs.Refining.{tablesRefusal, refusedWith, outcomeWithHeights}
 use Rattle.refining.proofs.Outcomes.{whole-tables}
 use Rattle.drafts.specs.declared.Draft.{Draft}
-use Rattle.drafts.specs.Drafts.{isOpen, marksOf, busyRefusal, idleRefusal, addRefusal, Added, addMarks, endedBy, closeDraft, changeBeside, carryBeside}
+use Rattle.drafts.specs.Drafts.{isOpen, marksOf, refusal18, refusal19, addRefusal, Added, addMarks, endedBy, closeDraft, outcomeWithDraft, outcomeWithHeightsAndDraft}
 
 -- ---- 18 and 19
 
 module _ (p : Plan) (cs fs : List ℕ) (d : Draft) (dl : List ℕ) where
-  pub busy-check : check p cs fs ≢ 0 → busyRefusal p cs fs d dl ≡ check p cs fs
-  unfolding busyRefusal
-  busy-check n = rw (ne-eqb (check p cs fs) 0 n)
+  pub check-18 : check p cs fs ≢ 0 → refusal18 p cs fs d dl ≡ check p cs fs
+  unfolding refusal18
+  check-18 n = rw (ne-eqb (check p cs fs) 0 n)
 
-  pub busy-open : check p cs fs ≡ 0 → isOpen d dl ≡ true → busyRefusal p cs fs d dl ≡ 18
-  unfolding busyRefusal
-  busy-open e o = rw (e, o)
+  pub open-18 : check p cs fs ≡ 0 → isOpen d dl ≡ true → refusal18 p cs fs d dl ≡ 18
+  unfolding refusal18
+  open-18 e o = rw (e, o)
 
-  pub busy-not : check p cs fs ≡ 0 → isOpen d dl ≡ false → busyRefusal p cs fs d dl ≡ 0
-  unfolding busyRefusal
-  busy-not e o = rw (e, o)
+  pub none-18 : check p cs fs ≡ 0 → isOpen d dl ≡ false → refusal18 p cs fs d dl ≡ 0
+  unfolding refusal18
+  none-18 e o = rw (e, o)
 
-  pub idle-check : check p cs fs ≢ 0 → idleRefusal p cs fs d dl ≡ check p cs fs
-  unfolding idleRefusal
-  idle-check n = rw (ne-eqb (check p cs fs) 0 n)
+  pub check-19 : check p cs fs ≢ 0 → refusal19 p cs fs d dl ≡ check p cs fs
+  unfolding refusal19
+  check-19 n = rw (ne-eqb (check p cs fs) 0 n)
 
-  pub idle-open : check p cs fs ≡ 0 → isOpen d dl ≡ true → idleRefusal p cs fs d dl ≡ 0
-  unfolding idleRefusal
-  idle-open e o = rw (e, o)
+  pub open-19 : check p cs fs ≡ 0 → isOpen d dl ≡ true → refusal19 p cs fs d dl ≡ 0
+  unfolding refusal19
+  open-19 e o = rw (e, o)
 
-  pub idle-not : check p cs fs ≡ 0 → isOpen d dl ≡ false → idleRefusal p cs fs d dl ≡ 19
-  unfolding idleRefusal
-  idle-not e o = rw (e, o)
+  pub none-19 : check p cs fs ≡ 0 → isOpen d dl ≡ false → refusal19 p cs fs d dl ≡ 19
+  unfolding refusal19
+  none-19 e o = rw (e, o)
 
   -- where neither 1 to 6 nor 19 refuse, the tables pass and the draft is open
-  pub idle-none : idleRefusal p cs fs d dl ≡ 0 → (check p cs fs ≡ 0) × (isOpen d dl ≡ true)
-  unfolding idleRefusal
-  idle-none e =
+  pub passes-19 : refusal19 p cs fs d dl ≡ 0 → (check p cs fs ≡ 0) × (isOpen d dl ≡ true)
+  unfolding refusal19
+  passes-19 e =
       let (k, o) = chain (check p cs fs) _ e in
       (k, opened (isOpen d dl) o)
     where
@@ -63,33 +63,33 @@ module _ (p : Plan) (cs fs : List ℕ) (d : Draft) (dl : List ℕ) where
 -- ---- the other calls
 
 module _ (way : Direction) (by : By) (p : Plan) (cs fs : List ℕ) (d : Draft) (dl marks cl fl : List ℕ) where
-  pub change-refused : busyRefusal p cs fs d dl ≢ 0 → changeBeside way by p cs fs d dl marks cl fl ≡ refused (busyRefusal p cs fs d dl) cs fs cl fl
-  unfolding changeBeside
-  change-refused n = rw (ne-eqb (busyRefusal p cs fs d dl) 0 n)
+  pub change-refused : refusal18 p cs fs d dl ≢ 0 → outcomeWithDraft way by p cs fs d dl marks cl fl ≡ refused (refusal18 p cs fs d dl) cs fs cl fl
+  unfolding outcomeWithDraft
+  change-refused n = rw (ne-eqb (refusal18 p cs fs d dl) 0 n)
 
-  pub change-taken : busyRefusal p cs fs d dl ≡ 0 → changeBeside way by p cs fs d dl marks cl fl ≡ outcome way by p cs fs marks cl fl
-  unfolding changeBeside
+  pub change-taken : refusal18 p cs fs d dl ≡ 0 → outcomeWithDraft way by p cs fs d dl marks cl fl ≡ outcome way by p cs fs marks cl fl
+  unfolding outcomeWithDraft
   change-taken e = rw e
 
-  pub change-not-open : isOpen d dl ≡ false → changeBeside way by p cs fs d dl marks cl fl ≡ outcome way by p cs fs marks cl fl
+  pub change-not-open : isOpen d dl ≡ false → outcomeWithDraft way by p cs fs d dl marks cl fl ≡ outcome way by p cs fs marks cl fl
   change-not-open o = cases (eqb (check p cs fs) 0)
-      (λ z. change-taken (busy-not p cs fs d dl (eqb→eq _ _ z) o))
+      (λ z. change-taken (none-18 p cs fs d dl (eqb→eq _ _ z) o))
       (λ z. let n = differ (check p cs fs) 0 z in
-      let e = busy-check p cs fs d dl n in
+      let e = check-18 p cs fs d dl n in
       change-refused (λ w. n (sym e ∙ w)) ∙ ap (λ m. refused m cs fs cl fl) e ∙ sym (outcome-check way by p cs fs marks cl fl n))
 
-  pub change-open : check p cs fs ≡ 0 → isOpen d dl ≡ true → changeBeside way by p cs fs d dl marks cl fl ≡ refused 18 cs fs cl fl
+  pub change-open : check p cs fs ≡ 0 → isOpen d dl ≡ true → outcomeWithDraft way by p cs fs d dl marks cl fl ≡ refused 18 cs fs cl fl
   change-open k o =
-      let e = busy-open p cs fs d dl k o in
+      let e = open-18 p cs fs d dl k o in
       change-refused (λ w. let z : 18 ≡ 0 = sym e ∙ w in absurd (omega arith)) ∙ ap (λ m. refused m cs fs cl fl) e
 
 module _ (by : By) (p : Plan) (cs fs : List ℕ) (hs : List ℤ) (d : Draft) (dl marks cl fl : List ℕ) where
-  pub carry-refused : busyRefusal p cs fs d dl ≢ 0 → carryBeside by p cs fs hs d dl marks cl fl ≡ refusedWith (busyRefusal p cs fs d dl) cs fs hs cl fl
-  unfolding carryBeside
-  carry-refused n = rw (ne-eqb (busyRefusal p cs fs d dl) 0 n)
+  pub carry-refused : refusal18 p cs fs d dl ≢ 0 → outcomeWithHeightsAndDraft by p cs fs hs d dl marks cl fl ≡ refusedWith (refusal18 p cs fs d dl) cs fs hs cl fl
+  unfolding outcomeWithHeightsAndDraft
+  carry-refused n = rw (ne-eqb (refusal18 p cs fs d dl) 0 n)
 
-  pub carry-taken : busyRefusal p cs fs d dl ≡ 0 → carryBeside by p cs fs hs d dl marks cl fl ≡ outcomeWithHeights by p cs fs hs marks cl fl
-  unfolding carryBeside
+  pub carry-taken : refusal18 p cs fs d dl ≡ 0 → outcomeWithHeightsAndDraft by p cs fs hs d dl marks cl fl ≡ outcomeWithHeights by p cs fs hs marks cl fl
+  unfolding outcomeWithHeightsAndDraft
   carry-taken e = rw e
 
   -- 1 to 6 come first with heights too
@@ -97,17 +97,17 @@ module _ (by : By) (p : Plan) (cs fs : List ℕ) (hs : List ℤ) (d : Draft) (dl
   unfolding tablesRefusal
   tables-first n = rw (ne-eqb (check p cs fs) 0 n)
 
-  pub carry-not-open : isOpen d dl ≡ false → carryBeside by p cs fs hs d dl marks cl fl ≡ outcomeWithHeights by p cs fs hs marks cl fl
+  pub carry-not-open : isOpen d dl ≡ false → outcomeWithHeightsAndDraft by p cs fs hs d dl marks cl fl ≡ outcomeWithHeights by p cs fs hs marks cl fl
   carry-not-open o = cases (eqb (check p cs fs) 0)
-      (λ z. carry-taken (busy-not p cs fs d dl (eqb→eq _ _ z) o))
+      (λ z. carry-taken (none-18 p cs fs d dl (eqb→eq _ _ z) o))
       (λ z. let n = differ (check p cs fs) 0 z in
-      let e = busy-check p cs fs d dl n in
+      let e = check-18 p cs fs d dl n in
       let t = tables-first n in
       carry-refused (λ w. n (sym e ∙ w)) ∙ ap (λ m. refusedWith m cs fs hs cl fl) (e ∙ sym t) ∙ sym (whole-tables by p cs fs hs marks cl fl (λ w. n (sym t ∙ w))))
 
-  pub carry-open : check p cs fs ≡ 0 → isOpen d dl ≡ true → carryBeside by p cs fs hs d dl marks cl fl ≡ refusedWith 18 cs fs hs cl fl
+  pub carry-open : check p cs fs ≡ 0 → isOpen d dl ≡ true → outcomeWithHeightsAndDraft by p cs fs hs d dl marks cl fl ≡ refusedWith 18 cs fs hs cl fl
   carry-open k o =
-      let e = busy-open p cs fs d dl k o in
+      let e = open-18 p cs fs d dl k o in
       carry-refused (λ w. let z : 18 ≡ 0 = sym e ∙ w in absurd (omega arith)) ∙ ap (λ m. refusedWith m cs fs hs cl fl) e
 
 -- ---- closing
@@ -116,11 +116,11 @@ module _ (p : Plan) (cs fs : List ℕ) (d : Draft) (dl cl fl : List ℕ) where
   abbrev one : Outcome
   one = outcome refine cells p cs fs (marksOf d dl) cl fl
 
-  pub close-refused : idleRefusal p cs fs d dl ≢ 0 → closeDraft p cs fs d dl cl fl ≡ record { outcome = refused (idleRefusal p cs fs d dl) cs fs cl fl; draft = d }
+  pub close-refused : refusal19 p cs fs d dl ≢ 0 → closeDraft p cs fs d dl cl fl ≡ record { outcome = refused (refusal19 p cs fs d dl) cs fs cl fl; draft = d }
   unfolding closeDraft
-  close-refused n = rw (ne-eqb (idleRefusal p cs fs d dl) 0 n)
+  close-refused n = rw (ne-eqb (refusal19 p cs fs d dl) 0 n)
 
-  pub close-taken : idleRefusal p cs fs d dl ≡ 0 → closeDraft p cs fs d dl cl fl ≡ record { outcome = one; draft = endedBy (one .answer .number) d }
+  pub close-taken : refusal19 p cs fs d dl ≡ 0 → closeDraft p cs fs d dl cl fl ≡ record { outcome = one; draft = endedBy (one .answer .number) d }
   unfolding closeDraft
   close-taken e = rw e
 
@@ -142,10 +142,10 @@ module _ (p : Plan) (cs fs : List ℕ) (d : Draft) (dl marks : List ℕ) where
   unfolding addMarks
   add-refused n = rw (ne-eqb (addRefusal p cs fs d dl marks) 0 n)
 
-  pub add-none : addRefusal p cs fs d dl marks ≡ 0 → (idleRefusal p cs fs d dl ≡ 0) × (first (markRefusal refine cells p cs fs) marks ≡ 0) × (d .marks + length marks ≤ length dl)
+  pub add-none : addRefusal p cs fs d dl marks ≡ 0 → (refusal19 p cs fs d dl ≡ 0) × (first (markRefusal refine cells p cs fs) marks ≡ 0) × (d .marks + length marks ≤ length dl)
   unfolding addRefusal
   add-none e =
-      let (a, r) = chain (idleRefusal p cs fs d dl) _ e in
+      let (a, r) = chain (refusal19 p cs fs d dl) _ e in
       let (b, s) = chain (first (markRefusal refine cells p cs fs) marks) _ r in
       let (n, _) = stop (ltb (length dl) (d .marks + length marks)) 9 0 s in
       (a, b, nltb→le (length dl) (d .marks + length marks) (not-i (ltb (length dl) (d .marks + length marks)) n))
@@ -154,7 +154,7 @@ module _ (p : Plan) (cs fs : List ℕ) (d : Draft) (dl marks : List ℕ) where
   add-case = cases (eqb (addRefusal p cs fs d dl marks) 0)
       (λ z. let e = eqb→eq (addRefusal p cs fs d dl marks) 0 z in
       let (a, _, l) = add-none e in
-      taken l (idle-none p cs fs d dl a .1) (add-taken e))
+      taken l (passes-19 p cs fs d dl a .1) (add-taken e))
       (λ z. let n : addRefusal p cs fs d dl marks ≢ 0 = differ _ _ z in
       let k : addRefusal p cs fs d dl marks ≡ suc (pred (addRefusal p cs fs d dl marks)) = omega arith in
       left-out (pred (addRefusal p cs fs d dl marks)) (add-refused n ∙ ap (λ m. record { answer = record { number = m; draft = d }; list = dl }) k))

@@ -20,12 +20,12 @@ use Rattle.outcomes.specs.Calls.{Direction, refine, By, cells, markRefusal, Out
 use Rattle.outcomes.specs.Contracts.{outcomeOf}
 use Rattle.refining.specs.Refining.{WithHeights, refusedWith, outcomeWithHeights}
 use Rattle.drafts.specs.declared.Draft.{Draft}
-use Rattle.drafts.specs.Drafts.{isOpen, noDraft, marksOf, busyRefusal, idleRefusal, openDraft, dropDraft, addRefusal, Added, addMarks, endedBy, closeDraft, changeBeside, carryBeside}
+use Rattle.drafts.specs.Drafts.{isOpen, noDraft, marksOf, refusal18, refusal19, openDraft, dropDraft, addRefusal, Added, addMarks, endedBy, closeDraft, outcomeWithDraft, outcomeWithHeightsAndDraft}
 use Rattle.drafts.proofs.Refusals.{change-refused, change-taken, carry-refused, carry-taken, close-refused, close-taken, add-taken, add-refused}
 
-pub busy-none : (p : Plan) (cs fs : List ℕ) (d : Draft) (dl : List ℕ) → busyRefusal p cs fs d dl ≡ 0 → check p cs fs ≡ 0
-unfolding busyRefusal
-busy-none p cs fs d dl e = chain (check p cs fs) _ e .0
+pub passes-18 : (p : Plan) (cs fs : List ℕ) (d : Draft) (dl : List ℕ) → refusal18 p cs fs d dl ≡ 0 → check p cs fs ≡ 0
+unfolding refusal18
+passes-18 p cs fs d dl e = chain (check p cs fs) _ e .0
 
 pub open-fits : (d : Draft) (dl : List ℕ) → isOpen d dl ≡ true → d .marks ≤ length dl
 unfolding isOpen
@@ -34,21 +34,17 @@ open-fits d dl o = leb→le (d .marks) (length dl) (and-r (not (eqb (d .«open»
 module _ (p : Plan) (cs fs : List ℕ) (d : Draft) (dl : List ℕ) where
   -- ---- opening and dropping
 
-  pub opens-not : {n : ℕ} → n ≡ busyRefusal p cs fs d dl → n ≢ 0 → record { number = n; draft = d } ≡ openDraft p cs fs d dl
+  pub opens-not : {n : ℕ} → n ≡ refusal18 p cs fs d dl → n ≢ 0 → record { number = n; draft = d } ≡ openDraft p cs fs d dl
   unfolding openDraft
-  opens-not e z = rw (ne-eqb (busyRefusal p cs fs d dl) 0 (λ w. z (e ∙ w)), e) refl
+  opens-not e z = rw (ne-eqb (refusal18 p cs fs d dl) 0 (λ w. z (e ∙ w)), e) refl
 
-  pub opens : {n : ℕ} → n ≡ busyRefusal p cs fs d dl → n ≡ 0 → record { number = 0; draft = record { «open» = 1; marks = 0 } } ≡ openDraft p cs fs d dl
+  pub opens : {n : ℕ} → n ≡ refusal18 p cs fs d dl → n ≡ 0 → record { number = 0; draft = record { «open» = 1; marks = 0 } } ≡ openDraft p cs fs d dl
   unfolding openDraft
   opens e z = rw (sym e ∙ z) refl
 
-  pub drops-not : {n : ℕ} → n ≡ idleRefusal p cs fs d dl → n ≢ 0 → record { number = n; draft = d } ≡ dropDraft p cs fs d dl
+  pub drops : {n : ℕ} → n ≡ refusal19 p cs fs d dl → {d′ : Draft} → d′ ≡ endedBy n d → record { number = n; draft = d′ } ≡ dropDraft p cs fs d dl
   unfolding dropDraft
-  drops-not e z = rw (ne-eqb (idleRefusal p cs fs d dl) 0 (λ w. z (e ∙ w)), e) refl
-
-  pub drops : {n : ℕ} → n ≡ idleRefusal p cs fs d dl → n ≡ 0 → record { number = 0; draft = noDraft } ≡ dropDraft p cs fs d dl
-  unfolding dropDraft
-  drops e z = rw (sym e ∙ z) refl
+  drops {n} e {d′} f = ap (λ x. record { number = n; draft = x }) f ∙ ap (λ m. record { number = m; draft = endedBy m d }) e
 
   -- ---- adding
 
@@ -59,11 +55,11 @@ module _ (p : Plan) (cs fs : List ℕ) (d : Draft) (dl : List ℕ) where
     refused-as : {n : ℕ} → n ≡ addRefusal p cs fs d dl marks → n ≢ 0 → leftAs n ≡ addMarks p cs fs d dl marks
     refused-as e z = ap leftAs e ∙ sym (add-refused p cs fs d dl marks (λ w. z (e ∙ w)))
 
-    pub adds-idle : {n : ℕ} → n ≡ idleRefusal p cs fs d dl → n ≢ 0 → leftAs n ≡ addMarks p cs fs d dl marks
+    pub adds-19 : {n : ℕ} → n ≡ refusal19 p cs fs d dl → n ≢ 0 → leftAs n ≡ addMarks p cs fs d dl marks
     unfolding addRefusal
-    adds-idle {n} e z = refused-as (rw (ne-eqb (idleRefusal p cs fs d dl) 0 (λ w. z (e ∙ w))) e) z
+    adds-19 {n} e z = refused-as (rw (ne-eqb (refusal19 p cs fs d dl) 0 (λ w. z (e ∙ w))) e) z
 
-    module _ {n : ℕ} (e : n ≡ idleRefusal p cs fs d dl) (z : n ≡ 0) where
+    module _ {n : ℕ} (e : n ≡ refusal19 p cs fs d dl) (z : n ≡ 0) where
       pub adds-judged : {m : ℕ} → m ≡ first (markRefusal refine cells p cs fs) marks → m ≢ 0 → leftAs m ≡ addMarks p cs fs d dl marks
       unfolding addRefusal
       adds-judged {m} q w = refused-as (rw (sym e ∙ z, ne-eqb (first (markRefusal refine cells p cs fs) marks) 0 (λ v. w (q ∙ v))) q) w
@@ -82,14 +78,14 @@ module _ (p : Plan) (cs fs : List ℕ) (d : Draft) (dl : List ℕ) where
 -- ---- closing
 
 module _ (p : Plan) (cs fs : List ℕ) (d : Draft) (dl cl fl : List ℕ) where
-  pub closes-not : {n : ℕ} {r : Answer} → r ≡ record { number = n; cells = 0; functions = 0 } → n ≡ idleRefusal p cs fs d dl → n ≢ 0
+  pub closes-not : {n : ℕ} {r : Answer} → r ≡ record { number = n; cells = 0; functions = 0 } → n ≡ refusal19 p cs fs d dl → n ≢ 0
       → record { outcome = outcomeOf r cs fs cl fl; draft = d } ≡ closeDraft p cs fs d dl cl fl
   unfolding refused
   closes-not e q z =
       ap (λ (a : Answer). record { outcome = outcomeOf a cs fs cl fl; draft = d }) e ∙ ap (λ m. record { outcome = refused m cs fs cl fl; draft = d }) q
       ∙ sym (close-refused p cs fs d dl cl fl (λ w. z (q ∙ w)))
 
-  pub closes : {n : ℕ} → n ≡ idleRefusal p cs fs d dl → n ≡ 0 → {o : Outcome} → o ≡ outcome refine cells p cs fs (marksOf d dl) cl fl → {d′ : Draft} → d′ ≡ endedBy (o .answer .number) d
+  pub closes : {n : ℕ} → n ≡ refusal19 p cs fs d dl → n ≡ 0 → {o : Outcome} → o ≡ outcome refine cells p cs fs (marksOf d dl) cl fl → {d′ : Draft} → d′ ≡ endedBy (o .answer .number) d
       → record { outcome = o; draft = d′ } ≡ closeDraft p cs fs d dl cl fl
   closes q z {o} e {d′} f =
       ap (λ x. record { outcome = o; draft = x }) f ∙ ap (λ (u : Outcome). record { outcome = u; draft = endedBy (u .answer .number) d }) e
@@ -98,20 +94,20 @@ module _ (p : Plan) (cs fs : List ℕ) (d : Draft) (dl cl fl : List ℕ) where
 -- ---- the other calls
 
 module _ (way : Direction) (by : By) (p : Plan) (cs fs : List ℕ) (d : Draft) (dl marks cl fl : List ℕ) where
-  pub changes-not : {n : ℕ} {r : Answer} → r ≡ record { number = n; cells = 0; functions = 0 } → n ≡ busyRefusal p cs fs d dl → n ≢ 0 → outcomeOf r cs fs cl fl ≡ changeBeside way by p cs fs d dl marks cl fl
+  pub changes-not : {n : ℕ} {r : Answer} → r ≡ record { number = n; cells = 0; functions = 0 } → n ≡ refusal18 p cs fs d dl → n ≢ 0 → outcomeOf r cs fs cl fl ≡ outcomeWithDraft way by p cs fs d dl marks cl fl
   unfolding refused
   changes-not e q z = ap (λ (a : Answer). outcomeOf a cs fs cl fl) e ∙ ap (λ m. refused m cs fs cl fl) q ∙ sym (change-refused way by p cs fs d dl marks cl fl (λ w. z (q ∙ w)))
 
-  pub changes : {n : ℕ} → n ≡ busyRefusal p cs fs d dl → n ≡ 0 → {o : Outcome} → o ≡ outcome way by p cs fs marks cl fl → o ≡ changeBeside way by p cs fs d dl marks cl fl
+  pub changes : {n : ℕ} → n ≡ refusal18 p cs fs d dl → n ≡ 0 → {o : Outcome} → o ≡ outcome way by p cs fs marks cl fl → o ≡ outcomeWithDraft way by p cs fs d dl marks cl fl
   changes q z e = e ∙ sym (change-taken way by p cs fs d dl marks cl fl (sym q ∙ z))
 
 module _ (by : By) (p : Plan) (cs fs : List ℕ) (hs : List ℤ) (d : Draft) (dl marks cl fl : List ℕ) where
-  pub carries-not : {n : ℕ} {r : Answer} → r ≡ record { number = n; cells = 0; functions = 0 } → n ≡ busyRefusal p cs fs d dl → n ≢ 0
-      → record { outcome = outcomeOf r cs fs cl fl; heights = hs } ≡ carryBeside by p cs fs hs d dl marks cl fl
+  pub carries-not : {n : ℕ} {r : Answer} → r ≡ record { number = n; cells = 0; functions = 0 } → n ≡ refusal18 p cs fs d dl → n ≢ 0
+      → record { outcome = outcomeOf r cs fs cl fl; heights = hs } ≡ outcomeWithHeightsAndDraft by p cs fs hs d dl marks cl fl
   unfolding refused refusedWith
   carries-not e q z =
       ap (λ (a : Answer). record { outcome = outcomeOf a cs fs cl fl; heights = hs }) e ∙ ap (λ m. refusedWith m cs fs hs cl fl) q
       ∙ sym (carry-refused by p cs fs hs d dl marks cl fl (λ w. z (q ∙ w)))
 
-  pub carries : {n : ℕ} → n ≡ busyRefusal p cs fs d dl → n ≡ 0 → {o : WithHeights} → o ≡ outcomeWithHeights by p cs fs hs marks cl fl → o ≡ carryBeside by p cs fs hs d dl marks cl fl
+  pub carries : {n : ℕ} → n ≡ refusal18 p cs fs d dl → n ≡ 0 → {o : WithHeights} → o ≡ outcomeWithHeights by p cs fs hs marks cl fl → o ≡ outcomeWithHeightsAndDraft by p cs fs hs d dl marks cl fl
   carries q z e = e ∙ sym (carry-taken by p cs fs hs d dl marks cl fl (sym q ∙ z))

@@ -1,4 +1,4 @@
--- Document 02, Req 10: a draft kept open. What each call on a draft, and each other call beside one, makes of its whole input. Names as in
+-- Document 02, Req 10: "A draft kept open". What each call on a draft, and each other call with one, makes of its whole input. Names as in
 -- outcomes/specs/Calls.antt; d is the draft, a value that goes in and comes back, and dl the lent list with its marks. Definitions only.
 use mathlib.Core.Bool.{Bool, not, _&&_, cond}
 use mathlib.Core.List.{List}
@@ -27,34 +27,47 @@ noDraft = record { «open» = 0; marks = 0 }
 abbrev pub marksOf : Draft → List ℕ → List ℕ
 marksOf d dl = take (d .marks) dl
 
+-- the draft after a call with this answer that ends it: none if accepted, and as it was if refused
+abbrev pub endedBy : ℕ → Draft → Draft
+endedBy n d = cond (eqb n 0) noDraft d
+
 -- ---- 18 and 19
+
+-- the first of 1 to 6; where they do not refuse, n
+abbrev pub after6 : Plan → List ℕ → List ℕ → ℕ → ℕ
+after6 p cs fs n = cond (eqb (check p cs fs) 0) n (check p cs fs)
 
 module _ (p : Plan) (cs fs : List ℕ) (d : Draft) (dl : List ℕ) where
   -- "18 for a split, a join or a second draft while one is open, directly after 6"
-  unfoldable pub busyRefusal : ℕ
-  busyRefusal = cond (eqb (check p cs fs) 0) (cond (isOpen d dl) 18 0) (check p cs fs)
+  unfoldable pub refusal18 : ℕ
+  refusal18 = after6 p cs fs (cond (isOpen d dl) 18 0)
 
   -- "19 for adding, closing or dropping with none open, after 6"
-  unfoldable pub idleRefusal : ℕ
-  idleRefusal = cond (eqb (check p cs fs) 0) (cond (isOpen d dl) 0 19) (check p cs fs)
+  unfoldable pub refusal19 : ℕ
+  refusal19 = after6 p cs fs (cond (isOpen d dl) 0 19)
 
-  -- ---- the calls on a draft: each answers a number and the draft; a refused one answers the draft as it was
+  -- ---- the calls on a draft. Each answers the draft too; refused, it is as it was
 
-  -- an open draft without marks
+  -- opening one: it has no marks
   unfoldable pub openDraft : DraftAnswer
-  openDraft = cond (eqb busyRefusal 0) (record { number = 0; draft = record { «open» = 1; marks = 0 } }) (record { number = busyRefusal; draft = d })
+  openDraft =
+      let n = refusal18 in
+      record { number = n; draft = cond (eqb n 0) (record { «open» = 1; marks = 0 }) d }
 
   -- "Dropping it changes no table"
   unfoldable pub dropDraft : DraftAnswer
-  dropDraft = cond (eqb idleRefusal 0) (record { number = 0; draft = noDraft }) (record { number = idleRefusal; draft = d })
+  dropDraft =
+      let n = refusal19 in
+      record { number = n; draft = endedBy n d }
 
-  -- "each mark judged against the wall when added"; "and 10, after 7 to 9, where an added mark overfills the list"
+  -- adding marks: "each mark judged against the wall when added", "and 10, after 7 to 9, where an added mark overfills the list"
   unfoldable pub addRefusal : List ℕ → ℕ
   addRefusal marks =
-      let n = first (markRefusal refine cells p cs fs) marks in
-      cond (eqb idleRefusal 0) (cond (eqb n 0) (cond (ltb (length dl) (d .marks + length marks)) 10 0) n) idleRefusal
+      let n = refusal19 in
+      let m = first (markRefusal refine cells p cs fs) marks in
+      cond (eqb n 0) (cond (eqb m 0) (cond (ltb (length dl) (d .marks + length marks)) 10 0) m) n
 
--- an answer and the list of marks
+-- an answer, and the list of marks
 pub record Added : Type 0 where
   pub answer : DraftAnswer
   pub list : List ℕ
@@ -72,35 +85,31 @@ pub record Closed : Type 0 where
   pub outcome : Outcome
   pub draft : Draft
 
--- the draft behind an accepted call that ends it, or a refused one
-abbrev pub endedBy : ℕ → Draft → Draft
-endedBy n d = cond (eqb n 0) noDraft d
-
 -- "Closing it has the effect, lists and refusals of a single split by cells with all its marks, no heights and no draft; a refused close leaves
 -- it open"
 unfoldable pub closeDraft : Plan → List ℕ → List ℕ → Draft → List ℕ → List ℕ → List ℕ → Closed
 closeDraft p cs fs d dl cl fl =
-    let n = idleRefusal p cs fs d dl in
+    let n = refusal19 p cs fs d dl in
     let o = outcome refine cells p cs fs (marksOf d dl) cl fl in
     cond (eqb n 0) (record { outcome = o; draft = endedBy (o .answer .number) d }) (record { outcome = refused n cs fs cl fl; draft = d })
 
--- ---- the other calls beside a draft
+-- ---- the other calls, with a draft
 
 -- splits and joins
-unfoldable pub changeBeside : Direction → By → Plan → List ℕ → List ℕ → Draft → List ℕ → List ℕ → List ℕ → List ℕ → Outcome
-changeBeside way by p cs fs d dl marks cl fl =
-    let n = busyRefusal p cs fs d dl in
+unfoldable pub outcomeWithDraft : Direction → By → Plan → List ℕ → List ℕ → Draft → List ℕ → List ℕ → List ℕ → List ℕ → Outcome
+outcomeWithDraft way by p cs fs d dl marks cl fl =
+    let n = refusal18 p cs fs d dl in
     cond (eqb n 0) (outcome way by p cs fs marks cl fl) (refused n cs fs cl fl)
 
--- splits with heights: "before heights are tried"
-unfoldable pub carryBeside : By → Plan → List ℕ → List ℕ → List ℤ → Draft → List ℕ → List ℕ → List ℕ → List ℕ → WithHeights
-carryBeside by p cs fs hs d dl marks cl fl =
-    let n = busyRefusal p cs fs d dl in
+-- splits with heights: 18 "before heights are tried"
+unfoldable pub outcomeWithHeightsAndDraft : By → Plan → List ℕ → List ℕ → List ℤ → Draft → List ℕ → List ℕ → List ℕ → List ℕ → WithHeights
+outcomeWithHeightsAndDraft by p cs fs hs d dl marks cl fl =
+    let n = refusal18 p cs fs d dl in
     cond (eqb n 0) (outcomeWithHeights by p cs fs hs marks cl fl) (refusedWith n cs fs hs cl fl)
 
 -- "The open call, or reading a wall from disk, when accepted, drops it": the draft that they answer
-unfoldable pub openedBeside : Plan → List ℕ → List ℕ → Draft → Draft
-openedBeside p cs fs d = endedBy (openMesh p cs fs .number) d
+unfoldable pub draftAfterOpen : Plan → List ℕ → List ℕ → Draft → Draft
+draftAfterOpen p cs fs d = endedBy (openMesh p cs fs .number) d
 
-unfoldable pub readBeside : List ℕ → List ℕ → List ℕ → Draft → Draft
-readBeside file cs fs d = endedBy (readMesh file cs fs .answer .number) d
+unfoldable pub draftAfterRead : List ℕ → List ℕ → List ℕ → Draft → Draft
+draftAfterRead file cs fs d = endedBy (readMesh file cs fs .answer .number) d

@@ -20,12 +20,12 @@ abbrev pub leftByClose : CloseAnswer → Lent → Lent → Lent → Lent → Clo
 leftByClose r cells functions cellList functionList = record { outcome = left (r .answer) cells functions cellList functionList; draft = r .draft }
 
 -- the outcome is what the call, a definition, makes of the tables, draft, its list, marks and lists that the function finds
-abbrev pub MeetsBeside : (List ℕ → List ℕ → Draft → List ℕ → List ℕ → List ℕ → List ℕ → Outcome) → Draft → List ℕ → Answer → Lent → Lent → Lent → Lent → Lent → Type 0
-MeetsBeside call d dl r cells functions marks cellList functionList =
+abbrev pub MeetsWithDraft : (List ℕ → List ℕ → Draft → List ℕ → List ℕ → List ℕ → List ℕ → Outcome) → Draft → List ℕ → Answer → Lent → Lent → Lent → Lent → Lent → Type 0
+MeetsWithDraft call d dl r cells functions marks cellList functionList =
     left r cells functions cellList functionList
     ≡ call (cells .entry .now) (functions .entry .now) d dl (marks .entry .now) (cellList .entry .now) (functionList .entry .now)
 
-abbrev pub MeetsWithHeightsBeside : (List ℕ → List ℕ → List ℤ → Draft → List ℕ → List ℕ → List ℕ → List ℕ → WithHeights) → Draft → List ℕ → Answer → Lent → Lent → LentHeights → Lent → Lent → Lent → Type 0
-MeetsWithHeightsBeside call d dl r cells functions heights marks cellList functionList =
+abbrev pub MeetsWithHeightsAndDraft : (List ℕ → List ℕ → List ℤ → Draft → List ℕ → List ℕ → List ℕ → List ℕ → WithHeights) → Draft → List ℕ → Answer → Lent → Lent → LentHeights → Lent → Lent → Lent → Type 0
+MeetsWithHeightsAndDraft call d dl r cells functions heights marks cellList functionList =
     leftWithHeights r cells functions heights cellList functionList
     ≡ call (cells .entry .now) (functions .entry .now) (heights .entry .now) d dl (marks .entry .now) (cellList .entry .now) (functionList .entry .now)

@@ -1,5 +1,5 @@
 // A draft kept open: cell marks collected over many calls and closed as one refinement by cells. Document 02, Req 10. A draft is a value
-// that goes in and comes back; its marks stand in a list that is lent beside it.
+// that goes in and comes back; its marks stand in a list that is lent with it.
 use calls::By;
 use calls::Call;
 use calls::Direction;
@@ -17,10 +17,10 @@ ghost use Rattle.outcomes.specs.Calls as calls;
 ghost use Rattle.calls.specs.Parts.{directionOf, byOf};
 ghost use Rattle.files.specs.File.{readMesh};
 ghost use Rattle.files.specs.Steps.{leftByRead};
-ghost use Rattle.drafts.specs.Drafts.{isOpen, busyRefusal, idleRefusal, openDraft, dropDraft, addMarks, closeDraft, endedBy, changeBeside, carryBeside, openedBeside, readBeside};
-ghost use Rattle.drafts.specs.Steps.{leftByAdd, leftByClose, MeetsBeside, MeetsWithHeightsBeside};
+ghost use Rattle.drafts.specs.Drafts.{isOpen, refusal18, refusal19, openDraft, dropDraft, addMarks, closeDraft, endedBy, outcomeWithDraft, outcomeWithHeightsAndDraft, draftAfterOpen, draftAfterRead};
+ghost use Rattle.drafts.specs.Steps.{leftByAdd, leftByClose, MeetsWithDraft, MeetsWithHeightsAndDraft};
 
-// Whether a draft is open (any number but 0), and how many marks it has in the list that is lent beside it.
+// Whether a draft is open (any number but 0), and how many marks it has in the list that is lent with it.
 #[repr(C)]
 pub struct Draft {
     pub open: u32,
@@ -41,9 +41,9 @@ pub struct CloseAnswer {
     pub draft: Draft,
 }
 
-// What reading beside a draft answers.
+// What reading with a draft answers: as reading does, and the draft.
 #[repr(C)]
-pub struct ReadBesideAnswer {
+pub struct ReadWithDraftAnswer {
     pub answer: ReadAnswer,
     pub draft: Draft,
 }
@@ -59,8 +59,8 @@ fn is_open(draft: Draft, list: &[u32]) -> bool
 }
 
 // Refusals 1 to 6, then 18 where a draft is open; or 0.
-fn busy(plan: Plan, cells: &[u8], functions: &[u8], draft: Draft, list: &[u32]) -> u32
-    ensures { λ r. ⌜ r ≡ busyRefusal plan (now (cells .entry)) (now (functions .entry)) draft (now (list .entry)) ⌝ }
+fn refusal18(plan: Plan, cells: &[u8], functions: &[u8], draft: Draft, list: &[u32]) -> u32
+    ensures { λ r. ⌜ r ≡ refusal18 plan (now (cells .entry)) (now (functions .entry)) draft (now (list .entry)) ⌝ }
 {
     let checked = tables::check(plan, cells, functions);
     if checked != 0 {
@@ -73,8 +73,8 @@ fn busy(plan: Plan, cells: &[u8], functions: &[u8], draft: Draft, list: &[u32]) 
 }
 
 // Refusals 1 to 6, then 19 where none is open; or 0.
-fn idle(plan: Plan, cells: &[u8], functions: &[u8], draft: Draft, list: &[u32]) -> u32
-    ensures { λ r. ⌜ r ≡ idleRefusal plan (now (cells .entry)) (now (functions .entry)) draft (now (list .entry)) ⌝ }
+fn refusal19(plan: Plan, cells: &[u8], functions: &[u8], draft: Draft, list: &[u32]) -> u32
+    ensures { λ r. ⌜ r ≡ refusal19 plan (now (cells .entry)) (now (functions .entry)) draft (now (list .entry)) ⌝ }
 {
     let checked = tables::check(plan, cells, functions);
     if checked != 0 {
@@ -100,7 +100,7 @@ fn ended(number: u32, draft: Draft) -> Draft
 pub fn open(plan: Plan, cells: &[u8], functions: &[u8], draft: Draft, list: &[u32]) -> DraftAnswer
     ensures { λ r. ⌜ r ≡ openDraft plan (now (cells .entry)) (now (functions .entry)) draft (now (list .entry)) ⌝ }
 {
-    let number = busy(plan, cells, functions, draft, list);
+    let number = refusal18(plan, cells, functions, draft, list);
     if number != 0 {
         return DraftAnswer { number, draft };
     }
@@ -111,22 +111,13 @@ pub fn open(plan: Plan, cells: &[u8], functions: &[u8], draft: Draft, list: &[u3
 }
 
 // Drops a draft; no table changes.
-pub fn discard(
-    plan: Plan,
-    cells: &[u8],
-    functions: &[u8],
-    draft: Draft,
-    list: &[u32],
-) -> DraftAnswer
+pub fn drop(plan: Plan, cells: &[u8], functions: &[u8], draft: Draft, list: &[u32]) -> DraftAnswer
     ensures { λ r. ⌜ r ≡ dropDraft plan (now (cells .entry)) (now (functions .entry)) draft (now (list .entry)) ⌝ }
 {
-    let number = idle(plan, cells, functions, draft, list);
-    if number != 0 {
-        return DraftAnswer { number, draft };
-    }
+    let number = refusal19(plan, cells, functions, draft, list);
     DraftAnswer {
-        number: 0,
-        draft: Draft { open: 0, marks: 0 },
+        number,
+        draft: ended(number, draft),
     }
 }
 
@@ -139,7 +130,7 @@ fn judge(plan: Plan, cells: &[u8], functions: &[u8], marks: &[u32]) -> u32
     marks::judge(cells, deep, marks)
 }
 
-// Marks written behind those of the draft.
+// Marks written to the list, from entry `at` on.
 fn append(list: &mut [u32], at: usize, marks: &[u32])
     requires { ⌜ at + length (now marks) ≤ length (now list) ⌝ }
     ensures { λ _. ⌜ now (list .exit) ≡ writtenAt (now (list .entry)) at (now (marks .entry)) ⌝ }
@@ -162,7 +153,7 @@ pub fn add(
 ) -> DraftAnswer
     ensures { λ r. ⌜ leftByAdd r list ≡ addMarks plan (now (cells .entry)) (now (functions .entry)) draft (now (list .entry)) (now (marks .entry)) ⌝ }
 {
-    let number = idle(plan, cells, functions, draft, list);
+    let number = refusal19(plan, cells, functions, draft, list);
     if number != 0 {
         return DraftAnswer { number, draft };
     }
@@ -199,7 +190,7 @@ pub fn close(
 ) -> CloseAnswer
     ensures { λ r. ⌜ leftByClose r cells functions «cell_list» «function_list» ≡ closeDraft plan (now (cells .entry)) (now (functions .entry)) draft (now (list .entry)) (now («cell_list» .entry)) (now («function_list» .entry)) ⌝ }
 {
-    let number = idle(plan, cells, functions, draft, list);
+    let number = refusal19(plan, cells, functions, draft, list);
     if number != 0 {
         return CloseAnswer {
             answer: changes::refuse(number),
@@ -224,7 +215,7 @@ pub fn close(
     }
 }
 
-// A split or a join beside a draft.
+// A split or a join with a draft: 18 where it is open.
 pub fn change(
     call: Call,
     plan: Plan,
@@ -236,9 +227,9 @@ pub fn change(
     cell_list: &mut [u32],
     function_list: &mut [u32],
 ) -> Answer
-    ensures { λ r. ⌜ MeetsBeside (changeBeside (directionOf (call .0)) (byOf (call .1)) plan) draft (now (list .entry)) r cells functions marks «cell_list» «function_list» ⌝ }
+    ensures { λ r. ⌜ MeetsWithDraft (outcomeWithDraft (directionOf (call .0)) (byOf (call .1)) plan) draft (now (list .entry)) r cells functions marks «cell_list» «function_list» ⌝ }
 {
-    let number = busy(plan, cells, functions, draft, list);
+    let number = refusal18(plan, cells, functions, draft, list);
     if number != 0 {
         return changes::refuse(number);
     }
@@ -254,7 +245,7 @@ pub fn change(
     )
 }
 
-// Refine by cells with heights beside a draft: 18 is decided before the heights are tried.
+// Refine by cells with heights and a draft: 18 is decided before the heights are tried.
 pub fn refine_cells(
     plan: Plan,
     cells: &mut [u8],
@@ -266,9 +257,9 @@ pub fn refine_cells(
     cell_list: &mut [u32],
     function_list: &mut [u32],
 ) -> Answer
-    ensures { λ r. ⌜ MeetsWithHeightsBeside (carryBeside calls.cells plan) draft (now (list .entry)) r cells functions heights marks «cell_list» «function_list» ⌝ }
+    ensures { λ r. ⌜ MeetsWithHeightsAndDraft (outcomeWithHeightsAndDraft calls.cells plan) draft (now (list .entry)) r cells functions heights marks «cell_list» «function_list» ⌝ }
 {
-    let number = busy(plan, cells, functions, draft, list);
+    let number = refusal18(plan, cells, functions, draft, list);
     if number != 0 {
         return changes::refuse(number);
     }
@@ -297,9 +288,9 @@ pub fn refine_functions(
     cell_list: &mut [u32],
     function_list: &mut [u32],
 ) -> Answer
-    ensures { λ r. ⌜ MeetsWithHeightsBeside (carryBeside calls.functions plan) draft (now (list .entry)) r cells functions heights marks «cell_list» «function_list» ⌝ }
+    ensures { λ r. ⌜ MeetsWithHeightsAndDraft (outcomeWithHeightsAndDraft calls.functions plan) draft (now (list .entry)) r cells functions heights marks «cell_list» «function_list» ⌝ }
 {
-    let number = busy(plan, cells, functions, draft, list);
+    let number = refusal18(plan, cells, functions, draft, list);
     if number != 0 {
         return changes::refuse(number);
     }
@@ -321,7 +312,7 @@ pub fn open_mesh(plan: Plan, cells: &mut [u8], functions: &mut [u8], draft: Draf
     ensures number { λ r. ⌜ r .number ≡ openMesh plan (now (cells .entry)) (now (functions .entry)) .number ⌝ }
     ensures cells { λ r. ⌜ now (cells .exit) ≡ openMesh plan (now (cells .entry)) (now (functions .entry)) .cells ⌝ }
     ensures functions { λ r. ⌜ now (functions .exit) ≡ openMesh plan (now (cells .entry)) (now (functions .entry)) .functions ⌝ }
-    ensures draft { λ r. ⌜ r .draft ≡ openedBeside plan (now (cells .entry)) (now (functions .entry)) draft ⌝ }
+    ensures draft { λ r. ⌜ r .draft ≡ draftAfterOpen plan (now (cells .entry)) (now (functions .entry)) draft ⌝ }
 {
     let number = tables::open(plan, cells, functions);
     DraftAnswer {
@@ -336,13 +327,13 @@ pub fn read_mesh(
     cells: &mut [u8],
     functions: &mut [u8],
     draft: Draft,
-) -> ReadBesideAnswer
+) -> ReadWithDraftAnswer
     ensures outcome { λ r. ⌜ leftByRead (r .answer) cells functions ≡ readMesh (now (file .entry)) (now (cells .entry)) (now (functions .entry)) ⌝ }
-    ensures draft { λ r. ⌜ r .draft ≡ readBeside (now (file .entry)) (now (cells .entry)) (now (functions .entry)) draft ⌝ }
+    ensures draft { λ r. ⌜ r .draft ≡ draftAfterRead (now (file .entry)) (now (cells .entry)) (now (functions .entry)) draft ⌝ }
 {
     let answer = files::read(file, cells, functions);
     let read = answer.number;
-    ReadBesideAnswer {
+    ReadWithDraftAnswer {
         answer,
         draft: ended(read, draft),
     }

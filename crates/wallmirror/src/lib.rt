@@ -5,7 +5,7 @@ use calls::Direction;
 use drafts::CloseAnswer;
 use drafts::Draft;
 use drafts::DraftAnswer;
-use drafts::ReadBesideAnswer;
+use drafts::ReadWithDraftAnswer;
 use files::ReadAnswer;
 use files::WriteAnswer;
 use grid::Place;
@@ -33,8 +33,8 @@ ghost use Rattle.projector.specs.Projector.{project};
 ghost use Rattle.projector.specs.Steps.{leftByCorners};
 ghost use Rattle.outcomes.specs.Calls as calls;
 ghost use Rattle.outcomes.specs.Calls.{refine, coarsen};
-ghost use Rattle.drafts.specs.Drafts.{openDraft, dropDraft, addMarks, closeDraft, changeBeside, carryBeside, openedBeside, readBeside};
-ghost use Rattle.drafts.specs.Steps.{leftByAdd, leftByClose, MeetsBeside, MeetsWithHeightsBeside};
+ghost use Rattle.drafts.specs.Drafts.{openDraft, dropDraft, addMarks, closeDraft, outcomeWithDraft, outcomeWithHeightsAndDraft, draftAfterOpen, draftAfterRead};
+ghost use Rattle.drafts.specs.Steps.{leftByAdd, leftByClose, MeetsWithDraft, MeetsWithHeightsAndDraft};
 
 // 0.10.0, as major * 1,000,000 + minor * 1,000 + patch.
 #[no_mangle]
@@ -368,7 +368,7 @@ pub extern "C" fn wallmirror_draft_drop(
 ) -> DraftAnswer
     ensures { λ r. ⌜ r ≡ dropDraft plan (now (cells .entry)) (now (functions .entry)) draft (now (list .entry)) ⌝ }
 {
-    drafts::discard(plan, cells, functions, draft, list)
+    drafts::drop(plan, cells, functions, draft, list)
 }
 
 #[no_mangle]
@@ -382,7 +382,7 @@ pub extern "C" fn wallmirror_refine_cells_with_draft(
     cell_list: &mut [u32],
     function_list: &mut [u32],
 ) -> Answer
-    ensures { λ r. ⌜ MeetsBeside (changeBeside refine calls.cells plan) draft (now (list .entry)) r cells functions marks «cell_list» «function_list» ⌝ }
+    ensures { λ r. ⌜ MeetsWithDraft (outcomeWithDraft refine calls.cells plan) draft (now (list .entry)) r cells functions marks «cell_list» «function_list» ⌝ }
 {
     drafts::change(
         Call(Direction::Refine, By::Cells),
@@ -408,7 +408,7 @@ pub extern "C" fn wallmirror_refine_functions_with_draft(
     cell_list: &mut [u32],
     function_list: &mut [u32],
 ) -> Answer
-    ensures { λ r. ⌜ MeetsBeside (changeBeside refine calls.functions plan) draft (now (list .entry)) r cells functions marks «cell_list» «function_list» ⌝ }
+    ensures { λ r. ⌜ MeetsWithDraft (outcomeWithDraft refine calls.functions plan) draft (now (list .entry)) r cells functions marks «cell_list» «function_list» ⌝ }
 {
     drafts::change(
         Call(Direction::Refine, By::Functions),
@@ -434,7 +434,7 @@ pub extern "C" fn wallmirror_coarsen_cells_with_draft(
     cell_list: &mut [u32],
     function_list: &mut [u32],
 ) -> Answer
-    ensures { λ r. ⌜ MeetsBeside (changeBeside coarsen calls.cells plan) draft (now (list .entry)) r cells functions marks «cell_list» «function_list» ⌝ }
+    ensures { λ r. ⌜ MeetsWithDraft (outcomeWithDraft coarsen calls.cells plan) draft (now (list .entry)) r cells functions marks «cell_list» «function_list» ⌝ }
 {
     drafts::change(
         Call(Direction::Coarsen, By::Cells),
@@ -460,7 +460,7 @@ pub extern "C" fn wallmirror_coarsen_functions_with_draft(
     cell_list: &mut [u32],
     function_list: &mut [u32],
 ) -> Answer
-    ensures { λ r. ⌜ MeetsBeside (changeBeside coarsen calls.functions plan) draft (now (list .entry)) r cells functions marks «cell_list» «function_list» ⌝ }
+    ensures { λ r. ⌜ MeetsWithDraft (outcomeWithDraft coarsen calls.functions plan) draft (now (list .entry)) r cells functions marks «cell_list» «function_list» ⌝ }
 {
     drafts::change(
         Call(Direction::Coarsen, By::Functions),
@@ -487,7 +487,7 @@ pub extern "C" fn wallmirror_refine_cells_with_heights_and_draft(
     cell_list: &mut [u32],
     function_list: &mut [u32],
 ) -> Answer
-    ensures { λ r. ⌜ MeetsWithHeightsBeside (carryBeside calls.cells plan) draft (now (list .entry)) r cells functions heights marks «cell_list» «function_list» ⌝ }
+    ensures { λ r. ⌜ MeetsWithHeightsAndDraft (outcomeWithHeightsAndDraft calls.cells plan) draft (now (list .entry)) r cells functions heights marks «cell_list» «function_list» ⌝ }
 {
     drafts::refine_cells(
         plan,
@@ -514,7 +514,7 @@ pub extern "C" fn wallmirror_refine_functions_with_heights_and_draft(
     cell_list: &mut [u32],
     function_list: &mut [u32],
 ) -> Answer
-    ensures { λ r. ⌜ MeetsWithHeightsBeside (carryBeside calls.functions plan) draft (now (list .entry)) r cells functions heights marks «cell_list» «function_list» ⌝ }
+    ensures { λ r. ⌜ MeetsWithHeightsAndDraft (outcomeWithHeightsAndDraft calls.functions plan) draft (now (list .entry)) r cells functions heights marks «cell_list» «function_list» ⌝ }
 {
     drafts::refine_functions(
         plan,
@@ -539,7 +539,7 @@ pub extern "C" fn wallmirror_open_with_draft(
     ensures number { λ r. ⌜ r .number ≡ openMesh plan (now (cells .entry)) (now (functions .entry)) .number ⌝ }
     ensures cells { λ r. ⌜ now (cells .exit) ≡ openMesh plan (now (cells .entry)) (now (functions .entry)) .cells ⌝ }
     ensures functions { λ r. ⌜ now (functions .exit) ≡ openMesh plan (now (cells .entry)) (now (functions .entry)) .functions ⌝ }
-    ensures draft { λ r. ⌜ r .draft ≡ openedBeside plan (now (cells .entry)) (now (functions .entry)) draft ⌝ }
+    ensures draft { λ r. ⌜ r .draft ≡ draftAfterOpen plan (now (cells .entry)) (now (functions .entry)) draft ⌝ }
 {
     drafts::open_mesh(plan, cells, functions, draft)
 }
@@ -550,9 +550,9 @@ pub extern "C" fn wallmirror_read_with_draft(
     cells: &mut [u8],
     functions: &mut [u8],
     draft: Draft,
-) -> ReadBesideAnswer
+) -> ReadWithDraftAnswer
     ensures outcome { λ r. ⌜ leftByRead (r .answer) cells functions ≡ readMesh (now (file .entry)) (now (cells .entry)) (now (functions .entry)) ⌝ }
-    ensures draft { λ r. ⌜ r .draft ≡ readBeside (now (file .entry)) (now (cells .entry)) (now (functions .entry)) draft ⌝ }
+    ensures draft { λ r. ⌜ r .draft ≡ draftAfterRead (now (file .entry)) (now (cells .entry)) (now (functions .entry)) draft ⌝ }
 {
     drafts::read_mesh(file, cells, functions, draft)
 }

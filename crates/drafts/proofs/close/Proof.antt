@@ -4,31 +4,19 @@ use mathlib.Core.Bool.{true}
 use lib.Seq.{length-take-le}
 use Rattle.mesh.specs.Mesh.{check}
 use Rattle.drafts.specs.Drafts.{isOpen}
-use Rattle.drafts.proofs.Refusals.{idle-none}
+use Rattle.drafts.proofs.Refusals.{passes-19}
 use Rattle.drafts.proofs.Whole.{open-fits, closes-not, closes}
 use borrow.Author.Needs.{needs}
 use Rattle.drafts.proofs.close.Statement.{statement}
 use Rattle.drafts.proofs.close.Tie as tie
 
-idle-requires : tie.Need-idle-requires
-idle-requires c κs = search needs
-
-refuse-requires : tie.Need-refuse-requires
-refuse-requires c κs = search needs
-
-same-length : tie.Need-same-length
-same-length c = search needs
-
-same-length-2 : tie.Need-same-length-2
-same-length-2 c = search needs
-
 returns : tie.Need-returns
 returns c =
-    let a = c .before .before .before .before .before .before .before .before .before .before .args in closes-not (a .plan) (a .cells .now) (a .functions .now) (a .draft) (a .list .now) (a .cell-list .now) (a .function-list .now) (c .refuse .ensures) (c .before .before .idle .ensures) (c .before .if1 .taken)
+    let a = c .before .before .before .before .before .before .before .before .before .before .args in closes-not (a .plan) (a .cells .now) (a .functions .now) (a .draft) (a .list .now) (a .cell-list .now) (a .function-list .now) (c .refuse .ensures) (c .before .before .refusal19 .ensures) (c .before .if1 .taken)
 
 -- past the first test the tables pass and the draft is open
 ready : (c : tie.Else1) → let a = c .before .before .before .before .before .before .before .before .before .args in (check (a .plan) (a .cells .now) (a .functions .now) ≡ 0) × (isOpen (a .draft) (a .list .now) ≡ true)
-ready c = let a = c .before .before .before .before .before .before .before .before .before .args in idle-none (a .plan) (a .cells .now) (a .functions .now) (a .draft) (a .list .now) (sym (c .before .idle .ensures) ∙ c .if1 .left)
+ready c = let a = c .before .before .before .before .before .before .before .before .before .args in passes-19 (a .plan) (a .cells .now) (a .functions .now) (a .draft) (a .list .now) (sym (c .before .refusal19 .ensures) ∙ c .if1 .left)
 
 slice-aggregate-change : tie.Need-slice-aggregate-change
 slice-aggregate-change c = sym (length-take-le (c .before .before .before .before .before .before .before .before .before .before .before .before .args .draft .marks) (c .before .before .before .before .before .before .before .before .before .before .before .before .args .list .now) (open-fits (c .before .before .before .before .before .before .before .before .before .before .before .before .args .draft) (c .before .before .before .before .before .before .before .before .before .before .before .before .args .list .now) (ready (c .before .before .before) .1)))
@@ -36,24 +24,13 @@ slice-aggregate-change c = sym (length-take-le (c .before .before .before .befor
 change-requires : tie.Need-change-requires
 change-requires c κs = sym (ready (c .before .before .before .before .before) .0)
 
-ended-requires : tie.Need-ended-requires
-ended-requires c κs = search needs
-
-same-length-3 : tie.Need-same-length-3
-same-length-3 c = search needs
-
-same-length-4 : tie.Need-same-length-4
-same-length-4 c = search needs
-
-same-length-5 : tie.Need-same-length-5
-same-length-5 c = search needs
-
-same-length-6 : tie.Need-same-length-6
-same-length-6 c = search needs
-
 returns-2 : tie.Need-returns-2
 returns-2 c =
-    let a = c .before .before .before .before .before .before .before .before .before .before .before .before .before .before .before .before .before .before .before .before .before .before .before .before .args in closes (a .plan) (a .cells .now) (a .functions .now) (a .draft) (a .list .now) (a .cell-list .now) (a .function-list .now) (c .before .before .before .before .before .before .before .before .before .before .before .before .before .before .before .before .idle .ensures) (c .before .before .before .before .before .before .before .before .before .before .before .before .before .before .before .if1 .left) (c .before .before .before .before .before .before .before .before .before .change .ensures) (c .ended .ensures)
+    let a = c .before .before .before .before .before .before .before .before .before .before .before .before .before .before .before .before .before .before .before .before .before .before .before .before .args in closes (a .plan) (a .cells .now) (a .functions .now) (a .draft) (a .list .now) (a .cell-list .now) (a .function-list .now) (c .before .before .before .before .before .before .before .before .before .before .before .before .before .before .before .before .refusal19 .ensures) (c .before .before .before .before .before .before .before .before .before .before .before .before .before .before .before .if1 .left) (c .before .before .before .before .before .before .before .before .before .change .ensures) (c .ended .ensures)
 
 pub close-spec : {M : Type 1} → statement M
-close-spec = tie.close (tie.spec idle-requires refuse-requires same-length same-length-2 returns slice-aggregate-change change-requires ended-requires same-length-3 same-length-4 same-length-5 same-length-6 returns-2)
+close-spec =
+    tie.close
+    (tie.spec
+    (λ c κs. search needs) (λ c κs. search needs) (λ c. search needs) (λ c. search needs) returns slice-aggregate-change change-requires
+    (λ c κs. search needs) (λ c. search needs) (λ c. search needs) (λ c. search needs) (λ c. search needs) returns-2)

@@ -10,4 +10,5 @@ returns-2 : tie.Need-returns-2
 returns-2 c = rw (ne-eqb _ _ (c .if1 .left))
 
 pub ended-spec : {M : Type 1} → statement M
-ended-spec = tie.close (tie.spec returns returns-2)
+ended-spec =
+    tie.close (tie.spec returns returns-2)

@@ -13,4 +13,5 @@ unfolding isOpen
 returns-2 c = rw (ne-eqb _ _ (c .before .if1 .left))
 
 pub is-open-spec : {M : Type 1} → statement M
-is-open-spec = tie.close (tie.spec returns returns-2)
+is-open-spec =
+    tie.close (tie.spec returns returns-2)

@@ -19,13 +19,11 @@ sub-cell-offset c = passed (c .before .before .before .before) .range .levels≥
 cell-offset-requires : tie.Need-cell-offset-requires
 cell-offset-requires c κs = (passed (c .before .before .before .before) .range, omega arith)
 
-judge-requires : tie.Need-judge-requires
-judge-requires c κs = search needs
-
 returns : tie.Need-returns
 returns c =
     let s = c .before .before .before .before .before .before in
     c .judge .ensures ∙ ap (λ (n : ℕ). first (verdict (s .args .cells .now) n) (s .args .marks .now)) (c .before .cell-offset .ensures) ∙ judged-is (refine-eligible-cells (s .args .plan) (passed s .range) (s .args .cells .now) (s .args .functions .now) (passed s .cells)) (s .args .marks .now)
 
 pub judge-spec : {M : Type 1} → statement M
-judge-spec = tie.close (tie.spec sub-cell-offset cell-offset-requires judge-requires returns)
+judge-spec =
+    tie.close (tie.spec sub-cell-offset cell-offset-requires (λ c κs. search needs) returns)

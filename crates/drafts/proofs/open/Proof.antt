@@ -4,16 +4,14 @@ use borrow.Author.Needs.{needs}
 use Rattle.drafts.proofs.open.Statement.{statement}
 use Rattle.drafts.proofs.open.Tie as tie
 
-busy-requires : tie.Need-busy-requires
-busy-requires c κs = search needs
-
 returns : tie.Need-returns
 returns c =
-    let a = c .before .before .before .before .before .args in opens-not (a .plan) (a .cells .now) (a .functions .now) (a .draft) (a .list .now) (c .before .busy .ensures) (c .if1 .taken)
+    let a = c .before .before .before .before .before .args in opens-not (a .plan) (a .cells .now) (a .functions .now) (a .draft) (a .list .now) (c .before .refusal18 .ensures) (c .if1 .taken)
 
 returns-2 : tie.Need-returns-2
 returns-2 c =
-    let a = c .before .before .before .before .before .args in opens (a .plan) (a .cells .now) (a .functions .now) (a .draft) (a .list .now) (c .before .busy .ensures) (c .if1 .left)
+    let a = c .before .before .before .before .before .args in opens (a .plan) (a .cells .now) (a .functions .now) (a .draft) (a .list .now) (c .before .refusal18 .ensures) (c .if1 .left)
 
 pub open-spec : {M : Type 1} → statement M
-open-spec = tie.close (tie.spec busy-requires returns returns-2)
+open-spec =
+    tie.close (tie.spec (λ c κs. search needs) returns returns-2)
