@@ -1,120 +1,162 @@
--- Drafts computed from their definitions, on document 01's W2 and on small walls. Assumes nothing.
+-- Document 02, Req 10, worked by hand: runs of calls with a draft, and open and read with one, as rows of one table under one theorem that
+-- the checker computes. What is expected is written out. Assumes nothing.
+use mathlib.Core.Bool.{Bool, true, false, _&&_}
 use mathlib.Core.List.{List, [], _∷_}
 use mathlib.Core.Path.{_≡_, refl}
 use Prim.Native.Nat.{ℕ}
+use lib.Dec.{T, eqb}
+use lib.IntN.{ℤ, pos}
+use lib.ListN.{replicate}
 use Rattle.facts.specs.Bounded.{some, every}
-use Rattle.facts.specs.Numbers.{elem, listed, tabulate, stored, first}
+use Rattle.facts.specs.Numbers.{elem, all, listed, tabulate, stored, first}
 use Rattle.facts.specs.Writing.{writtenAt}
 use Rattle.hierarchy.specs.Hierarchy.{reach, needs, closure}
 use Rattle.grid.specs.declared.Plan.{Plan}
 use Rattle.grid.specs.Numbering.{offset, number, levelOf, placeOn, place}
 use Rattle.grid.specs.Knots.{isSet, isCorner, cornersTo, times, knotFrom, knot, beyond, functions as functionCount, covers, apart, together}
-use Rattle.grid.specs.Plan.{between, numbersInRange, cornersInRange, inRange, tooLarge, ratio, grown, above, below, parent, child, lastLevel, supportedAt, supported, ancestor, nearAt, near, planOf}
-use Rattle.mesh.specs.Mesh.{absent, active, refined, children, cellFits, isMesh, isAdmissible, tableOf, labelOf, labels, isLabelled, refusal3, refusal6, check, openMesh}
-use Rattle.outcomes.specs.Calls.{refine, eligible, isTooDeep, markRefusal, underMarked, selected, base, smallest, changed, written, refused, settle, newCells, refusal, outcome}
-use Rattle.outcomes.specs.Calls as calls
-use Rattle.outcomes.specs.Runs.{LentLists, Entry, finalOf, logOf}
-use Rattle.refining.specs.Refining.{refusedWith}
-use Rattle.refining.specs.Seasons.{plain, directionOf}
-use Rattle.drafts.specs.Drafts.{isOpen, noDraft, refusal18, refusal19, openDraft, dropDraft, addRefusal, addMarks, closeDraft, outcomeWithDraft, outcomeWithHeightsAndDraft, draftAfterOpen}
-use Rattle.drafts.specs.Seasons as desks
-use Rattle.drafts.specs.Seasons.{State, DraftCall, changing, opening, adding, closing, dropping, closed, added, leave, keep, finalState, stateLog}
+use Rattle.grid.specs.Plan.{between, numbersInRange, cornersInRange, inRange, tooLarge, ratio, grown, above, below, parent, child, lastLevel, supportedAt, supported, ancestor, nearAt, near, cellTotal, functionTotal}
+use Rattle.mesh.specs.Mesh.{absent, active, refined, reactivable, children, cellFits, isMesh, isAdmissible, tableOf, labelOf, labels, isLabelled, refusal3, refusal6, check, freshCells, freshFunctions, openMesh}
+use Rattle.outcomes.specs.Calls.{Direction, refine, coarsen, By, cells, functions, eligible, isTooDeep, markRefusal, underMarked, underKept, selected, base, smallest, changed, written, refused, settle, newCells, refusal, outcome}
+use Rattle.outcomes.specs.Runs.{Tables, LentLists, Entry, finalOf, logOf}
+use Rattle.outcomes.proofs.Examples.{same, plan, W2, tables, fresh, refining}
+use Rattle.heights.specs.Heights.{inexact, low, lowOn, allLow, heightsRefusal}
+use Rattle.refining.specs.Refining.{tablesRefusal, refusedWith, outcomeWithHeights}
+use Rattle.refining.specs.Seasons.{plain, carrying, directionOf}
+use Rattle.codec.specs.Numbers as codec
+use Rattle.codec.specs.Numbers.{decodeGroups, decodeNumber, front, onward, decodeNumbers, decodeBehind, decodeRising}
+use Rattle.files.specs.File.{noCorners, notZeros, decodeCorners, withCorners, withCells, withHead, decodeFile, rebuilt, refusal13, readRefusal, answeredPlan, readFile, readMesh}
+use Rattle.drafts.specs.declared.Draft.{Draft}
+use Rattle.drafts.specs.Drafts.{isOpen, noDraft, refusal18, refusal19, openDraft, dropDraft, addRefusal, addMarks, closeDraft, outcomeWithDraft, outcomeWithHeightsAndDraft, draftAfterOpen, draftAfterRead}
+use Rattle.drafts.specs.Seasons as seasons
+use Rattle.drafts.specs.Seasons.{State, DraftCall, changing, opening, adding, closing, dropping, writing, closed, added, leave, keep, finalState, stateLog}
 
-abbrev W2 : Plan
-W2 = planOf (3 ∷ 1 ∷ 3 ∷ 1 ∷ 1 ∷ 2 ∷ [])
+-- ---- rows
 
--- two cells of two levels, ungraded
+pub data Row : Type 0 where
+  -- on these tables, with no draft and a list of so many entries 77, these calls answer these numbers, and leave these cells refined, this
+  -- draft, and this list
+  called : Plan → Tables → ℕ → List DraftCall → List ℕ → List ℕ → Draft → List ℕ → Row
+  -- and this is kept of them: of each entry its number, its cells and its functions
+  kept : Plan → Tables → ℕ → List DraftCall → List (List ℕ) → Row
+  -- open on these tables, and reading these bytes into them, answers the second draft with the first
+  opened : Plan → Tables → Draft → Draft → Row
+  readInto : List ℕ → Tables → Draft → Draft → Row
+
+-- ---- what a row says
+
+abbrev start : Tables → ℕ → State
+start t n = record { tables = t; draft = noDraft; list = replicate n 77 }
+
+-- the number that a call answers
+abbrev pub answered : Plan → State → DraftCall → ℕ
+answered p s (changing a) = seasons.changed p s a .answer .number
+answered p s opening = openDraft p (s .tables .cells) (s .tables .functions) (s .draft) (s .list) .number
+answered p s (adding marks) = added p s marks .answer .number
+answered p s (closing room) = closed p s room .outcome .answer .number
+answered p s dropping = dropDraft p (s .tables .cells) (s .tables .functions) (s .draft) (s .list) .number
+answered p s (writing d dl) = 0
+
+abbrev pub numbers : Plan → State → List DraftCall → List ℕ
+numbers p s [] = []
+numbers p s (a ∷ rest) = answered p s a ∷ numbers p (leave p s a) rest
+
+abbrev pub listsOf : List Entry → List (List ℕ)
+listsOf [] = []
+listsOf (e ∷ es) = (e .number ∷ []) ∷ e .cells ∷ e .functions ∷ listsOf es
+
+abbrev pub sameLists : List (List ℕ) → List (List ℕ) → Bool
+sameLists [] [] = true
+sameLists [] (y ∷ ys) = false
+sameLists (x ∷ xs) [] = false
+sameLists (x ∷ xs) (y ∷ ys) = same x y && sameLists xs ys
+
+abbrev pub sameDraft : Draft → Draft → Bool
+sameDraft d e = eqb (d .«open») (e .«open») && eqb (d .marks) (e .marks)
+
+abbrev pub holds : Row → Bool
+holds (called p t n calls numbered xs d list) =
+    let s = finalState p (start t n) calls in
+    same (numbers p (start t n) calls) numbered && (same (listed (cellTotal p) (refined (s .tables .cells))) xs && (sameDraft (s .draft) d && same (s .list) list))
+holds (kept p t n calls lists) = sameLists (listsOf (stateLog p (start t n) calls)) lists
+holds (opened p t d e) = sameDraft (draftAfterOpen p (t .cells) (t .functions) d) e
+holds (readInto file t d e) = sameDraft (draftAfterRead file (t .cells) (t .functions) d) e
+
+-- what stands in a `let` is computed only where it is asked for
+abbrev pub allHold : List Row → Bool
+allHold [] = true
+allHold (r ∷ rs) = let rest = allHold rs in holds r && rest
+
+-- ---- the table
+
+abbrev draft : ℕ → ℕ → Draft
+draft n marks = record { «open» = n; marks = marks }
+
+-- lists of so many entries, lent to a call
+abbrev room : ℕ → ℕ → LentLists
+room n m = record { cells = replicate n 77; functions = replicate m 77 }
+
+-- a split or a join without heights, and a split with so many heights, all of this many units
+abbrev change : Direction → By → List ℕ → DraftCall
+change way by marks = changing (plain (record { direction = way; by = by; marks = marks; room = room 3 6 }))
+
+abbrev carry : ℕ → ℕ → List ℕ → DraftCall
+carry n h marks = changing (carrying cells (replicate n (pos h)) marks (room 3 6))
+
+-- two cells of two levels, class 0: 10 cells and 21 functions
 abbrev S : Plan
-S = planOf (2 ∷ 1 ∷ 2 ∷ 1 ∷ 1 ∷ 0 ∷ [])
-
--- the wall with these cells refined, no draft, and a list of so many entries 77
-abbrev desk : Plan → List ℕ → ℕ → State
-desk p old n =
-    let cs = tableOf p (λ c. elem c old) in
-    record { tables = record { cells = cs; functions = labels p cs }; draft = noDraft; list = tabulate n (λ i. 77) }
-
--- lists of three and four entries
-abbrev room : LentLists
-room = record { cells = 77 ∷ 77 ∷ 77 ∷ []; functions = 77 ∷ 77 ∷ 77 ∷ 77 ∷ [] }
-
--- a desk: its refined cells, the draft, the list
-abbrev seen : Plan → State → List (List ℕ)
-seen p s = listed 63 (refined (s .tables .cells)) ∷ (s .draft .«open» ∷ s .draft .marks ∷ []) ∷ s .list ∷ []
-
-unfoldable pub keptOf : List Entry → List (List (List ℕ))
-keptOf [] = []
-keptOf (e ∷ es) = ((e .number ∷ []) ∷ e .cells ∷ e .functions ∷ []) ∷ keptOf es
-
--- ---- document 01's P7 as a draft: cell 0 is split, then 3 is marked twice and 1 once; a mark that is refused in between adds nothing; a split
--- meanwhile gets 18; closed, cells 1 and 3 are split, and both count as one split
-
-abbrev afternoon : List DraftCall
-afternoon =
-    opening
-    ∷ adding (3 ∷ [])
-    ∷ adding (4 ∷ 0 ∷ [])
-    ∷ adding (3 ∷ 1 ∷ [])
-    ∷ changing (plain (record { direction = refine; by = calls.cells; marks = 2 ∷ []; room = room }))
-    ∷ closing room
-    ∷ []
-
-pub closed-P7 :
-    seen W2 (finalState W2 (desk W2 (0 ∷ []) 4) afternoon)
-    ∷ keptOf (stateLog W2 (desk W2 (0 ∷ []) 4) afternoon)
-    ≡ ((0 ∷ 1 ∷ 3 ∷ []) ∷ (0 ∷ 0 ∷ []) ∷ (3 ∷ 3 ∷ 1 ∷ 77 ∷ []) ∷ [])
-    ∷ ((18 ∷ []) ∷ [] ∷ [] ∷ [])
-    ∷ ((0 ∷ []) ∷ (1 ∷ 3 ∷ []) ∷ (1 ∷ 5 ∷ 8 ∷ []) ∷ [])
-    ∷ []
-unfolding some every elem listed tabulate stored first writtenAt reach needs closure offset number levelOf placeOn place between numbersInRange cornersInRange inRange ratio grown tooLarge lastLevel above below parent child isSet isCorner cornersTo times knotFrom knot beyond functionCount covers apart together supportedAt supported ancestor nearAt near absent active refined children cellFits isMesh isAdmissible tableOf labelOf labels isLabelled refusal3 refusal6 check eligible isTooDeep markRefusal underMarked selected base smallest changed written refused settle newCells refusal outcome finalOf logOf directionOf isOpen refusal18 refusal19 openDraft dropDraft addRefusal addMarks closeDraft outcomeWithDraft desks.changed closed added leave keep keptOf
-closed-P7 = refl
-
--- ---- numbers: each call's, on S with nothing refined and a list of two entries, after what stands before it
-
-abbrev addNumber : State → List ℕ → List ℕ
-addNumber s marks = let o = added S s marks in o .answer .number ∷ o .answer .draft .«open» ∷ o .answer .draft .marks ∷ o .list
-
-abbrev drafted : ℕ → ℕ → State
-drafted n marks = let s = desk S [] 2 in record { tables = s .tables; draft = record { «open» = n; marks = marks }; list = s .list }
+S = plan 2 1 2 1 1 0
 
 -- tables that 6 refuses
-abbrev mislabelled : State
-mislabelled = let s = drafted 1 0 in record { tables = record { cells = s .tables .cells; functions = desk S (0 ∷ []) 2 .tables .functions }; draft = s .draft; list = s .list }
+abbrev mislabelled : Tables
+mislabelled = tables (fresh S .cells) (refining S (0 ∷ []) .functions)
 
-pub numbers :
-    -- exactly full, one more than full, and 8 before 10
-    addNumber (drafted 5 1) (0 ∷ [])
-    ∷ addNumber (drafted 5 1) (0 ∷ 0 ∷ [])
-    ∷ addNumber (drafted 5 1) (0 ∷ 2 ∷ [])
-    -- none open; more marks than entries count as none; tables are checked first
-    ∷ addNumber (drafted 0 0) (9 ∷ [])
-    ∷ addNumber (drafted 1 3) (9 ∷ [])
-    ∷ addNumber mislabelled (9 ∷ [])
-    -- a second draft, one that does not count, and 6 before 18; dropping; closing with none
-    ∷ (openDraft S (desk S [] 2 .tables .cells) (desk S [] 2 .tables .functions) (record { «open» = 1; marks = 2 }) (77 ∷ 77 ∷ []) .number
-    ∷ openDraft S (desk S [] 2 .tables .cells) (desk S [] 2 .tables .functions) (record { «open» = 1; marks = 3 }) (77 ∷ 77 ∷ []) .number
-    ∷ openDraft S (mislabelled .tables .cells) (mislabelled .tables .functions) (record { «open» = 1; marks = 0 }) [] .number
-    ∷ dropDraft S (desk S [] 2 .tables .cells) (desk S [] 2 .tables .functions) (record { «open» = 7; marks = 2 }) (77 ∷ 77 ∷ []) .number
-    ∷ dropDraft S (desk S [] 2 .tables .cells) (desk S [] 2 .tables .functions) noDraft (77 ∷ 77 ∷ []) .number
-    ∷ closed S (drafted 0 0) room .outcome .answer .number
-    -- what stands in the list is judged once more
-    ∷ closed S (drafted 1 1) room .outcome .answer .number
-    ∷ closed S (drafted 1 1) room .draft .«open»
-    -- 18 before the heights, of which there is none
-    ∷ outcomeWithHeightsAndDraft calls.cells S (desk S [] 2 .tables .cells) (desk S [] 2 .tables .functions) [] (record { «open» = 1; marks = 0 }) [] [] [] [] .outcome .answer .number
-    ∷ [])
-    -- open drops it; refused it does not
-    ∷ (draftAfterOpen S (desk S [] 2 .tables .cells) (desk S [] 2 .tables .functions) (record { «open» = 1; marks = 2 }) .«open»
-    ∷ draftAfterOpen S [] [] (record { «open» = 1; marks = 2 }) .«open»
-    ∷ [])
+-- one cell of one level, of degree 3: 8 functions
+abbrev cubic : Plan
+cubic = plan 1 1 1 3 1 0
+
+-- document 01's P7 as a draft: cell 0 is split; 3 is added, then 4 and 0, which adds neither since 0 is split, then 3 again and 1
+abbrev P7 : List DraftCall
+P7 = opening ∷ adding (3 ∷ []) ∷ adding (4 ∷ 0 ∷ []) ∷ adding (3 ∷ 1 ∷ []) ∷ change refine cells (2 ∷ []) ∷ closing (room 3 4) ∷ []
+
+pub table : List Row
+table =
+    -- closed, 1 and 3 are split, as by one split
+    called W2 (refining W2 (0 ∷ [])) 4 P7 (0 ∷ 0 ∷ 8 ∷ 0 ∷ 18 ∷ 0 ∷ []) (0 ∷ 1 ∷ 3 ∷ []) noDraft (3 ∷ 3 ∷ 1 ∷ 77 ∷ [])
+    ∷ kept W2 (refining W2 (0 ∷ [])) 4 P7 ((18 ∷ []) ∷ [] ∷ [] ∷ (0 ∷ []) ∷ (1 ∷ 3 ∷ []) ∷ (1 ∷ 5 ∷ 8 ∷ []) ∷ [])
+    -- a list exactly full, and one mark more; repeats take an entry each; no mark at all always fits
+    ∷ called S (fresh S) 2 (opening ∷ adding (0 ∷ []) ∷ adding (1 ∷ 1 ∷ []) ∷ adding (0 ∷ []) ∷ adding (1 ∷ []) ∷ adding [] ∷ []) (0 ∷ 0 ∷ 10 ∷ 0 ∷ 10 ∷ 0 ∷ []) [] (draft 1 2) (0 ∷ 0 ∷ [])
+    -- 7, 8 and 9 before 10, the marks in list order
+    ∷ called S (refining S (0 ∷ [])) 1
+    (opening ∷ adding (1 ∷ 10 ∷ 0 ∷ []) ∷ adding (1 ∷ 0 ∷ 10 ∷ []) ∷ adding (1 ∷ 2 ∷ []) ∷ adding (1 ∷ 1 ∷ []) ∷ []) (0 ∷ 7 ∷ 8 ∷ 9 ∷ 10 ∷ []) (0 ∷ []) (draft 1 0) (77 ∷ [])
+    -- none is open: 19 before the marks, and after 6
+    ∷ called S (fresh S) 1 (adding (10 ∷ []) ∷ closing (room 0 0) ∷ dropping ∷ []) (19 ∷ 19 ∷ 19 ∷ []) [] noDraft (77 ∷ [])
+    ∷ called S mislabelled 1 (adding (10 ∷ []) ∷ closing (room 0 0) ∷ dropping ∷ []) (6 ∷ 6 ∷ 6 ∷ []) [] noDraft (77 ∷ [])
+    -- one is open: 18 for a second draft, for each split and join, before the marks, and after 6
+    ∷ called S (refining S (0 ∷ [])) 1
+    (opening ∷ opening ∷ change refine cells (10 ∷ []) ∷ change refine functions (1 ∷ []) ∷ change coarsen cells (0 ∷ []) ∷ change coarsen functions (0 ∷ []) ∷ [])
+    (0 ∷ 18 ∷ 18 ∷ 18 ∷ 18 ∷ 18 ∷ []) (0 ∷ []) (draft 1 0) (77 ∷ [])
+    ∷ called S mislabelled 1 (writing (draft 1 0) (77 ∷ []) ∷ opening ∷ change refine cells (10 ∷ []) ∷ []) (0 ∷ 6 ∷ 6 ∷ []) [] (draft 1 0) (77 ∷ [])
+    -- 18 before 3, 15 and 14 of the heights, which come where none is open
+    ∷ called S (fresh S) 0 (opening ∷ carry 20 0 [] ∷ carry 21 65537 [] ∷ dropping ∷ carry 20 0 [] ∷ carry 21 65537 [] ∷ []) (0 ∷ 18 ∷ 18 ∷ 0 ∷ 3 ∷ 15 ∷ []) [] noDraft []
+    ∷ called cubic (fresh cubic) 0 (opening ∷ carry 8 0 [] ∷ dropping ∷ carry 8 0 [] ∷ []) (0 ∷ 18 ∷ 0 ∷ 14 ∷ []) [] noDraft []
+    -- more marks than entries count as none: 19, and a split is made; as many are open
+    ∷ called S (fresh S) 2 (writing (draft 1 3) (0 ∷ 1 ∷ []) ∷ adding [] ∷ closing (room 3 6) ∷ dropping ∷ change refine cells (0 ∷ []) ∷ []) (0 ∷ 19 ∷ 19 ∷ 19 ∷ 0 ∷ []) (0 ∷ []) (draft 1 3) (0 ∷ 1 ∷ [])
+    ∷ called S (fresh S) 2 (writing (draft 1 2) (0 ∷ 1 ∷ []) ∷ change refine cells (0 ∷ []) ∷ closing (room 3 6) ∷ []) (0 ∷ 18 ∷ 0 ∷ []) (0 ∷ 1 ∷ []) noDraft (0 ∷ 1 ∷ [])
+    -- any number but 0 is open, and stays
+    ∷ called S (fresh S) 2 (writing (draft 5 1) (0 ∷ 77 ∷ []) ∷ adding (1 ∷ []) ∷ []) (0 ∷ 0 ∷ []) [] (draft 5 2) (0 ∷ 1 ∷ [])
+    -- closing judges the marks once more, and then the lent lists; refused, the draft stays as it is
+    ∷ called S (fresh S) 2 (writing (draft 1 2) (0 ∷ 10 ∷ []) ∷ closing (room 3 6) ∷ []) (0 ∷ 7 ∷ []) [] (draft 1 2) (0 ∷ 10 ∷ [])
+    ∷ called S (fresh S) 2
+    (opening ∷ adding (0 ∷ 1 ∷ []) ∷ closing (room 1 6) ∷ closing (room 2 5) ∷ closing (room 2 6) ∷ closing (room 2 6) ∷ []) (0 ∷ 0 ∷ 10 ∷ 11 ∷ 0 ∷ 19 ∷ []) (0 ∷ 1 ∷ []) noDraft (0 ∷ 1 ∷ [])
+    -- dropped, nothing is split, and another draft begins without marks
+    ∷ called S (fresh S) 2 (opening ∷ adding (0 ∷ []) ∷ dropping ∷ opening ∷ adding (1 ∷ []) ∷ []) (0 ∷ 0 ∷ 0 ∷ 0 ∷ 0 ∷ []) [] (draft 1 1) (1 ∷ 77 ∷ [])
+    -- open and read drop it; refused, with 3 and with 12, they do not
+    ∷ opened S mislabelled (draft 1 2) noDraft
+    ∷ opened S (tables (fresh S .cells) []) (draft 1 2) (draft 1 2)
+    ∷ readInto (2 ∷ 1 ∷ 2 ∷ 1 ∷ 1 ∷ 0 ∷ 0 ∷ []) mislabelled (draft 1 2) noDraft
+    ∷ readInto (2 ∷ 1 ∷ 2 ∷ 1 ∷ 1 ∷ 0 ∷ 1 ∷ []) mislabelled (draft 1 2) (draft 1 2)
     ∷ []
-    ≡ (0 ∷ 5 ∷ 2 ∷ 77 ∷ 0 ∷ [])
-    ∷ (10 ∷ 5 ∷ 1 ∷ 77 ∷ 77 ∷ [])
-    ∷ (8 ∷ 5 ∷ 1 ∷ 77 ∷ 77 ∷ [])
-    ∷ (19 ∷ 0 ∷ 0 ∷ 77 ∷ 77 ∷ [])
-    ∷ (19 ∷ 1 ∷ 3 ∷ 77 ∷ 77 ∷ [])
-    ∷ (6 ∷ 1 ∷ 0 ∷ 77 ∷ 77 ∷ [])
-    ∷ (18 ∷ 0 ∷ 6 ∷ 0 ∷ 19 ∷ 19 ∷ 7 ∷ 1 ∷ 18 ∷ [])
-    ∷ (0 ∷ 1 ∷ [])
-    ∷ []
-unfolding some every elem listed tabulate stored first writtenAt reach needs closure offset number levelOf placeOn place between numbersInRange cornersInRange inRange ratio grown tooLarge lastLevel above below parent child isSet isCorner cornersTo times knotFrom knot beyond functionCount covers apart together supportedAt supported ancestor nearAt near absent active refined children cellFits isMesh isAdmissible tableOf labelOf labels isLabelled refusal3 refusal6 check openMesh eligible isTooDeep markRefusal underMarked selected base smallest changed written refused settle newCells refusal outcome refusedWith isOpen refusal18 refusal19 openDraft dropDraft addRefusal addMarks closeDraft outcomeWithDraft outcomeWithHeightsAndDraft draftAfterOpen closed added
-numbers = refl
+
+pub worked : T (allHold table)
+unfolding table some every elem all listed tabulate stored first writtenAt reach needs closure offset number levelOf placeOn place between numbersInRange cornersInRange inRange ratio grown tooLarge lastLevel above below parent child isSet isCorner cornersTo times knotFrom knot beyond functionCount covers apart together supportedAt supported ancestor nearAt near absent active refined reactivable children cellFits isMesh isAdmissible tableOf labelOf labels isLabelled refusal3 refusal6 check freshCells freshFunctions openMesh eligible isTooDeep markRefusal underMarked underKept selected base smallest changed written refused settle newCells refusal outcome finalOf logOf inexact low lowOn allLow heightsRefusal tablesRefusal refusedWith outcomeWithHeights directionOf codec.above decodeGroups decodeNumber front onward decodeNumbers decodeBehind decodeRising noCorners notZeros decodeCorners withCorners withCells withHead decodeFile rebuilt refusal13 readRefusal answeredPlan readFile readMesh isOpen refusal18 refusal19 openDraft dropDraft addRefusal addMarks closeDraft outcomeWithDraft outcomeWithHeightsAndDraft draftAfterOpen draftAfterRead seasons.changed closed added leave keep
+worked = tt
