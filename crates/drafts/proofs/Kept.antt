@@ -3,7 +3,7 @@ use mathlib.Core.Path.{_≡_, refl, sym, ap, _∙_}
 use mathlib.Core.List.{List}
 use mathlib.Core.Logic.{_≢_}
 use Prim.Native.Nat.{ℕ}
-use lib.Dec.{T, eqb, eqb→eq}
+use lib.Dec.{eqb, eqb→eq}
 use borrow.Author.Tests.{ne-eqb}
 use Rattle.facts.proofs.Tests.{cases, differ, T-true}
 use Rattle.grid.specs.declared.Plan.{Plan}
@@ -11,7 +11,7 @@ use Rattle.outcomes.specs.Calls.{refine, cells, Outcome, refused, outcome}
 use Rattle.outcomes.proofs.Results.{accepted, Made, refusal-of, accepted-as, made}
 use Rattle.outcomes.specs.Runs.{LentLists}
 use Rattle.refining.specs.Seasons.{SeasonCall}
-use Rattle.drafts.specs.Drafts.{isOpen, noDraft, marksOf, refusal19, Added, Closed, endedBy}
+use Rattle.drafts.specs.Drafts.{noDraft, marksOf, refusal19, Added, Closed, endedBy}
 use Rattle.drafts.specs.Seasons.{State, changed, closed, added}
 use Rattle.drafts.specs.Demands.{Passes, Open}
 use Rattle.drafts.proofs.Refusals.{close-refused, close-taken, AddCase, taken, left-out, add-case}

@@ -1,7 +1,5 @@
 pub mod Computed
 pub mod Refusals
-pub mod Turns
-pub mod Whole
 pub mod Seasons
 pub mod Kept
 pub mod Filled

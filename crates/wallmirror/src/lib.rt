@@ -34,7 +34,7 @@ ghost use Rattle.projector.specs.Steps.{leftByCorners};
 ghost use Rattle.outcomes.specs.Calls as calls;
 ghost use Rattle.outcomes.specs.Calls.{refine, coarsen};
 ghost use Rattle.drafts.specs.Drafts.{openDraft, dropDraft, addMarks, closeDraft, outcomeWithDraft, outcomeWithHeightsAndDraft, draftAfterOpen, draftAfterRead};
-ghost use Rattle.drafts.specs.Steps.{leftByAdd, leftByClose, MeetsWithDraft, MeetsWithHeightsAndDraft};
+ghost use Rattle.drafts.specs.Contracts.{leftByAdd, leftByClose, MeetsWithDraft, MeetsWithHeightsAndDraft};
 
 // 0.10.0, as major * 1,000,000 + minor * 1,000 + patch.
 #[no_mangle]
@@ -318,7 +318,7 @@ pub extern "C" fn wallmirror_draft_open(
 ) -> DraftAnswer
     ensures { λ r. ⌜ r ≡ openDraft plan (now (cells .entry)) (now (functions .entry)) draft (now (list .entry)) ⌝ }
 {
-    drafts::open(plan, cells, functions, draft, list)
+    drafting::open(plan, cells, functions, draft, list)
 }
 
 #[no_mangle]
@@ -332,7 +332,7 @@ pub extern "C" fn wallmirror_draft_add(
 ) -> DraftAnswer
     ensures { λ r. ⌜ leftByAdd r list ≡ addMarks plan (now (cells .entry)) (now (functions .entry)) draft (now (list .entry)) (now (marks .entry)) ⌝ }
 {
-    drafts::add(plan, cells, functions, draft, list, marks)
+    drafting::add(plan, cells, functions, draft, list, marks)
 }
 
 #[no_mangle]
@@ -347,7 +347,7 @@ pub extern "C" fn wallmirror_draft_close(
 ) -> CloseAnswer
     ensures { λ r. ⌜ leftByClose r cells functions «cell_list» «function_list» ≡ closeDraft plan (now (cells .entry)) (now (functions .entry)) draft (now (list .entry)) (now («cell_list» .entry)) (now («function_list» .entry)) ⌝ }
 {
-    drafts::close(
+    drafting::close(
         plan,
         cells,
         functions,
@@ -368,7 +368,7 @@ pub extern "C" fn wallmirror_draft_drop(
 ) -> DraftAnswer
     ensures { λ r. ⌜ r ≡ dropDraft plan (now (cells .entry)) (now (functions .entry)) draft (now (list .entry)) ⌝ }
 {
-    drafts::drop(plan, cells, functions, draft, list)
+    drafting::drop(plan, cells, functions, draft, list)
 }
 
 #[no_mangle]
@@ -384,7 +384,7 @@ pub extern "C" fn wallmirror_refine_cells_with_draft(
 ) -> Answer
     ensures { λ r. ⌜ MeetsWithDraft (outcomeWithDraft refine calls.cells plan) draft (now (list .entry)) r cells functions marks «cell_list» «function_list» ⌝ }
 {
-    drafts::change(
+    drafting::change(
         Call(Direction::Refine, By::Cells),
         plan,
         cells,
@@ -410,7 +410,7 @@ pub extern "C" fn wallmirror_refine_functions_with_draft(
 ) -> Answer
     ensures { λ r. ⌜ MeetsWithDraft (outcomeWithDraft refine calls.functions plan) draft (now (list .entry)) r cells functions marks «cell_list» «function_list» ⌝ }
 {
-    drafts::change(
+    drafting::change(
         Call(Direction::Refine, By::Functions),
         plan,
         cells,
@@ -436,7 +436,7 @@ pub extern "C" fn wallmirror_coarsen_cells_with_draft(
 ) -> Answer
     ensures { λ r. ⌜ MeetsWithDraft (outcomeWithDraft coarsen calls.cells plan) draft (now (list .entry)) r cells functions marks «cell_list» «function_list» ⌝ }
 {
-    drafts::change(
+    drafting::change(
         Call(Direction::Coarsen, By::Cells),
         plan,
         cells,
@@ -462,7 +462,7 @@ pub extern "C" fn wallmirror_coarsen_functions_with_draft(
 ) -> Answer
     ensures { λ r. ⌜ MeetsWithDraft (outcomeWithDraft coarsen calls.functions plan) draft (now (list .entry)) r cells functions marks «cell_list» «function_list» ⌝ }
 {
-    drafts::change(
+    drafting::change(
         Call(Direction::Coarsen, By::Functions),
         plan,
         cells,
@@ -489,7 +489,7 @@ pub extern "C" fn wallmirror_refine_cells_with_heights_and_draft(
 ) -> Answer
     ensures { λ r. ⌜ MeetsWithHeightsAndDraft (outcomeWithHeightsAndDraft calls.cells plan) draft (now (list .entry)) r cells functions heights marks «cell_list» «function_list» ⌝ }
 {
-    drafts::refine_cells(
+    drafting::refine_cells(
         plan,
         cells,
         functions,
@@ -516,7 +516,7 @@ pub extern "C" fn wallmirror_refine_functions_with_heights_and_draft(
 ) -> Answer
     ensures { λ r. ⌜ MeetsWithHeightsAndDraft (outcomeWithHeightsAndDraft calls.functions plan) draft (now (list .entry)) r cells functions heights marks «cell_list» «function_list» ⌝ }
 {
-    drafts::refine_functions(
+    drafting::refine_functions(
         plan,
         cells,
         functions,
@@ -541,7 +541,7 @@ pub extern "C" fn wallmirror_open_with_draft(
     ensures functions { λ r. ⌜ now (functions .exit) ≡ openMesh plan (now (cells .entry)) (now (functions .entry)) .functions ⌝ }
     ensures draft { λ r. ⌜ r .draft ≡ draftAfterOpen plan (now (cells .entry)) (now (functions .entry)) draft ⌝ }
 {
-    drafts::open_mesh(plan, cells, functions, draft)
+    drafting::open_mesh(plan, cells, functions, draft)
 }
 
 #[no_mangle]
@@ -554,5 +554,5 @@ pub extern "C" fn wallmirror_read_with_draft(
     ensures outcome { λ r. ⌜ leftByRead (r .answer) cells functions ≡ readMesh (now (file .entry)) (now (cells .entry)) (now (functions .entry)) ⌝ }
     ensures draft { λ r. ⌜ r .draft ≡ draftAfterRead (now (file .entry)) (now (cells .entry)) (now (functions .entry)) draft ⌝ }
 {
-    drafts::read_mesh(file, cells, functions, draft)
+    drafting::read_mesh(file, cells, functions, draft)
 }
