@@ -2,6 +2,8 @@
 //! does is said at the safe function of its name. Numbers that are answered are 0 or that of a
 //! [`crate::Refusal`].
 
+pub use crate::Draft;
+
 /// As [`crate::Plan`].
 #[repr(C)]
 #[derive(Clone, Copy, Debug, Default, PartialEq, Eq)]
@@ -73,6 +75,33 @@ pub struct Corners {
     pub corners: u32,
 }
 
+/// What a call on a draft answers, and [`wallmirror_open_with_draft`]: its number, and the draft,
+/// which after a refusal is as it was.
+#[repr(C)]
+#[derive(Clone, Copy, Debug, Default, PartialEq, Eq)]
+pub struct Drafted {
+    pub number: u32,
+    pub draft: Draft,
+}
+
+/// What [`wallmirror_draft_close`] answers: what a refining call does, and the draft, which after a
+/// refusal is as it was.
+#[repr(C)]
+#[derive(Clone, Copy, Debug, Default, PartialEq, Eq)]
+pub struct Closed {
+    pub answer: Answer,
+    pub draft: Draft,
+}
+
+/// What [`wallmirror_read_with_draft`] answers: what [`wallmirror_read`] does, and the draft, which
+/// after a refusal is as it was.
+#[repr(C)]
+#[derive(Clone, Copy, Debug, Default, PartialEq, Eq)]
+pub struct ReadWithDraft {
+    pub answer: Read,
+    pub draft: Draft,
+}
+
 /// What [`wallmirror_level`] answers. All 0 where the plan is refused or does not have the level.
 #[repr(C)]
 #[derive(Clone, Copy, Debug, Default, PartialEq, Eq)]
@@ -119,29 +148,12 @@ pub struct Support {
     pub end_column: u32,
 }
 
-/// A refining or coarsening call.
-///
-/// # Safety
-///
-/// Each pointer is to be aligned and lead to so many entries as its length says, readable, and
-/// writable where it is `*mut`; with length 0 it may be null. None of the slices may overlap
-/// another.
-pub type Change = unsafe extern "C" fn(
-    plan: Plan,
-    cells: *mut u8,
-    cells_len: usize,
-    functions: *mut u8,
-    functions_len: usize,
-    marks: *const u32,
-    marks_len: usize,
-    cell_list: *mut u32,
-    cell_list_len: usize,
-    function_list: *mut u32,
-    function_list_len: usize,
-) -> Answer;
-
+/// A type of calls with these arguments, and the calls of that type.
 macro_rules! changes {
-    ($($name:ident: $safe:ident)*) => {
+    ($(#[$about:meta])* $change:ident $arguments:tt $($name:ident: $safe:ident)*) => {
+        $(#[$about])*
+        pub type $change = unsafe extern "C" fn $arguments -> Answer;
+
         unsafe extern "C" {
             $(
             #[doc = concat!("As [`crate::", stringify!($safe), "`].")]
@@ -149,82 +161,117 @@ macro_rules! changes {
             /// # Safety
             ///
             /// As [`Change`] says.
-            pub fn $name(
-                plan: Plan,
-                cells: *mut u8,
-                cells_len: usize,
-                functions: *mut u8,
-                functions_len: usize,
-                marks: *const u32,
-                marks_len: usize,
-                cell_list: *mut u32,
-                cell_list_len: usize,
-                function_list: *mut u32,
-                function_list_len: usize,
-            ) -> Answer;)*
-        }
-    };
-}
-
-/// A refining call with heights.
-///
-/// # Safety
-///
-/// As [`Change`] says.
-pub type ChangeWithHeights = unsafe extern "C" fn(
-    plan: Plan,
-    cells: *mut u8,
-    cells_len: usize,
-    functions: *mut u8,
-    functions_len: usize,
-    heights: *mut i32,
-    heights_len: usize,
-    marks: *const u32,
-    marks_len: usize,
-    cell_list: *mut u32,
-    cell_list_len: usize,
-    function_list: *mut u32,
-    function_list_len: usize,
-) -> Answer;
-
-macro_rules! changes_with_heights {
-    ($($name:ident: $safe:ident)*) => {
-        unsafe extern "C" {
-            $(
-            #[doc = concat!("As [`crate::", stringify!($safe), "`].")]
-            ///
-            /// # Safety
-            ///
-            /// As [`Change`] says.
-            pub fn $name(
-                plan: Plan,
-                cells: *mut u8,
-                cells_len: usize,
-                functions: *mut u8,
-                functions_len: usize,
-                heights: *mut i32,
-                heights_len: usize,
-                marks: *const u32,
-                marks_len: usize,
-                cell_list: *mut u32,
-                cell_list_len: usize,
-                function_list: *mut u32,
-                function_list_len: usize,
-            ) -> Answer;)*
+            pub fn $name $arguments -> Answer;)*
         }
     };
 }
 
 changes! {
+    /// A refining or coarsening call.
+    ///
+    /// # Safety
+    ///
+    /// Each pointer is to be aligned and lead to so many entries as its length says, readable, and
+    /// writable where it is `*mut`; with length 0 it may be null. None of the slices may overlap
+    /// another.
+    Change(
+        plan: Plan,
+        cells: *mut u8,
+        cells_len: usize,
+        functions: *mut u8,
+        functions_len: usize,
+        marks: *const u32,
+        marks_len: usize,
+        cell_list: *mut u32,
+        cell_list_len: usize,
+        function_list: *mut u32,
+        function_list_len: usize,
+    )
     wallmirror_refine_cells: refine_cells
     wallmirror_refine_functions: refine_functions
     wallmirror_coarsen_cells: coarsen_cells
     wallmirror_coarsen_functions: coarsen_functions
 }
 
-changes_with_heights! {
+changes! {
+    /// A refining call with heights.
+    ///
+    /// # Safety
+    ///
+    /// As [`Change`] says.
+    ChangeWithHeights(
+        plan: Plan,
+        cells: *mut u8,
+        cells_len: usize,
+        functions: *mut u8,
+        functions_len: usize,
+        heights: *mut i32,
+        heights_len: usize,
+        marks: *const u32,
+        marks_len: usize,
+        cell_list: *mut u32,
+        cell_list_len: usize,
+        function_list: *mut u32,
+        function_list_len: usize,
+    )
     wallmirror_refine_cells_with_heights: refine_cells_with_heights
     wallmirror_refine_functions_with_heights: refine_functions_with_heights
+}
+
+changes! {
+    /// A refining or coarsening call with a draft and the list of its marks.
+    ///
+    /// # Safety
+    ///
+    /// As [`Change`] says.
+    ChangeWithDraft(
+        plan: Plan,
+        cells: *mut u8,
+        cells_len: usize,
+        functions: *mut u8,
+        functions_len: usize,
+        draft: Draft,
+        list: *const u32,
+        list_len: usize,
+        marks: *const u32,
+        marks_len: usize,
+        cell_list: *mut u32,
+        cell_list_len: usize,
+        function_list: *mut u32,
+        function_list_len: usize,
+    )
+    wallmirror_refine_cells_with_draft: refine_cells_with_draft
+    wallmirror_refine_functions_with_draft: refine_functions_with_draft
+    wallmirror_coarsen_cells_with_draft: coarsen_cells_with_draft
+    wallmirror_coarsen_functions_with_draft: coarsen_functions_with_draft
+}
+
+changes! {
+    /// A refining call with heights, a draft and the list of its marks.
+    ///
+    /// # Safety
+    ///
+    /// As [`Change`] says.
+    ChangeWithHeightsAndDraft(
+        plan: Plan,
+        cells: *mut u8,
+        cells_len: usize,
+        functions: *mut u8,
+        functions_len: usize,
+        heights: *mut i32,
+        heights_len: usize,
+        draft: Draft,
+        list: *const u32,
+        list_len: usize,
+        marks: *const u32,
+        marks_len: usize,
+        cell_list: *mut u32,
+        cell_list_len: usize,
+        function_list: *mut u32,
+        function_list_len: usize,
+    )
+    wallmirror_refine_cells_with_heights_and_draft: refine_cells_with_heights_and_draft
+    wallmirror_refine_functions_with_heights_and_draft: refine_functions_with_heights_and_draft
 }
 
 unsafe extern "C" {
@@ -353,4 +400,103 @@ unsafe extern "C" {
         out: *mut f64,
         out_len: usize,
     ) -> Corners;
+
+    /// As [`crate::draft_open`].
+    ///
+    /// # Safety
+    ///
+    /// As [`Change`] says, of both tables and the list.
+    pub fn wallmirror_draft_open(
+        plan: Plan,
+        cells: *const u8,
+        cells_len: usize,
+        functions: *const u8,
+        functions_len: usize,
+        draft: Draft,
+        list: *const u32,
+        list_len: usize,
+    ) -> Drafted;
+
+    /// As [`crate::draft_add`].
+    ///
+    /// # Safety
+    ///
+    /// As [`Change`] says, of both tables, the list and the marks.
+    pub fn wallmirror_draft_add(
+        plan: Plan,
+        cells: *const u8,
+        cells_len: usize,
+        functions: *const u8,
+        functions_len: usize,
+        draft: Draft,
+        list: *mut u32,
+        list_len: usize,
+        marks: *const u32,
+        marks_len: usize,
+    ) -> Drafted;
+
+    /// As [`crate::draft_close`].
+    ///
+    /// # Safety
+    ///
+    /// As [`Change`] says, of both tables and the three lists.
+    pub fn wallmirror_draft_close(
+        plan: Plan,
+        cells: *mut u8,
+        cells_len: usize,
+        functions: *mut u8,
+        functions_len: usize,
+        draft: Draft,
+        list: *const u32,
+        list_len: usize,
+        cell_list: *mut u32,
+        cell_list_len: usize,
+        function_list: *mut u32,
+        function_list_len: usize,
+    ) -> Closed;
+
+    /// As [`crate::draft_drop`].
+    ///
+    /// # Safety
+    ///
+    /// As [`Change`] says, of both tables and the list.
+    pub fn wallmirror_draft_drop(
+        plan: Plan,
+        cells: *const u8,
+        cells_len: usize,
+        functions: *const u8,
+        functions_len: usize,
+        draft: Draft,
+        list: *const u32,
+        list_len: usize,
+    ) -> Drafted;
+
+    /// As [`crate::open_with_draft`].
+    ///
+    /// # Safety
+    ///
+    /// As [`Change`] says, of both tables.
+    pub fn wallmirror_open_with_draft(
+        plan: Plan,
+        cells: *mut u8,
+        cells_len: usize,
+        functions: *mut u8,
+        functions_len: usize,
+        draft: Draft,
+    ) -> Drafted;
+
+    /// As [`crate::read_with_draft`].
+    ///
+    /// # Safety
+    ///
+    /// As [`Change`] says, of the file and both tables.
+    pub fn wallmirror_read_with_draft(
+        file: *const u8,
+        file_len: usize,
+        cells: *mut u8,
+        cells_len: usize,
+        functions: *mut u8,
+        functions_len: usize,
+        draft: Draft,
+    ) -> ReadWithDraft;
 }

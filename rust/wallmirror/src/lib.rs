@@ -353,6 +353,7 @@
 
 use std::fmt;
 
+mod draft;
 pub mod ffi;
 mod heights;
 mod mesh;
@@ -360,6 +361,12 @@ mod places;
 mod reach;
 mod season;
 
+pub use draft::{
+    coarsen_cells_with_draft, coarsen_functions_with_draft, draft_add, draft_close, draft_drop,
+    draft_open, open_with_draft, read_with_draft, refine_cells_with_draft,
+    refine_cells_with_heights_and_draft, refine_functions_with_draft,
+    refine_functions_with_heights_and_draft, Draft,
+};
 pub use heights::Heights;
 pub use mesh::{Call, Lists, Mesh};
 pub use places::{Level, Place, Support};
@@ -511,8 +518,8 @@ pub struct Cell(pub u32);
 pub struct Function(pub u32);
 
 /// Why a call was refused. Where several apply, the first of this order is given: 12; 1, 2; then 16,
-/// of [`corners`] alone; 3 to 6; then 3 of the heights, 14, 15; then the marks in list order, each
-/// tried for 7, 8, 9; then 10, 11; then 13, or 17.
+/// of [`corners`] alone; 3 to 6; then 18, or 19; then 3 of the heights, 14, 15; then the marks in list
+/// order, each tried for 7, 8, 9; then 10, 11; then 13, or 17.
 ///
 /// Later versions may add refusals, so a `match` needs an arm for the others.
 #[derive(Clone, Copy, Debug, PartialEq, Eq, Hash)]
@@ -546,7 +553,7 @@ pub enum Refusal {
     MarkOfLastLevel = 9,
     /// The cell list has fewer entries than cells change. Of [`write()`]: the lent bytes are fewer
     /// than the file has. Of [`corners`]: the lent doubles are fewer than twelve for each active
-    /// cell.
+    /// cell. Of [`draft_add`]: the list of the draft is too short for the added marks.
     CellListTooShort = 10,
     /// The function list has fewer entries than functions change.
     FunctionListTooShort = 11,
@@ -565,6 +572,11 @@ pub enum Refusal {
     /// Of refining with heights: a carried height of an active function is more than
     /// [`MAX_HEIGHT_MM`] either way.
     CarriedHeightOutOfRange = 17,
+    /// A draft is open: then nothing is refined or coarsened, no second draft is opened, and no
+    /// [`Season`] walked back.
+    DraftOpen = 18,
+    /// No draft is open to add to, to close or to drop.
+    NoDraft = 19,
 }
 
 impl Refusal {
@@ -587,9 +599,11 @@ impl Refusal {
         Refusal::PointOrHeightOutOfRange,
         Refusal::TooManyCellsToProject,
         Refusal::CarriedHeightOutOfRange,
+        Refusal::DraftOpen,
+        Refusal::NoDraft,
     ];
 
-    /// The number that the library answers, 1 to 17.
+    /// The number that the library answers, 1 to 19.
     pub fn number(self) -> u32 {
         self as u32
     }
@@ -635,7 +649,7 @@ impl Refusal {
             Refusal::MarkOfWrongKind => "a mark is not of the kind that the call takes",
             Refusal::MarkOfLastLevel => "a mark is of the last level, which cannot be refined",
             Refusal::CellListTooShort => {
-                "the cell list is too short for the cells that change, the lent bytes for the file, or the lent doubles for the corners of the cells"
+                "the cell list is too short for the cells that change, the lent bytes for the file, the lent doubles for the corners of the cells, or the list of the draft for the added marks"
             }
             Refusal::FunctionListTooShort => {
                 "the function list is too short for the functions that change"
@@ -656,6 +670,8 @@ impl Refusal {
             Refusal::CarriedHeightOutOfRange => {
                 "the height that is carried to an active function is more than 65536 mm either way"
             }
+            Refusal::DraftOpen => "a draft is open",
+            Refusal::NoDraft => "no draft is open",
         }
     }
 }
@@ -887,7 +903,7 @@ fn change(
 ) -> Result<Changed, Refusal> {
     // SAFETY: pointers and lengths are those of slices; the mutable ones overlap no other. Cell and
     // Function are transparent over u32.
-    let answer = unsafe {
+    changed(unsafe {
         call(
             plan.raw(),
             cells.as_mut_ptr(),
@@ -901,7 +917,10 @@ fn change(
             function_list.as_mut_ptr().cast(),
             function_list.len(),
         )
-    };
+    })
+}
+
+fn changed(answer: ffi::Answer) -> Result<Changed, Refusal> {
     accepted(answer.number)?;
     Ok(Changed { cells: answer.cells as usize, functions: answer.functions as usize })
 }
@@ -976,7 +995,7 @@ fn change_with_heights(
 ) -> Result<Changed, Refusal> {
     // SAFETY: pointers and lengths are those of slices; the mutable ones overlap no other. Cell and
     // Function are transparent over u32.
-    let answer = unsafe {
+    changed(unsafe {
         call(
             plan.raw(),
             cells.as_mut_ptr(),
@@ -992,9 +1011,7 @@ fn change_with_heights(
             function_list.as_mut_ptr().cast(),
             function_list.len(),
         )
-    };
-    accepted(answer.number)?;
-    Ok(Changed { cells: answer.cells as usize, functions: answer.functions as usize })
+    })
 }
 
 /// Makes both tables the mesh of the file, whatever they held, and answers its plan. Refuses 12,
@@ -1018,7 +1035,7 @@ fn change_with_heights(
 /// ```
 pub fn read(file: &[u8], cells: &mut [u8], functions: &mut [u8]) -> Result<Plan, ReadRefusal> {
     // SAFETY: pointers and lengths are those of slices; the mutable ones overlap no other.
-    let answer = unsafe {
+    plan_read(unsafe {
         ffi::wallmirror_read(
             file.as_ptr(),
             file.len(),
@@ -1027,7 +1044,10 @@ pub fn read(file: &[u8], cells: &mut [u8], functions: &mut [u8]) -> Result<Plan,
             functions.as_mut_ptr(),
             functions.len(),
         )
-    };
+    })
+}
+
+fn plan_read(answer: ffi::Read) -> Result<Plan, ReadRefusal> {
     let plan = Plan::from_raw(answer.plan);
     // All zeros stand for no plan.
     let known = (answer.plan != ffi::Plan::default()).then_some(plan);
@@ -1243,7 +1263,7 @@ mod tests {
             assert!(refusal.to_string().starts_with(&format!("refusal {}: ", i + 1)));
         }
         assert_eq!(Refusal::from_number(0), None);
-        assert_eq!(Refusal::from_number(18), None);
+        assert_eq!(Refusal::from_number(Refusal::ALL.len() as u32 + 1), None);
     }
 
     #[test]
