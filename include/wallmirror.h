@@ -8,9 +8,9 @@
  * In the words of the scope document a mesh is a wall, refining and coarsening are splitting and
  * joining, admissible of class m is graded, and reactivable is joinable.
  *
- * Every call takes any plan, tables, marks, file, heights and point whatever and returns. What it
- * cannot serve it refuses with a number (WallmirrorRefusal), and then all that was lent holds the
- * bytes it held before. wallmirror_refusal_text says in words what a number means.
+ * Every call takes any plan, tables, marks, draft, file, heights and point whatever and returns.
+ * What it cannot serve it refuses with a number (WallmirrorRefusal), and then all that was lent
+ * holds the bytes it held before. wallmirror_refusal_text says in words what a number means.
  *
  * Cells. Level k has columns * 2^k columns and rows * 2^k rows of cells. They are numbered from 0,
  * level by level, row by row. The cell at column c, row r has four children one level down, at
@@ -86,11 +86,40 @@
  * ones. Every one of these is accepted and names the same cells and functions as the call it takes
  * back, and both tables end as they began. A refused call has changed nothing and has lengths 0:
  * its list is no marks at all, which is accepted and changes nothing. What is asked is that the
- * first mesh passes wallmirror_check and that nothing else writes the tables. In class 0 a run of
- * refinements by functions alone, with heights or without, may also be taken back by its function
- * lists, from the last to the first, each given to wallmirror_coarsen_functions. This holds where
- * on the first mesh each refined cell lies in the support of a deactivated function of its own
- * level, as on a mesh just opened.
+ * first mesh passes wallmirror_check and that nothing else writes the tables. To the walk back a
+ * closed draft is one refining call by cells, with the lists that closing wrote; the other calls on
+ * a draft change no table and leave nothing to take back. The walk begins with no draft open: close
+ * or drop it first. In class 0 a run of refinements by functions alone, with heights or without,
+ * may also be taken back by its function lists, from the last to the first, each given to
+ * wallmirror_coarsen_functions. This holds where on the first mesh each refined cell lies in the
+ * support of a deactivated function of its own level, as on a mesh just opened.
+ *
+ * Drafts. A draft collects marks of cells over many calls and then refines by all of them at once.
+ * It is a WallmirrorDraft, which the caller keeps, beside a list of marks, which the caller lends;
+ * it begins as {0, 0}, which is no draft. wallmirror_draft_open opens it. wallmirror_draft_add
+ * writes marks to the list, after those that it has; a repeat takes an entry too. Each mark is
+ * judged against the mesh when it is added, as wallmirror_refine_cells judges it, and a refused
+ * call adds none of its marks. wallmirror_draft_close refines by all marks: its effect, lists and
+ * refusals are those of one wallmirror_refine_cells with them, and after a refusal the draft is
+ * still open. wallmirror_draft_drop gives it up. Each of the four answers the draft that is to be
+ * kept and handed in the next time; after a refusal it is the one that was handed in. Of the four
+ * only closing changes the tables. So the calls that only read them may be made while a draft is
+ * open, and show the mesh without it.
+ *
+ * A draft is open where its field open is not 0 and its list has at least as many entries as it has
+ * marks. With more marks than entries it counts as not open. While one is open, refining,
+ * coarsening and opening a second draft are refused with 18, directly after 6 and before anything
+ * of the heights. While none is open, adding, closing and dropping are refused with 19, after 6.
+ * Adding more marks than the list has room for is refused with 10, after 7 to 9.
+ *
+ * The calls that change the tables have a form with a draft, which is told by its name. A program
+ * that never keeps a draft takes the forms without: they are the forms with a draft of which none
+ * is open. A program that keeps one takes the forms with it everywhere, so that nothing changes the
+ * mesh under an open draft: the refining and coarsening ones refuse 18, and wallmirror_open and
+ * wallmirror_read with a draft, when accepted, drop it with the mesh that it was for. What only
+ * reads the tables takes no draft. In the example above, with three levels, class 2 and cell 0
+ * refined, let a draft have the marks 3, 4 and 3. Closed, it lists cells 1, 3 and 4 and functions
+ * 1, 5, 8 and 9.
  *
  * Files. The file of a mesh is bytes that the caller keeps where it likes: wallmirror_write makes
  * them of a mesh, wallmirror_read makes the mesh of them. They are a list of numbers: the first six
@@ -177,12 +206,12 @@
  * heights alone, since no corner of a cell lies beyond the mesh; and last 10, where the output is
  * shorter than all corners. Its length is what wallmirror_corners_len says, or more.
  *
- * Pointers. Each table, file, list of heights, mark list, output list and output of doubles is a
- * pointer and its number of entries. A null pointer with length 0 is taken as an empty slice. With
- * any other length the pointer must be aligned for its type and lead to that many entries,
- * readable, and writable where it is not const. The tables, heights, lists, file and output of one
- * call must not overlap each other. So the cell list of an earlier call may serve as marks, but not
- * as the cell list of the same call too.
+ * Pointers. Each table, file, list of heights, mark list, list of a draft, output list and output
+ * of doubles is a pointer and its number of entries. A null pointer with length 0 is taken as an
+ * empty slice. With any other length the pointer must be aligned for its type and lead to that many
+ * entries, readable, and writable where it is not const. The tables, heights, lists, file and
+ * output of one call must not overlap each other. So the cell list of an earlier call may serve as
+ * marks, but not as the cell list of the same call too.
  *
  * Limits.
  *   columns, rows                 1 to 16
@@ -193,6 +222,7 @@
  *   cells on all levels together  at most WALLMIRROR_MAX_CELLS
  *   functions of such a plan      at most WALLMIRROR_MAX_FUNCTIONS
  *   marks of a call               any number; their values are 32 bits
+ *   marks of a draft              as many as its list has entries
  *   file of a mesh                at most WALLMIRROR_MAX_FILE_BYTES bytes
  *   plan of wallmirror_height     degrees 1 and 2, at most four levels; the same of refining with
  *                                 heights
@@ -213,9 +243,9 @@ extern "C" {
 /* The version of this header, and the same as one number: major * 1000000 + minor * 1000 + patch.
  * The library answers its own with wallmirror_version. */
 #define WALLMIRROR_VERSION_MAJOR 0
-#define WALLMIRROR_VERSION_MINOR 9
+#define WALLMIRROR_VERSION_MINOR 10
 #define WALLMIRROR_VERSION_PATCH 0
-#define WALLMIRROR_VERSION "0.9.0"
+#define WALLMIRROR_VERSION "0.10.0"
 #define WALLMIRROR_VERSION_NUMBER \
     (WALLMIRROR_VERSION_MAJOR * 1000000 + WALLMIRROR_VERSION_MINOR * 1000 + \
      WALLMIRROR_VERSION_PATCH)
@@ -284,8 +314,9 @@ enum WallmirrorFunction {
 };
 
 /* The number that every call on a mesh answers. Where several apply, the first of this order is
- * given: 12; 1, 2; then 16, of wallmirror_corners alone; 3 to 6; then 3 of the heights, 14, 15;
- * then the marks in list order, each tried for 7, 8, 9; then 10, 11; then 13, or 17. */
+ * given: 12; 1, 2; then 16, of wallmirror_corners alone; 3 to 6; then 18, or 19; then 3 of the
+ * heights, 14, 15; then the marks in list order, each tried for 7, 8, 9; then 10, 11; then 13, or
+ * 17. */
 enum WallmirrorRefusal {
     WALLMIRROR_ACCEPTED = 0,
     /* a number of the plan is out of range, or a bit of its corners marks no line between two
@@ -312,7 +343,8 @@ enum WallmirrorRefusal {
     WALLMIRROR_MARK_OF_LAST_LEVEL = 9,
     /* the cell list is shorter than the cells it must name; of wallmirror_write: the lent bytes are
      * fewer than the file has; of wallmirror_corners: the lent doubles are fewer than twelve for
-     * each active cell */
+     * each active cell; of wallmirror_draft_add: the list of the draft is too short for the
+     * added marks */
     WALLMIRROR_CELL_LIST_TOO_SHORT = 10,
     /* the function list is shorter than the functions it must name */
     WALLMIRROR_FUNCTION_LIST_TOO_SHORT = 11,
@@ -331,7 +363,11 @@ enum WallmirrorRefusal {
     WALLMIRROR_TOO_MANY_CELLS_TO_PROJECT = 16,
     /* of refining with heights: a carried height of an active function is more than
      * WALLMIRROR_MAX_HEIGHT_MM either way */
-    WALLMIRROR_CARRIED_HEIGHT_OUT_OF_RANGE = 17
+    WALLMIRROR_CARRIED_HEIGHT_OUT_OF_RANGE = 17,
+    /* a draft is open: then nothing is refined or coarsened, and no second draft is opened */
+    WALLMIRROR_DRAFT_OPEN = 18,
+    /* no draft is open to add to, to close or to drop */
+    WALLMIRROR_NO_DRAFT = 19
 };
 
 /* What a number that a call answered means, in words. The texts last as long as the program. */
@@ -362,7 +398,8 @@ static inline const char *wallmirror_refusal_text(uint32_t number)
         return "a mark is of the last level, which cannot be refined";
     case WALLMIRROR_CELL_LIST_TOO_SHORT:
         return "the cell list is too short for the cells that change, the lent bytes for the file, "
-               "or the lent doubles for the corners of the cells";
+               "the lent doubles for the corners of the cells, or the list of the draft for the "
+               "added marks";
     case WALLMIRROR_FUNCTION_LIST_TOO_SHORT:
         return "the function list is too short for the functions that change";
     case WALLMIRROR_MALFORMED_FILE:
@@ -379,6 +416,10 @@ static inline const char *wallmirror_refusal_text(uint32_t number)
         return "all levels together have more than 1024 cells, which is too many for the projector";
     case WALLMIRROR_CARRIED_HEIGHT_OUT_OF_RANGE:
         return "the height that is carried to an active function is more than 65536 mm either way";
+    case WALLMIRROR_DRAFT_OPEN:
+        return "a draft is open";
+    case WALLMIRROR_NO_DRAFT:
+        return "no draft is open";
     default:
         return "no refusal has this number";
     }
@@ -424,6 +465,31 @@ typedef struct WallmirrorCorners {
     uint32_t number;  /* a WallmirrorRefusal */
     uint32_t corners; /* how many were written, of three doubles each; 0 after a refusal */
 } WallmirrorCorners;
+
+/* A draft, passed by value. Its marks are the first entries of the list that is lent beside it. Any
+ * numbers may stand in it; {0, 0} is no draft. */
+typedef struct WallmirrorDraft {
+    uint32_t open; /* not 0 where it is open */
+    size_t marks;  /* how many it has; with more than its list has entries it counts as not open */
+} WallmirrorDraft;
+
+/* What a call on a draft answers, and wallmirror_open_with_draft. */
+typedef struct WallmirrorDrafted {
+    uint32_t number;       /* a WallmirrorRefusal */
+    WallmirrorDraft draft; /* to be kept; after a refusal it is the one that was handed in */
+} WallmirrorDrafted;
+
+/* What wallmirror_draft_close answers. */
+typedef struct WallmirrorClosed {
+    WallmirrorAnswer answer; /* as of a refining call */
+    WallmirrorDraft draft;   /* to be kept; after a refusal it is the one that was handed in */
+} WallmirrorClosed;
+
+/* What wallmirror_read_with_draft answers. */
+typedef struct WallmirrorReadWithDraft {
+    WallmirrorRead answer; /* as of wallmirror_read */
+    WallmirrorDraft draft; /* to be kept; after a refusal it is the one that was handed in */
+} WallmirrorReadWithDraft;
 
 /* What wallmirror_level answers. All 0 where the plan is refused or does not have the level. */
 typedef struct WallmirrorLevel {
@@ -644,6 +710,135 @@ WallmirrorCorners wallmirror_corners(WallmirrorPlan plan,
                                      const uint8_t *functions, size_t functions_len,
                                      const int32_t *heights, size_t heights_len,
                                      double *out, size_t out_len);
+
+/*
+ * The four calls on a draft; how it is used is said at the top. Each takes the draft that is kept
+ * and its list, and answers the draft that is to be kept. They refuse 1 to 6; then 18 where a
+ * second draft is to be opened, or 19 where none is open; and then what is said below.
+ */
+
+/* Opens a draft, which has no marks then. Refuses nothing else. */
+WallmirrorDrafted wallmirror_draft_open(WallmirrorPlan plan,
+                                        const uint8_t *cells, size_t cells_len,
+                                        const uint8_t *functions, size_t functions_len,
+                                        WallmirrorDraft draft,
+                                        const uint32_t *list, size_t list_len);
+
+/* Adds marks, which are active cells, to an open draft: they are written to the list after those
+ * that it has. Entries past them keep their values. Refuses 7 to 9 of the marks as
+ * wallmirror_refine_cells does; then 10 where the list is too short for them. */
+WallmirrorDrafted wallmirror_draft_add(WallmirrorPlan plan,
+                                       const uint8_t *cells, size_t cells_len,
+                                       const uint8_t *functions, size_t functions_len,
+                                       WallmirrorDraft draft,
+                                       uint32_t *list, size_t list_len,
+                                       const uint32_t *marks, size_t marks_len);
+
+/* Closes an open draft: wallmirror_refine_cells with its marks. No draft is open then. Refuses 7 to
+ * 11 as that call does. */
+WallmirrorClosed wallmirror_draft_close(WallmirrorPlan plan,
+                                        uint8_t *cells, size_t cells_len,
+                                        uint8_t *functions, size_t functions_len,
+                                        WallmirrorDraft draft,
+                                        const uint32_t *list, size_t list_len,
+                                        uint32_t *cell_list, size_t cell_list_len,
+                                        uint32_t *function_list, size_t function_list_len);
+
+/* Drops an open draft with its marks. The list keeps its values. Refuses nothing else. */
+WallmirrorDrafted wallmirror_draft_drop(WallmirrorPlan plan,
+                                        const uint8_t *cells, size_t cells_len,
+                                        const uint8_t *functions, size_t functions_len,
+                                        WallmirrorDraft draft,
+                                        const uint32_t *list, size_t list_len);
+
+/*
+ * The refining and coarsening calls with a draft, for a program that keeps one. They refuse 18,
+ * directly after 6, while it is open. Otherwise each is the call that its name begins with; the
+ * draft stays as it is.
+ */
+
+/* As wallmirror_refine_cells. */
+WallmirrorAnswer wallmirror_refine_cells_with_draft(
+    WallmirrorPlan plan,
+    uint8_t *cells, size_t cells_len,
+    uint8_t *functions, size_t functions_len,
+    WallmirrorDraft draft,
+    const uint32_t *list, size_t list_len,
+    const uint32_t *marks, size_t marks_len,
+    uint32_t *cell_list, size_t cell_list_len,
+    uint32_t *function_list, size_t function_list_len);
+
+/* As wallmirror_refine_functions. */
+WallmirrorAnswer wallmirror_refine_functions_with_draft(
+    WallmirrorPlan plan,
+    uint8_t *cells, size_t cells_len,
+    uint8_t *functions, size_t functions_len,
+    WallmirrorDraft draft,
+    const uint32_t *list, size_t list_len,
+    const uint32_t *marks, size_t marks_len,
+    uint32_t *cell_list, size_t cell_list_len,
+    uint32_t *function_list, size_t function_list_len);
+
+/* As wallmirror_coarsen_cells. */
+WallmirrorAnswer wallmirror_coarsen_cells_with_draft(
+    WallmirrorPlan plan,
+    uint8_t *cells, size_t cells_len,
+    uint8_t *functions, size_t functions_len,
+    WallmirrorDraft draft,
+    const uint32_t *list, size_t list_len,
+    const uint32_t *marks, size_t marks_len,
+    uint32_t *cell_list, size_t cell_list_len,
+    uint32_t *function_list, size_t function_list_len);
+
+/* As wallmirror_coarsen_functions. */
+WallmirrorAnswer wallmirror_coarsen_functions_with_draft(
+    WallmirrorPlan plan,
+    uint8_t *cells, size_t cells_len,
+    uint8_t *functions, size_t functions_len,
+    WallmirrorDraft draft,
+    const uint32_t *list, size_t list_len,
+    const uint32_t *marks, size_t marks_len,
+    uint32_t *cell_list, size_t cell_list_len,
+    uint32_t *function_list, size_t function_list_len);
+
+/* As wallmirror_refine_cells_with_heights. Here too 18 comes directly after 6: before 3 of the
+ * heights, 14 and 15. */
+WallmirrorAnswer wallmirror_refine_cells_with_heights_and_draft(
+    WallmirrorPlan plan,
+    uint8_t *cells, size_t cells_len,
+    uint8_t *functions, size_t functions_len,
+    int32_t *heights, size_t heights_len,
+    WallmirrorDraft draft,
+    const uint32_t *list, size_t list_len,
+    const uint32_t *marks, size_t marks_len,
+    uint32_t *cell_list, size_t cell_list_len,
+    uint32_t *function_list, size_t function_list_len);
+
+/* As wallmirror_refine_functions_with_heights. */
+WallmirrorAnswer wallmirror_refine_functions_with_heights_and_draft(
+    WallmirrorPlan plan,
+    uint8_t *cells, size_t cells_len,
+    uint8_t *functions, size_t functions_len,
+    int32_t *heights, size_t heights_len,
+    WallmirrorDraft draft,
+    const uint32_t *list, size_t list_len,
+    const uint32_t *marks, size_t marks_len,
+    uint32_t *cell_list, size_t cell_list_len,
+    uint32_t *function_list, size_t function_list_len);
+
+/* As wallmirror_open, for a program that keeps a draft. Accepted, it drops the draft; refused, it
+ * leaves it. Its list is not asked for, since what is in it does not matter. */
+WallmirrorDrafted wallmirror_open_with_draft(WallmirrorPlan plan,
+                                             uint8_t *cells, size_t cells_len,
+                                             uint8_t *functions, size_t functions_len,
+                                             WallmirrorDraft draft);
+
+/* As wallmirror_read, for a program that keeps a draft, and of the draft as
+ * wallmirror_open_with_draft. */
+WallmirrorReadWithDraft wallmirror_read_with_draft(const uint8_t *file, size_t file_len,
+                                                   uint8_t *cells, size_t cells_len,
+                                                   uint8_t *functions, size_t functions_len,
+                                                   WallmirrorDraft draft);
 
 #ifdef __cplusplus
 }

@@ -1,13 +1,16 @@
 //! A mesh that owns its tables, and the calls on it.
 
 use crate::{
-    check, coarsen_cells, coarsen_functions, corners, count, doubles, height, open, read,
-    refine_cells, refine_cells_with_heights, refine_functions, refine_functions_with_heights,
-    write, Cell, Changed, Corner, Count, Function, Plan, ReadRefusal, Refusal, MAX_CELLS,
-    MAX_FILE_BYTES, MAX_FUNCTIONS, MAX_PROJECTED_CELLS,
+    check, coarsen_cells, coarsen_cells_with_draft, coarsen_functions,
+    coarsen_functions_with_draft, corners, count, doubles, draft_add, draft_close, draft_drop,
+    draft_open, height, open, read, refine_cells, refine_cells_with_draft,
+    refine_cells_with_heights_and_draft, refine_functions, refine_functions_with_draft,
+    refine_functions_with_heights_and_draft, write, Cell, Changed, Corner, Count, Draft, Function,
+    Plan, ReadRefusal, Refusal, MAX_CELLS, MAX_FILE_BYTES, MAX_FUNCTIONS, MAX_PROJECTED_CELLS,
 };
 
-/// A plan with tables that it owns. Anything may stand in them; the calls refuse what is no mesh.
+/// A plan with tables that it owns, and the draft that is open on it. Anything may stand in the
+/// tables; the calls refuse what is no mesh.
 ///
 /// ```
 /// # use wallmirror::{Cell, Function, Mesh, Plan};
@@ -29,6 +32,9 @@ pub struct Mesh {
     pub cells: Vec<u8>,
     /// One byte for each function of each level.
     pub functions: Vec<u8>,
+    /// The marks of the open draft, in the order in which they were added; `None` where no draft is
+    /// open. It is no part of the file of the mesh.
+    pub draft: Option<Vec<Cell>>,
 }
 
 /// The two lists of a call, in rising order.
@@ -81,6 +87,11 @@ impl Call {
 }
 
 impl Mesh {
+    /// These tables, without a draft. Nothing is checked.
+    pub fn from_tables(plan: Plan, cells: Vec<u8>, functions: Vec<u8>) -> Mesh {
+        Mesh { plan, cells, functions, draft: None }
+    }
+
     /// The coarsest mesh of a plan. Refuses 1 and 2.
     ///
     /// ```
@@ -96,7 +107,7 @@ impl Mesh {
         let table = |length: Option<usize>| vec![0; length.unwrap_or(0)];
         let (mut cells, mut functions) = (table(plan.cells()), table(plan.functions()));
         open(plan, &mut cells, &mut functions)?;
-        Ok(Mesh { plan, cells, functions })
+        Ok(Mesh::from_tables(plan, cells, functions))
     }
 
     /// The mesh of a file. Refuses 12, then 1, 2, 4 and 5, then 13.
@@ -118,7 +129,7 @@ impl Mesh {
         let table = |length: Option<usize>| vec![0; length.expect("a plan that is in range")];
         let (mut cells, mut functions) = (table(plan.cells()), table(plan.functions()));
         read(file, &mut cells, &mut functions)?;
-        Ok(Mesh { plan, cells, functions })
+        Ok(Mesh::from_tables(plan, cells, functions))
     }
 
     /// The file of the mesh, of at most [`MAX_FILE_BYTES`]. Refuses 1 to 6.
@@ -139,31 +150,67 @@ impl Mesh {
         count(self.plan, &self.cells, &self.functions)
     }
 
-    /// Refines by cells, as [`refine_cells`] says. Refuses 1 to 9.
+    /// Refines by cells, as [`refine_cells`] says. Refuses 1 to 6, then 18, then 7 to 9.
     pub fn refine_cells(&mut self, marks: &[Cell]) -> Result<Lists, Refusal> {
-        self.change(|plan, cells, functions, cell_list, function_list| {
-            refine_cells(plan, cells, functions, marks, cell_list, function_list)
+        self.change(|plan, (cells, functions), (draft, list), (cell_list, function_list)| {
+            refine_cells_with_draft(
+                plan,
+                cells,
+                functions,
+                *draft,
+                list,
+                marks,
+                cell_list,
+                function_list,
+            )
         })
     }
 
-    /// Refines by functions, as [`refine_functions`] says. Refuses 1 to 9.
+    /// Refines by functions, as [`refine_functions`] says. Refuses 1 to 6, then 18, then 7 to 9.
     pub fn refine_functions(&mut self, marks: &[Function]) -> Result<Lists, Refusal> {
-        self.change(|plan, cells, functions, cell_list, function_list| {
-            refine_functions(plan, cells, functions, marks, cell_list, function_list)
+        self.change(|plan, (cells, functions), (draft, list), (cell_list, function_list)| {
+            refine_functions_with_draft(
+                plan,
+                cells,
+                functions,
+                *draft,
+                list,
+                marks,
+                cell_list,
+                function_list,
+            )
         })
     }
 
-    /// Coarsens by cells, as [`coarsen_cells`] says. Refuses 1 to 8.
+    /// Coarsens by cells, as [`coarsen_cells`] says. Refuses 1 to 6, then 18, then 7 and 8.
     pub fn coarsen_cells(&mut self, marks: &[Cell]) -> Result<Lists, Refusal> {
-        self.change(|plan, cells, functions, cell_list, function_list| {
-            coarsen_cells(plan, cells, functions, marks, cell_list, function_list)
+        self.change(|plan, (cells, functions), (draft, list), (cell_list, function_list)| {
+            coarsen_cells_with_draft(
+                plan,
+                cells,
+                functions,
+                *draft,
+                list,
+                marks,
+                cell_list,
+                function_list,
+            )
         })
     }
 
-    /// Coarsens by functions, as [`coarsen_functions`] says. Refuses 1 to 8.
+    /// Coarsens by functions, as [`coarsen_functions`] says. Refuses 1 to 6, then 18, then 7 and 8.
     pub fn coarsen_functions(&mut self, marks: &[Function]) -> Result<Lists, Refusal> {
-        self.change(|plan, cells, functions, cell_list, function_list| {
-            coarsen_functions(plan, cells, functions, marks, cell_list, function_list)
+        self.change(|plan, (cells, functions), (draft, list), (cell_list, function_list)| {
+            coarsen_functions_with_draft(
+                plan,
+                cells,
+                functions,
+                *draft,
+                list,
+                marks,
+                cell_list,
+                function_list,
+            )
         })
     }
 
@@ -178,7 +225,9 @@ impl Mesh {
     }
 
     /// The first mark for which a call is refused with 7, 8 or 9: its index in the list of marks.
-    /// `None` where the call is not refused so. With heights or without, it is the same mark.
+    /// `None` where the call is not refused so. With heights or without, it is the same mark. It is
+    /// not asked whether a draft is open, and [`Mesh::add_marks`] judges its marks as
+    /// [`Call::RefineCells`] does.
     ///
     /// ```
     /// # use wallmirror::{Call, Cell, Mesh, Plan, Refusal};
@@ -193,7 +242,7 @@ impl Mesh {
     pub fn first_fault(&self, call: &Call) -> Option<usize> {
         // The marks are tried in list order, so it is the last of the shortest part of the list that
         // is refused, and every longer part is refused too: halving finds it.
-        let mut mesh = self.clone();
+        let mut mesh = Mesh::from_tables(self.plan, self.cells.clone(), self.functions.clone());
         let lengths: Vec<usize> = (0..=call.marks()).collect();
         let faultless = lengths.partition_point(|&many| !mesh.finds_fault(call, many));
         (faultless <= call.marks()).then(|| faultless - 1)
@@ -222,19 +271,22 @@ impl Mesh {
         answer.is_err_and(|refusal| of_marks.contains(&refusal))
     }
 
-    /// Refines by cells and carries the heights, as [`refine_cells_with_heights`] says. Refuses 1 to
-    /// 6; then 3 of the heights, 14, 15; then 7 to 9; then 17.
+    /// Refines by cells and carries the heights, as
+    /// [`refine_cells_with_heights`](crate::refine_cells_with_heights) says. Refuses 1 to 6; then 18;
+    /// then 3 of the heights, 14, 15; then 7 to 9; then 17.
     pub fn refine_cells_with_heights(
         &mut self,
         heights: &mut [i32],
         marks: &[Cell],
     ) -> Result<Lists, Refusal> {
-        self.change(|plan, cells, functions, cell_list, function_list| {
-            refine_cells_with_heights(
+        self.change(|plan, (cells, functions), (draft, list), (cell_list, function_list)| {
+            refine_cells_with_heights_and_draft(
                 plan,
                 cells,
                 functions,
                 heights,
+                *draft,
+                list,
                 marks,
                 cell_list,
                 function_list,
@@ -242,23 +294,57 @@ impl Mesh {
         })
     }
 
-    /// Refines by functions and carries the heights, as [`refine_functions_with_heights`] says.
-    /// Refuses likewise.
+    /// Refines by functions and carries the heights, as
+    /// [`refine_functions_with_heights`](crate::refine_functions_with_heights) says. Refuses
+    /// likewise.
     pub fn refine_functions_with_heights(
         &mut self,
         heights: &mut [i32],
         marks: &[Function],
     ) -> Result<Lists, Refusal> {
-        self.change(|plan, cells, functions, cell_list, function_list| {
-            refine_functions_with_heights(
+        self.change(|plan, (cells, functions), (draft, list), (cell_list, function_list)| {
+            refine_functions_with_heights_and_draft(
                 plan,
                 cells,
                 functions,
                 heights,
+                *draft,
+                list,
                 marks,
                 cell_list,
                 function_list,
             )
+        })
+    }
+
+    /// Opens a draft, which has no marks then, as [`draft_open`] says. Refuses 1 to 6, then 18.
+    pub fn open_draft(&mut self) -> Result<(), Refusal> {
+        self.beside_draft(0, |plan, (cells, functions), (draft, list)| {
+            draft_open(plan, cells, functions, draft, list)
+        })
+    }
+
+    /// Adds marks to the open draft, as [`draft_add`] says. Its list grows with them, so that it is
+    /// never too short. Refuses 1 to 6, then 19, then 7 to 9.
+    pub fn add_marks(&mut self, marks: &[Cell]) -> Result<(), Refusal> {
+        self.beside_draft(marks.len(), |plan, (cells, functions), (draft, list)| {
+            draft_add(plan, cells, functions, draft, list, marks)
+        })
+    }
+
+    /// Closes the open draft: refines by its marks, as [`draft_close`] says. Refuses 1 to 6, then 19,
+    /// then 7 to 9. The marks were judged when they were added, so 7 to 9 are refused only where
+    /// the mesh or the draft was written to since.
+    pub fn close_draft(&mut self) -> Result<Lists, Refusal> {
+        self.change(|plan, (cells, functions), (draft, list), (cell_list, function_list)| {
+            draft_close(plan, cells, functions, draft, list, cell_list, function_list)
+        })
+    }
+
+    /// Drops the open draft, as [`draft_drop`] says. Refuses 1 to 6, then 19.
+    pub fn drop_draft(&mut self) -> Result<(), Refusal> {
+        self.beside_draft(0, |plan, (cells, functions), (draft, list)| {
+            draft_drop(plan, cells, functions, draft, list)
         })
     }
 
@@ -267,21 +353,39 @@ impl Mesh {
         &mut self,
         call: impl FnOnce(
             Plan,
-            &mut [u8],
-            &mut [u8],
-            &mut [Cell],
-            &mut [Function],
+            (&mut [u8], &mut [u8]),
+            (&mut Draft, &[Cell]),
+            (&mut [Cell], &mut [Function]),
         ) -> Result<Changed, Refusal>,
     ) -> Result<Lists, Refusal> {
         // Longer tables are refused, so that none asks for much memory.
         let mut cell_list = vec![Cell(0); self.cells.len().min(MAX_CELLS)];
         let mut function_list = vec![Function(0); self.functions.len().min(MAX_FUNCTIONS)];
-        let (cells, functions) = (&mut self.cells[..], &mut self.functions[..]);
-        let changed = call(self.plan, cells, functions, &mut cell_list, &mut function_list)?;
+        let changed = self.beside_draft(0, |plan, tables, (draft, list)| {
+            call(plan, tables, (draft, list), (&mut cell_list, &mut function_list))
+        })?;
         Ok(Lists {
             cells: cell_list[..changed.cells].to_vec(),
             functions: function_list[..changed.functions].to_vec(),
         })
+    }
+
+    /// Lends a call the tables and the draft, with room for so many marks more in its list, and keeps
+    /// the draft that it leaves.
+    fn beside_draft<T>(
+        &mut self,
+        room: usize,
+        call: impl FnOnce(Plan, (&mut [u8], &mut [u8]), (&mut Draft, &mut [Cell])) -> Result<T, Refusal>,
+    ) -> Result<T, Refusal> {
+        let open = self.draft.is_some().into();
+        let mut list = self.draft.take().unwrap_or_default();
+        let mut draft = Draft { open, marks: list.len() };
+        list.resize(draft.marks + room, Cell(0));
+        let tables = (&mut self.cells[..], &mut self.functions[..]);
+        let answer = call(self.plan, tables, (&mut draft, &mut list));
+        list.truncate(draft.marks);
+        self.draft = (draft.open != 0).then_some(list);
+        answer
     }
 
     /// The height of the surface at a point, as [`height`] says.

@@ -8,6 +8,9 @@ use crate::{Call, Cell, Function, Lists, Mesh, Refusal};
 /// proved of the library, for every run of calls on a mesh that passes [`check`](crate::check),
 /// where nothing else writes the tables; nothing else can, since the season owns them.
 ///
+/// A [draft](crate#drafts) that was closed is one refinement by cells with all its marks, and one that was dropped leaves
+/// nothing to take back. While one is open nothing is taken back.
+///
 /// ```
 /// # use wallmirror::{Cell, Function, Mesh, Plan, Refusal, Season};
 /// let plan = Plan { columns: 3, levels: 3, admissibility_class: 2, ..Plan::default() };
@@ -19,7 +22,7 @@ use crate::{Call, Cell, Function, Lists, Mesh, Refusal};
 /// assert_eq!(season.coarsen_cells(&[Cell(0)]), Err(Refusal::MarkOfWrongKind));
 /// season.coarsen_functions(&[Function(8)])?;
 /// assert_eq!(season.calls().len(), 3);
-/// for undone in season.undo_all() {
+/// for undone in season.undo_all()? {
 ///     assert_eq!(undone.lists, undone.made.lists);
 /// }
 /// assert_eq!(season.mesh(), &march);
@@ -35,7 +38,7 @@ pub struct Season {
 /// A call that was accepted, with what it listed.
 #[derive(Clone, Debug, PartialEq, Eq, Hash)]
 pub struct Made {
-    /// A refinement with heights is kept as the one without.
+    /// A refinement with heights is kept as the one without, a closed draft as one by cells.
     pub call: Call,
     pub lists: Lists,
 }
@@ -51,10 +54,11 @@ pub struct Undone {
 }
 
 impl Season {
-    /// Begins with this mesh. Refuses 1 to 6.
-    pub fn new(first: Mesh) -> Result<Season, Refusal> {
-        first.check()?;
-        Ok(Season { mesh: first.clone(), first, calls: vec![] })
+    /// Begins with this mesh, and with its draft where one is open. Refuses 1 to 6.
+    pub fn new(mesh: Mesh) -> Result<Season, Refusal> {
+        mesh.check()?;
+        let first = Mesh::from_tables(mesh.plan, mesh.cells.clone(), mesh.functions.clone());
+        Ok(Season { first, mesh, calls: vec![] })
     }
 
     /// The mesh as it is.
@@ -62,7 +66,7 @@ impl Season {
         &self.mesh
     }
 
-    /// The mesh that the season began with.
+    /// The mesh that the season began with, without a draft.
     pub fn first(&self) -> &Mesh {
         &self.first
     }
@@ -125,22 +129,50 @@ impl Season {
         Ok(self.keep(Call::RefineFunctions(marks.to_vec()), lists))
     }
 
+    /// Opens a draft, as [`Mesh::open_draft`] does.
+    pub fn open_draft(&mut self) -> Result<(), Refusal> {
+        self.mesh.open_draft()
+    }
+
+    /// Adds marks to the open draft, as [`Mesh::add_marks`] does.
+    pub fn add_marks(&mut self, marks: &[Cell]) -> Result<(), Refusal> {
+        self.mesh.add_marks(marks)
+    }
+
+    /// Closes the open draft, as [`Mesh::close_draft`] does. It is kept, and taken back, as one
+    /// refinement by cells with all its marks.
+    pub fn close_draft(&mut self) -> Result<&Lists, Refusal> {
+        let marks = self.mesh.draft.clone().unwrap_or_default();
+        let lists = self.mesh.close_draft()?;
+        Ok(self.keep(Call::RefineCells(marks), lists))
+    }
+
+    /// Drops the open draft, as [`Mesh::drop_draft`] does. Nothing is kept of it.
+    pub fn drop_draft(&mut self) -> Result<(), Refusal> {
+        self.mesh.drop_draft()
+    }
+
     fn keep(&mut self, call: Call, lists: Lists) -> &Lists {
         self.calls.push(Made { call, lists });
         &self.calls[self.calls.len() - 1].lists
     }
 
-    /// Takes the last call back, if there is one. The opposite call is never refused, as is proved; if
-    /// it were, this would panic.
-    pub fn undo(&mut self) -> Option<Undone> {
-        let made = self.calls.pop()?;
+    /// Takes the last call back, if there is one. Refuses 18 while a draft is open, and then nothing
+    /// changes: its marks are not lost. The opposite call is never refused, as is proved; if it were,
+    /// this would panic.
+    pub fn undo(&mut self) -> Result<Option<Undone>, Refusal> {
+        if self.mesh.draft.is_some() {
+            return Err(Refusal::DraftOpen);
+        }
+        let Some(made) = self.calls.pop() else { return Ok(None) };
         let opposite = made.call.opposite(&made.lists.cells);
         let lists = self.mesh.make(&opposite).expect("an opposite call is accepted");
-        Some(Undone { made, opposite, lists })
+        Ok(Some(Undone { made, opposite, lists }))
     }
 
-    /// Takes all calls back, the last one first, as they come in the answer.
-    pub fn undo_all(&mut self) -> Vec<Undone> {
-        std::iter::from_fn(|| self.undo()).collect()
+    /// Takes all calls back, the last one first, as they come in the answer. Refuses 18 as
+    /// [`Season::undo`] does.
+    pub fn undo_all(&mut self) -> Result<Vec<Undone>, Refusal> {
+        std::iter::from_fn(|| self.undo().transpose()).collect()
     }
 }
