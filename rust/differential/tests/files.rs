@@ -1042,7 +1042,7 @@ fn meshes_of_random_runs() {
 /// A mesh of the wrapper with these tables.
 fn owned(tables: &Tables) -> Mesh {
     let Tables { plan, cells, functions } = tables.clone();
-    Mesh { plan: of_wrapper(plan), cells, functions }
+    Mesh::from_tables(of_wrapper(plan), cells, functions)
 }
 
 fn owned_round_trip(tables: &Tables) {
@@ -1074,7 +1074,7 @@ fn forms_of_the_wrapper() {
     }
     let mut tables = owned(&mesh(W0, &[0]));
     let mut file = [9; 9];
-    let Mesh { plan, cells, functions } = &tables;
+    let Mesh { plan, cells, functions, .. } = &tables;
     assert_eq!(wallmirror::write(*plan, cells, functions, &mut file), Ok(8));
     assert_eq!(file, [3, 1, 3, 1, 1, 0, 1, 0, 9]);
     let refused = wallmirror::write(*plan, cells, functions, &mut file[..7]);

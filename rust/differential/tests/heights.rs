@@ -852,12 +852,12 @@ fn the_largest_meshes() {
 fn forms_of_the_wrapper() {
     let owned = |tables: &Tables| {
         let Tables { plan, cells, functions } = tables.clone();
-        Mesh { plan: of_wrapper(plan), cells, functions }
+        Mesh::from_tables(of_wrapper(plan), cells, functions)
     };
     let both = |tables: &Tables, heights: &[i32], across, up| {
         let mesh = owned(tables);
         let answered = mesh.height(heights, across, up);
-        let Mesh { plan, cells, functions } = &mesh;
+        let Mesh { plan, cells, functions, .. } = &mesh;
         let lent = wallmirror::height(*plan, cells, functions, heights, across, up);
         assert_eq!(lent, answered);
         let number = answered.map_err(Refusal::number);

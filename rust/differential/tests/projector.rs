@@ -738,7 +738,7 @@ fn every_start_of_the_output() {
     let expected = row.expected().1.concat();
     for start in 0..8 {
         let mut buffer = vec![0.5; 8 + expected.len() + 8];
-        let Mesh { plan, cells, functions } = &mesh;
+        let Mesh { plan, cells, functions, .. } = &mesh;
         let out = &mut buffer[start..];
         let answered = wallmirror::corners(*plan, cells, functions, &row.heights(&tables), out);
         assert_eq!(answered, Ok(expected.len() / 3));
@@ -945,7 +945,7 @@ fn corners_of_the_model() {
 
 fn owned(tables: &Tables) -> Mesh {
     let Tables { plan, cells, functions } = tables.clone();
-    Mesh { plan: of_wrapper(plan), cells, functions }
+    Mesh::from_tables(of_wrapper(plan), cells, functions)
 }
 
 /// The wrapper says what the call says.
@@ -953,7 +953,7 @@ fn owned(tables: &Tables) -> Mesh {
 fn forms_of_the_wrapper() {
     let both = |tables: &Tables, heights: &[i32]| {
         let mesh = owned(tables);
-        let Mesh { plan, cells, functions } = &mesh;
+        let Mesh { plan, cells, functions, .. } = &mesh;
         let answered = mesh.corners(heights);
         let mut out = vec![0.25; MAX_CORNER_DOUBLES];
         let lent = wallmirror::corners(*plan, cells, functions, heights, &mut out);

@@ -20,7 +20,7 @@ use Kind::*;
 
 fn owned(tables: &Tables) -> Mesh {
     let Tables { plan, cells, functions } = tables.clone();
-    Mesh { plan: of_wrapper(plan), cells, functions }
+    Mesh::from_tables(of_wrapper(plan), cells, functions)
 }
 
 fn as_cells(numbers: &[u32]) -> Vec<Cell> {
@@ -175,7 +175,7 @@ impl Run {
 
     /// Takes the last call back: in the season, and elsewhere by its kept cells.
     fn undo(&mut self) {
-        let undone = self.season.undo();
+        let undone = self.season.undo().expect("no draft");
         let Some(made) = self.made.pop() else {
             assert_eq!(undone, None);
             return;
@@ -198,7 +198,7 @@ impl Run {
     /// Takes one call back, then the others at once, and comes to the first mesh.
     fn undo_all(mut self) {
         self.undo();
-        let undone = self.season.undo_all();
+        let undone = self.season.undo_all().expect("no draft");
         assert_eq!(undone.len(), self.made.len());
         for undone in undone {
             let made = self.made.pop().expect("a call to take back");
@@ -206,7 +206,7 @@ impl Run {
         }
         self.expect_same();
         self.undo();
-        assert_eq!(self.season.undo_all(), []);
+        assert_eq!(self.season.undo_all(), Ok(vec![]));
         assert_eq!(self.season.mesh().to_file(), Ok(Tables::file(&self.tables)));
         assert_eq!(self.season.mesh().to_file(), self.first.to_file());
         assert!(self.season.into_mesh() == self.first);
@@ -355,7 +355,7 @@ fn seasons_of_the_largest_are_taken_back() {
 fn expect_undone(mut season: Season, first: &Mesh) {
     let made = season.calls().to_vec();
     assert!(made.iter().any(|made| made.lists.cells.len() > 1000));
-    let undone = season.undo_all();
+    let undone = season.undo_all().expect("no draft");
     assert_eq!(undone.len(), made.len());
     for (undone, made) in undone.iter().zip(made.iter().rev()) {
         assert!(undone.made == *made && undone.lists == made.lists);

@@ -217,7 +217,8 @@ impl Journal {
         if count == 0 || count > self.season.calls().len() {
             return None;
         }
-        let undone = (0..count).map_while(|_| self.season.undo()).collect();
+        let undo = |_| self.season.undo().expect("a journal opens no draft");
+        let undone = (0..count).map_while(undo).collect();
         self.numbers.truncate(self.season.calls().len());
         self.add(Entry::Back(count));
         Some(undone)

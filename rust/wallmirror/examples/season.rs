@@ -29,7 +29,7 @@ fn run() -> Result<(), Refusal> {
     }
     println!("the file now: {:?}", season.mesh().to_file()?);
     println!("{} calls are taken back", season.calls().len());
-    while let Some(undone) = season.undo() {
+    while let Some(undone) = season.undo()? {
         assert_eq!(undone.lists, undone.made.lists);
         println!("{}: {}", said(&undone.opposite), listed(&undone.lists));
     }

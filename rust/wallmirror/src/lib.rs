@@ -180,10 +180,10 @@
 //! let mut season = Season::new(first.clone())?;
 //! season.refine_functions(&[Function(1)])?;
 //! season.coarsen_cells(&[Cell(1)])?;
-//! let undone = season.undo().unwrap();
+//! let undone = season.undo()?.unwrap();
 //! assert_eq!(undone.opposite, Call::RefineCells(vec![Cell(1)]));
 //! assert_eq!(undone.lists, undone.made.lists);
-//! season.undo_all();
+//! season.undo_all()?;
 //! assert_eq!(season.mesh(), &first);
 //! # Ok::<(), wallmirror::Refusal>(())
 //! ```
