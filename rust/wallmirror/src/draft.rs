@@ -8,9 +8,9 @@ use crate::{
     Plan, ReadRefusal, Refusal,
 };
 
-/// A draft: whether it is open, and how many marks it has. The marks are the first entries of a
+/// A draft: whether it is open, and how many marks it has. The marks are the first entries of the
 /// list that is lent beside it. Any numbers may stand in it. How it is used is said
-/// [above](crate#drafts).
+/// [here](crate#drafts).
 #[repr(C)]
 #[derive(Clone, Copy, Debug, Default, PartialEq, Eq, Hash)]
 pub struct Draft {
@@ -43,7 +43,21 @@ impl Draft {
     }
 }
 
-/// Opens a draft, which has no marks then. No table changes. Refuses 1 to 6, then 18.
+/// Opens a draft, which has no marks then. No table changes, and the list keeps its values. Refuses
+/// 1 to 6, then 18.
+///
+/// ```
+/// # use wallmirror::{draft_open, open, Cell, Draft, Plan, Refusal};
+/// # let plan = Plan { columns: 3, levels: 3, ..Plan::default() };
+/// # let (mut cells, mut functions) = (vec![0; 63], vec![0; 94]);
+/// open(plan, &mut cells, &mut functions)?;
+/// let (mut draft, list) = (Draft::NONE, [Cell(9); 3]);
+/// draft_open(plan, &cells, &functions, &mut draft, &list)?;
+/// assert_eq!(draft.marks(&list), Some(&[][..]));
+/// let second = draft_open(plan, &cells, &functions, &mut draft, &list);
+/// assert_eq!(second, Err(Refusal::DraftOpen));
+/// # Ok::<(), Refusal>(())
+/// ```
 pub fn draft_open(
     plan: Plan,
     cells: &[u8],
@@ -118,7 +132,29 @@ pub fn draft_add(
 
 /// Closes an open draft: [`refine_cells`](crate::refine_cells) with its marks, with the same tables,
 /// lists and answer. No draft is open then. Refuses 1 to 6; then 19; then 7 to 11. After a refusal
-/// the draft is still open and has its marks.
+/// the draft is what it was.
+///
+/// ```
+/// # use wallmirror::{draft_close, open, Cell, Changed, Draft, Function, Plan, Refusal};
+/// # let plan = Plan { columns: 3, levels: 3, ..Plan::default() };
+/// # let (mut cells, mut functions) = (vec![0; 63], vec![0; 94]);
+/// # open(plan, &mut cells, &mut functions)?;
+/// # let (cells, functions) = (&mut cells[..], &mut functions[..]);
+/// let (mut draft, list) = (Draft { open: 1, marks: 2 }, [2, 0, 9].map(Cell));
+/// let (mut cell_list, mut function_list) = ([Cell(9); 2], [Function(9); 4]);
+/// // Two cells become refined, so a list with one entry is too short.
+/// let short = &mut cell_list[..1];
+/// let refused =
+///     draft_close(plan, cells, functions, &mut draft, &list, short, &mut function_list);
+/// assert_eq!(refused, Err(Refusal::CellListTooShort));
+/// assert_eq!(draft.marks(&list), Some(&[Cell(2), Cell(0)][..]));
+/// let closed =
+///     draft_close(plan, cells, functions, &mut draft, &list, &mut cell_list, &mut function_list)?;
+/// assert_eq!(closed, Changed { cells: 2, functions: 4 });
+/// assert_eq!(cell_list, [Cell(0), Cell(2)]);
+/// assert_eq!(draft, Draft::NONE);
+/// # Ok::<(), Refusal>(())
+/// ```
 pub fn draft_close(
     plan: Plan,
     cells: &mut [u8],
@@ -182,8 +218,8 @@ fn drafted(answer: ffi::Drafted, draft: &mut Draft) -> Result<(), Refusal> {
     accepted(answer.number)
 }
 
-/// As [`refine_cells`](crate::refine_cells), and refuses 18, directly after 6, while the draft is
-/// open.
+/// As [`refine_cells`](crate::refine_cells), for a program that keeps a draft: refuses 18, directly
+/// after 6, while it is open. The draft stays as it is.
 pub fn refine_cells_with_draft(
     plan: Plan,
     cells: &mut [u8],
@@ -277,8 +313,9 @@ fn change_with_draft(
     })
 }
 
-/// As [`refine_cells_with_heights`](crate::refine_cells_with_heights), and refuses 18, directly
-/// after 6 and before anything of the heights, while the draft is open.
+/// As [`refine_cells_with_heights`](crate::refine_cells_with_heights), for a program that keeps a
+/// draft: refuses 18, directly after 6 and so before 3 of the heights, 14 and 15, while it is open.
+/// The draft stays as it is.
 pub fn refine_cells_with_heights_and_draft(
     plan: Plan,
     cells: &mut [u8],
@@ -348,8 +385,8 @@ fn change_with_heights_and_draft(
     })
 }
 
-/// As [`open`](crate::open). Accepted, it drops the draft, which goes with the mesh that was there;
-/// refused, it leaves it. The list of the draft does not matter.
+/// As [`open`](crate::open), for a program that keeps a draft. Accepted, it drops the draft, since
+/// the mesh that it was for is gone; refused, it leaves it. The list of the draft does not matter.
 pub fn open_with_draft(
     plan: Plan,
     cells: &mut [u8],
@@ -370,8 +407,22 @@ pub fn open_with_draft(
     drafted(answer, draft)
 }
 
-/// As [`read`](crate::read). Accepted, it drops the draft; refused, it leaves it, as
-/// [`open_with_draft`] does.
+/// As [`read`](crate::read), for a program that keeps a draft, and of the draft as
+/// [`open_with_draft`].
+///
+/// ```
+/// # use wallmirror::{read_with_draft, Draft};
+/// let open = Draft { open: 1, marks: 2 };
+/// let mut draft = open;
+/// let file = [3, 1, 3, 1, 1, 0, 2, 0, 1];
+/// let unread = read_with_draft(&file, &mut [], &mut [], &mut draft).unwrap_err();
+/// assert_eq!(draft, open);
+/// let plan = unread.plan.expect("a plan that is in range");
+/// let mut cells = vec![0; plan.cells().unwrap()];
+/// let mut functions = vec![0; plan.functions().unwrap()];
+/// assert_eq!(read_with_draft(&file, &mut cells, &mut functions, &mut draft), Ok(plan));
+/// assert_eq!(draft, Draft::NONE);
+/// ```
 pub fn read_with_draft(
     file: &[u8],
     cells: &mut [u8],

@@ -3,8 +3,9 @@
 //! A mesh is a plan and two tables of bytes: one byte for each cell of each level (0 absent, 1
 //! active, 2 refined) and one for each function of each level (0 passive, 1 active, 2 deactivated).
 //! A [`Mesh`] owns its tables and has the calls; a [`Season`] keeps the calls that were made on a
-//! mesh and takes them back. Every call takes any plan, tables, marks, file, heights and point; what
-//! it cannot serve it refuses with a [`Refusal`], and then everything holds what it held before.
+//! mesh and takes them back. Every call takes any plan, tables, marks, draft, file, heights and
+//! point; what it cannot serve it refuses with a [`Refusal`], and then everything holds what it held
+//! before.
 //!
 //! In the words of the scope document a mesh is a wall, refining and coarsening are splitting and
 //! joining, admissible of class m is graded, and reactivable is joinable.
@@ -171,7 +172,9 @@
 //! functions as the call it takes back, and both tables end as they began. A refused call has
 //! changed nothing and counts as one with empty lists: no marks at all, which is accepted. What is
 //! asked is that the first mesh passes [`check`], that nothing else writes the tables, and of lent
-//! lists that they are at least as long as the kept ones. A [`Season`] sees to all of it.
+//! lists that they are at least as long as the kept ones. To the walk back a closed draft is one
+//! refinement by cells, with the lists that closing wrote, and the other calls on a draft leave
+//! nothing to take back. The walk begins with no draft open. A [`Season`] sees to all of it.
 //!
 //! ```
 //! # use wallmirror::{Call, Cell, Function, Mesh, Plan, Season};
@@ -192,6 +195,60 @@
 //! by its function lists, from the last to the first, each given to [`coarsen_functions`]. This
 //! holds where on the first mesh each refined cell lies in the support of a deactivated function of
 //! its own level, as on a mesh just opened.
+//!
+//! # Drafts
+//!
+//! A draft collects marks of cells over many calls and then refines by all of them at once. A
+//! [`Mesh`] and a [`Season`] have one: [`open_draft`](Mesh::open_draft) opens it,
+//! [`add_marks`](Mesh::add_marks) adds marks, [`close_draft`](Mesh::close_draft) refines by all of
+//! them and [`drop_draft`](Mesh::drop_draft) gives it up. Each mark is judged against the mesh when
+//! it is added, as [`refine_cells`] judges it, and a refused call adds none of its marks. A mark may
+//! be added again. Closing has the effect, lists and refusals of one [`refine_cells`] with all marks,
+//! and after a refusal the draft is still open. Only closing changes the tables. So the calls that
+//! only read them may be made while a draft is open, and show the mesh without it.
+//!
+//! While a draft is open, refining, coarsening and opening a second one are refused with 18,
+//! directly after 6 and before anything of the heights. While none is open, adding, closing and
+//! dropping are refused with 19, after 6.
+//!
+//! ```
+//! # use wallmirror::{Call, Cell, Function, Mesh, Plan, Refusal, Season};
+//! # let plan = Plan { columns: 3, levels: 3, admissibility_class: 2, ..Plan::default() };
+//! let mut season = Season::new(Mesh::open(plan)?)?;
+//! season.refine_cells(&[Cell(0)])?;
+//! season.open_draft()?;
+//! season.add_marks(&[Cell(3)])?; // one setter
+//! season.add_marks(&[Cell(2), Cell(3)])?; // another one
+//! // Cell 5 is absent, so cell 4 is not added either.
+//! assert_eq!(season.add_marks(&[Cell(4), Cell(5)]), Err(Refusal::MarkOfWrongKind));
+//! assert_eq!(season.mesh().draft, Some([3, 2, 3].map(Cell).to_vec()));
+//! // Meanwhile the mesh is the one without the draft, and nothing else refines it.
+//! assert_eq!(season.mesh().count()?.refined_cells, 1);
+//! assert_eq!(season.refine_cells(&[Cell(1)]), Err(Refusal::DraftOpen));
+//! assert_eq!(season.undo(), Err(Refusal::DraftOpen));
+//! // Cell 1 becomes refined too, because the mesh has to stay admissible.
+//! assert_eq!(season.close_draft()?.cells, [1, 2, 3].map(Cell));
+//! assert_eq!(season.mesh().draft, None);
+//! assert_eq!(season.close_draft(), Err(Refusal::NoDraft));
+//! // It is one refinement, and is taken back as one.
+//! let undone = season.undo()?.unwrap();
+//! assert_eq!(undone.made.call, Call::RefineCells([3, 2, 3].map(Cell).to_vec()));
+//! assert_eq!(undone.opposite, Call::CoarsenCells([1, 2, 3].map(Cell).to_vec()));
+//! assert_eq!(season.mesh().count()?.refined_cells, 1);
+//! # Ok::<(), wallmirror::Refusal>(())
+//! ```
+//!
+//! With lent slices a draft is a [`Draft`] beside a list of marks, and both are the caller's: it
+//! begins as [`Draft::NONE`], and the calls are [`draft_open`], [`draft_add`], [`draft_close`] and
+//! [`draft_drop`]. The list bounds it: a repeat takes an entry too, and more marks than the list has
+//! room for are refused with 10, after 7 to 9. A draft with more marks than its list has entries
+//! counts as not open.
+//!
+//! The calls that change the tables have a form with a draft, as [`refine_cells_with_draft`] and
+//! [`open_with_draft`]. A program that never keeps a draft takes the forms without: they are the
+//! forms with a draft of which none is open. A program that keeps one takes the forms with it
+//! everywhere, so that nothing changes the mesh under an open draft. What only reads the tables takes
+//! no draft. A [`Mesh`] takes the forms with its own.
 //!
 //! # Files
 //!
@@ -345,6 +402,7 @@
 //! | cells on all levels together | at most [`MAX_CELLS`] |
 //! | functions of such a plan | at most [`MAX_FUNCTIONS`] |
 //! | marks of a call | any number |
+//! | marks of a draft | as many as its list has entries |
 //! | file of a mesh | at most [`MAX_FILE_BYTES`] |
 //! | plan of [`height`] | degrees 1 and 2, at most four levels; the same of refining with heights |
 //! | height of an active function | at most [`MAX_HEIGHT_MM`] either way, before and after |
@@ -743,7 +801,8 @@ pub struct Changed {
     pub functions: usize,
 }
 
-/// Makes both tables the coarsest mesh of the plan, whatever they held. Refuses 1 to 3.
+/// Makes both tables the coarsest mesh of the plan, whatever they held. Refuses 1 to 3. For a
+/// program that keeps a draft there is [`open_with_draft`].
 pub fn open(plan: Plan, cells: &mut [u8], functions: &mut [u8]) -> Result<(), Refusal> {
     // SAFETY: pointers and lengths are those of two slices, which cannot overlap.
     accepted(unsafe {
@@ -817,7 +876,8 @@ pub fn count(plan: Plan, cells: &[u8], functions: &[u8]) -> Result<Count, Refusa
 /// becomes the smallest admissible one with the old refined cells and the marked ones. Lists the
 /// cells that became refined and the functions that became deactivated, each in rising order.
 /// Entries past the answered lengths keep their values. How many cells become refined at most, and
-/// where, is said [above](crate#what-a-mark-can-cost). Refuses 1 to 11.
+/// where, is said [above](crate#what-a-mark-can-cost). Refuses 1 to 11. It asks for no draft; a
+/// program that keeps one takes [`refine_cells_with_draft`].
 pub fn refine_cells(
     plan: Plan,
     cells: &mut [u8],
@@ -831,7 +891,7 @@ pub fn refine_cells(
 }
 
 /// Refines the active cells of its level in the support of each marked function, which is to be
-/// active. Otherwise as [`refine_cells`].
+/// active. Otherwise as [`refine_cells`]. With a draft: [`refine_functions_with_draft`].
 pub fn refine_functions(
     plan: Plan,
     cells: &mut [u8],
@@ -856,7 +916,7 @@ pub fn refine_functions(
 /// mesh becomes the smallest admissible one with the old refined cells that are not marked, so a
 /// marked cell that the others need stays refined. Lists the cells that ceased to be refined and
 /// the functions that ceased to be deactivated, each in rising order. Entries past the answered
-/// lengths keep their values. Refuses 1 to 8, 10 and 11.
+/// lengths keep their values. Refuses 1 to 8, 10 and 11. With a draft: [`coarsen_cells_with_draft`].
 pub fn coarsen_cells(
     plan: Plan,
     cells: &mut [u8],
@@ -871,7 +931,8 @@ pub fn coarsen_cells(
 
 /// Coarsens the reactivable cells that lie in the support of a marked function and of no unmarked
 /// deactivated one of the same level. Marks are deactivated functions with a reactivable cell of
-/// their own level in their support. Otherwise as [`coarsen_cells`].
+/// their own level in their support. Otherwise as [`coarsen_cells`]. With a draft:
+/// [`coarsen_functions_with_draft`].
 pub fn coarsen_functions(
     plan: Plan,
     cells: &mut [u8],
@@ -929,7 +990,8 @@ fn changed(answer: ffi::Answer) -> Result<Changed, Refusal> {
 /// carried is said [above](crate#heights-that-are-kept). Tables, lists and answer are those of the
 /// call without heights; functions that are not active then have a height of 0. Refuses 1 to 6; then
 /// 3 where there is not one height for each function; then 14; then 15, for the heights; then 7 to
-/// 11; then 17. After a refusal the heights too are what they were.
+/// 11; then 17. After a refusal the heights too are what they were. With a draft:
+/// [`refine_cells_with_heights_and_draft`].
 ///
 /// ```
 /// # use wallmirror::{open, refine_cells_with_heights, Cell, Function, Plan, Refusal};
@@ -970,7 +1032,8 @@ pub fn refine_cells_with_heights(
     change_with_heights(call, plan, tables, heights, cell_numbers(marks), lists)
 }
 
-/// As [`refine_functions`], and the heights are carried, as [`refine_cells_with_heights`] says.
+/// As [`refine_functions`], and the heights are carried, as [`refine_cells_with_heights`] says. With a
+/// draft: [`refine_functions_with_heights_and_draft`].
 pub fn refine_functions_with_heights(
     plan: Plan,
     cells: &mut [u8],
@@ -1020,7 +1083,8 @@ fn change_with_heights(
 /// refined; then 13. A mesh that was read passes [`check`], and its file is the one that was read.
 ///
 /// A file of unknown plan is read twice, as [`Mesh::from_file`] does: with empty tables, which is
-/// refused with the plan, and with tables of that plan.
+/// refused with the plan, and with tables of that plan. For a program that keeps a draft there is
+/// [`read_with_draft`].
 ///
 /// ```
 /// # use wallmirror::{read, ReadRefusal, Refusal};

@@ -37,6 +37,9 @@ pub struct Mesh {
     pub draft: Option<Vec<Cell>>,
 }
 
+/// Both tables, as they are lent.
+type Tables<'a> = (&'a mut [u8], &'a mut [u8]);
+
 /// The two lists of a call, in rising order.
 #[derive(Clone, Debug, Default, PartialEq, Eq, Hash)]
 pub struct Lists {
@@ -353,7 +356,7 @@ impl Mesh {
         &mut self,
         call: impl FnOnce(
             Plan,
-            (&mut [u8], &mut [u8]),
+            Tables,
             (&mut Draft, &[Cell]),
             (&mut [Cell], &mut [Function]),
         ) -> Result<Changed, Refusal>,
@@ -375,7 +378,7 @@ impl Mesh {
     fn beside_draft<T>(
         &mut self,
         room: usize,
-        call: impl FnOnce(Plan, (&mut [u8], &mut [u8]), (&mut Draft, &mut [Cell])) -> Result<T, Refusal>,
+        call: impl FnOnce(Plan, Tables, (&mut Draft, &mut [Cell])) -> Result<T, Refusal>,
     ) -> Result<T, Refusal> {
         let open = self.draft.is_some().into();
         let mut list = self.draft.take().unwrap_or_default();

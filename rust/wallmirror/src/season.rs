@@ -8,8 +8,8 @@ use crate::{Call, Cell, Function, Lists, Mesh, Refusal};
 /// proved of the library, for every run of calls on a mesh that passes [`check`](crate::check),
 /// where nothing else writes the tables; nothing else can, since the season owns them.
 ///
-/// A [draft](crate#drafts) that was closed is one refinement by cells with all its marks, and one that was dropped leaves
-/// nothing to take back. While one is open nothing is taken back.
+/// A [draft](crate#drafts) that was closed is one refinement by cells with all its marks, and one
+/// that was dropped leaves nothing to take back. While one is open no call is taken back.
 ///
 /// ```
 /// # use wallmirror::{Cell, Function, Mesh, Plan, Refusal, Season};
