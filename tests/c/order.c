@@ -1,10 +1,11 @@
 /*
  * The order in which a call writes, watched by the machine: in an accepted call no cell byte and no
  * entry of the cell list is written after the first function byte, and a refused call writes not a
- * byte, also none of the heights. Tables, lists and heights lie on pages of their own. While a call
- * runs, the functions and their list may only be read; at its first write to them they are opened,
- * and the cells and their list are shut. The heights are open where the call is to be accepted and
- * has them. The output is to be that of order.expected.
+ * byte, also none of the heights. It is the same with the forms with a draft, of which none is open
+ * or one is, and with closing a draft. Tables, lists and heights lie on pages of their own. While a
+ * call runs, the functions and their list may only be read; at its first write to them they are
+ * opened, and the cells and their list are shut. The heights are open where the call is to be
+ * accepted and has them. The output is to be that of order.expected.
  */
 #ifndef _GNU_SOURCE
 #define _GNU_SOURCE
@@ -18,7 +19,7 @@
 #include "wallmirror.h"
 
 #define MARKS 6
-#define CALLS 150 /* for each plan */
+#define CALLS 300 /* for each plan */
 
 typedef WallmirrorAnswer (*Call)(WallmirrorPlan, uint8_t *, size_t, uint8_t *, size_t,
                                  const uint32_t *, size_t, uint32_t *, size_t, uint32_t *, size_t);
@@ -38,8 +39,10 @@ static struct lent watched;                   /* on pages of their own */
 static size_t cell_pages, function_pages;     /* bytes of one table's pages; its list has more */
 static size_t cell_entries, function_entries; /* T, F */
 static int32_t *lent_heights;                 /* of the call that runs */
+static int has_open_draft;                    /* the call that runs */
 static volatile sig_atomic_t opened, late;
-static unsigned long accepted, with_heights, refused, tens, elevens, seventeens, wrong;
+static unsigned long accepted, with_heights, beside_draft, closed, refused, wrong;
+static unsigned long refused_with[WALLMIRROR_NO_DRAFT + 1];
 
 static WallmirrorAnswer refine_cells(WallmirrorPlan plan, uint8_t *c, size_t cl, uint8_t *f,
                                      size_t fl, const uint32_t *marks, size_t n, uint32_t *list,
@@ -58,12 +61,58 @@ static WallmirrorAnswer refine_functions(WallmirrorPlan plan, uint8_t *c, size_t
                                                     list, room, other, other_room);
 }
 
-/* those by cells have even numbers; the last two are with heights */
-enum { COARSEN = 2, WITH_HEIGHTS = 4, KINDS = 6 };
+static WallmirrorDraft lent_draft(size_t marks)
+{
+    WallmirrorDraft draft;
+    draft.open = has_open_draft ? 1 : 0;
+    draft.marks = marks;
+    return draft;
+}
 
-static const Call calls[KINDS] = {wallmirror_refine_cells, wallmirror_refine_functions,
-                                  wallmirror_coarsen_cells, wallmirror_coarsen_functions,
-                                  refine_cells, refine_functions};
+/* a call beside a draft with two marks; what stands before the draft is its heights, or nothing */
+#define BESIDE(name, call, ...) \
+    static WallmirrorAnswer name(WallmirrorPlan plan, uint8_t *c, size_t cl, uint8_t *f, \
+                                 size_t fl, const uint32_t *marks, size_t n, uint32_t *list, \
+                                 size_t room, uint32_t *other, size_t other_room) \
+    { \
+        static const uint32_t drafted[2] = {0, 1}; \
+        return call(plan, c, cl, f, fl, __VA_ARGS__, drafted, 2, marks, n, list, room, other, \
+                    other_room); \
+    }
+
+BESIDE(refine_cells_beside, wallmirror_refine_cells_with_draft, lent_draft(2))
+BESIDE(refine_functions_beside, wallmirror_refine_functions_with_draft, lent_draft(2))
+BESIDE(coarsen_cells_beside, wallmirror_coarsen_cells_with_draft, lent_draft(2))
+BESIDE(coarsen_functions_beside, wallmirror_coarsen_functions_with_draft, lent_draft(2))
+BESIDE(carry_cells_beside, wallmirror_refine_cells_with_heights_and_draft, lent_heights, fl,
+       lent_draft(2))
+BESIDE(carry_functions_beside, wallmirror_refine_functions_with_heights_and_draft, lent_heights, fl,
+       lent_draft(2))
+
+/* The marks are those of the draft. Closed, it is no draft; otherwise it is what it was. */
+static WallmirrorAnswer close_draft(WallmirrorPlan plan, uint8_t *c, size_t cl, uint8_t *f,
+                                    size_t fl, const uint32_t *marks, size_t n, uint32_t *list,
+                                    size_t room, uint32_t *other, size_t other_room)
+{
+    WallmirrorDraft draft = lent_draft(n);
+    WallmirrorClosed answer = wallmirror_draft_close(plan, c, cl, f, fl, draft, marks, n, list,
+                                                     room, other, other_room);
+    if (answer.answer.number == WALLMIRROR_ACCEPTED)
+        draft.open = 0, draft.marks = 0;
+    if (answer.draft.open != draft.open || answer.draft.marks != draft.marks)
+        wrong++;
+    return answer.answer;
+}
+
+/* Those by cells have even numbers. FORMS without a draft, of which the last two are with heights,
+ * and as many with a draft; and closing one, which is as the first. */
+enum { COARSEN = 2, WITH_HEIGHTS = 4, FORMS = 6, CLOSE = 12, KINDS = 13 };
+
+static const Call calls[KINDS] = {
+    wallmirror_refine_cells, wallmirror_refine_functions, wallmirror_coarsen_cells,
+    wallmirror_coarsen_functions, refine_cells, refine_functions, refine_cells_beside,
+    refine_functions_beside, coarsen_cells_beside, coarsen_functions_beside, carry_cells_beside,
+    carry_functions_beside, close_draft};
 
 /* the same numbers on every machine */
 static uint32_t random_below(uint32_t n)
@@ -121,16 +170,16 @@ static void on_write(int number, siginfo_t *info, void *context)
     }
 }
 
-static WallmirrorAnswer run(Call call, WallmirrorPlan plan, const struct lent *lent,
+static WallmirrorAnswer run(unsigned kind, WallmirrorPlan plan, const struct lent *lent,
                             const uint32_t *marks, size_t n, size_t cell_room, size_t function_room)
 {
     lent_heights = lent->heights;
-    return call(plan, lent->cells, cell_entries, lent->functions, function_entries, marks, n,
-                lent->cell_list, cell_room, lent->function_list, function_room);
+    return calls[kind](plan, lent->cells, cell_entries, lent->functions, function_entries, marks, n,
+                       lent->cell_list, cell_room, lent->function_list, function_room);
 }
 
 /* Runs a call that is to be refused with the number, where nothing may be written. */
-static void try_refused(Call call, WallmirrorPlan plan, const uint32_t *marks, size_t n,
+static void try_refused(unsigned kind, WallmirrorPlan plan, const uint32_t *marks, size_t n,
                         size_t cell_room, size_t function_room, uint32_t number)
 {
     WallmirrorAnswer answer;
@@ -138,29 +187,27 @@ static void try_refused(Call call, WallmirrorPlan plan, const uint32_t *marks, s
     allow_cells(PROT_READ);
     allow_functions(PROT_READ);
     allow_heights(PROT_READ);
-    answer = run(call, plan, &watched, marks, n, cell_room, function_room);
+    answer = run(kind, plan, &watched, marks, n, cell_room, function_room);
     if (answer.number != number || answer.cells != 0 || answer.functions != 0 || opened || late)
         wrong++;
     refused++;
-    tens += number == WALLMIRROR_CELL_LIST_TOO_SHORT;
-    elevens += number == WALLMIRROR_FUNCTION_LIST_TOO_SHORT;
-    seventeens += number == WALLMIRROR_CARRIED_HEIGHT_OUT_OF_RANGE;
+    refused_with[number]++;
     allow_cells(PROT_READ | PROT_WRITE);
     allow_functions(PROT_READ | PROT_WRITE);
     allow_heights(PROT_READ | PROT_WRITE);
 }
 
 /* Runs a call that is to be accepted, and watches where it writes. */
-static void try_accepted(Call call, WallmirrorPlan plan, const uint32_t *marks, size_t n,
+static void try_accepted(unsigned kind, WallmirrorPlan plan, const uint32_t *marks, size_t n,
                          size_t cell_room, size_t function_room)
 {
-    int has_heights = call == calls[WITH_HEIGHTS] || call == calls[WITH_HEIGHTS + 1];
+    int has_heights = kind % FORMS >= WITH_HEIGHTS;
     WallmirrorAnswer answer;
     opened = late = 0;
     allow_functions(PROT_READ);
     if (!has_heights)
         allow_heights(PROT_READ);
-    answer = run(call, plan, &watched, marks, n, cell_room, function_room);
+    answer = run(kind, plan, &watched, marks, n, cell_room, function_room);
     allow_cells(PROT_READ | PROT_WRITE);
     allow_functions(PROT_READ | PROT_WRITE);
     allow_heights(PROT_READ | PROT_WRITE);
@@ -173,6 +220,8 @@ static void try_accepted(Call call, WallmirrorPlan plan, const uint32_t *marks, 
         wrong++;
     accepted++;
     with_heights += has_heights;
+    beside_draft += kind >= FORMS && kind < CLOSE;
+    closed += kind == CLOSE;
 }
 
 /* Numbers of the table with the byte, or now and then any number. */
@@ -206,15 +255,31 @@ static int takes_heights(WallmirrorPlan plan)
     return plan.levels <= 4 && plan.degree_across <= 2 && plan.degree_up <= 2;
 }
 
+static unsigned choose_kind(WallmirrorPlan plan)
+{
+    unsigned kind;
+    do
+        kind = (unsigned)random_below(KINDS);
+    while (kind % FORMS >= WITH_HEIGHTS && !takes_heights(plan));
+    return kind;
+}
+
+/* A call with a draft that is in its way, or to be closed and not open. */
+static void try_draft(unsigned kind, WallmirrorPlan plan, const uint32_t *marks, size_t n)
+{
+    has_open_draft = kind != CLOSE;
+    try_refused(kind, plan, marks, n, cell_entries, function_entries,
+                kind == CLOSE ? WALLMIRROR_NO_DRAFT : WALLMIRROR_DRAFT_OPEN);
+}
+
 /* One call on plain copies, to know what it answers; then watched, with lists that are too short
  * and with lists that are just long enough, or as long as the tables. */
 static void step(WallmirrorPlan plan)
 {
     struct lent copies;
     uint32_t marks[MARKS];
-    unsigned kind = (unsigned)random_below(takes_heights(plan) ? KINDS : WITH_HEIGHTS);
-    Call call = calls[kind];
-    uint8_t byte = kind < COARSEN || kind >= WITH_HEIGHTS ? 1 : 2;
+    unsigned kind = choose_kind(plan), form = kind % FORMS;
+    uint8_t byte = form < COARSEN || form >= WITH_HEIGHTS ? 1 : 2;
     size_t n = kind % 2 == 0 ? choose(watched.cells, cell_entries, byte, marks)
                              : choose(watched.functions, function_entries, byte, marks);
     WallmirrorAnswer answer;
@@ -228,18 +293,21 @@ static void step(WallmirrorPlan plan)
     memcpy(cells, watched.cells, cell_entries);
     memcpy(functions, watched.functions, function_entries);
     memcpy(heights, watched.heights, function_entries * sizeof *heights);
-    answer = run(call, plan, &copies, marks, n, cell_entries, function_entries);
+    if (kind >= FORMS)
+        try_draft(kind, plan, marks, n);
+    has_open_draft = kind == CLOSE;
+    answer = run(kind, plan, &copies, marks, n, cell_entries, function_entries);
     if (answer.number != WALLMIRROR_ACCEPTED) {
-        try_refused(call, plan, marks, n, cell_entries, function_entries, answer.number);
+        try_refused(kind, plan, marks, n, cell_entries, function_entries, answer.number);
         return;
     }
     if (answer.cells > 0)
-        try_refused(call, plan, marks, n, answer.cells - 1, function_entries,
+        try_refused(kind, plan, marks, n, answer.cells - 1, function_entries,
                     WALLMIRROR_CELL_LIST_TOO_SHORT);
     if (answer.functions > 0)
-        try_refused(call, plan, marks, n, answer.cells, answer.functions - 1,
+        try_refused(kind, plan, marks, n, answer.cells, answer.functions - 1,
                     WALLMIRROR_FUNCTION_LIST_TOO_SHORT);
-    try_accepted(call, plan, marks, n, whole ? cell_entries : answer.cells,
+    try_accepted(kind, plan, marks, n, whole ? cell_entries : answer.cells,
                  whole ? function_entries : answer.functions);
 }
 
@@ -298,9 +366,14 @@ int main(void)
     }
     printf("%lu calls accepted, each with its cells settled before the first function byte\n",
            accepted);
-    printf("%lu of them with heights\n", with_heights);
-    printf("%lu calls refused, %lu with 10, %lu with 11, %lu with 17, and not a byte written\n",
-           refused, tens, elevens, seventeens);
+    printf("%lu of them with heights, %lu with a draft that is not open, %lu drafts closed\n",
+           with_heights, beside_draft, closed);
+    printf("%lu calls refused, %lu with 10, %lu with 11, %lu with 17, %lu with 18, %lu with 19, "
+           "and not a byte written\n",
+           refused, refused_with[WALLMIRROR_CELL_LIST_TOO_SHORT],
+           refused_with[WALLMIRROR_FUNCTION_LIST_TOO_SHORT],
+           refused_with[WALLMIRROR_CARRIED_HEIGHT_OUT_OF_RANGE],
+           refused_with[WALLMIRROR_DRAFT_OPEN], refused_with[WALLMIRROR_NO_DRAFT]);
     printf("%lu wrong\n", wrong);
     return wrong != 0;
 }

@@ -66,7 +66,8 @@ static void try_version(void)
         wrong++;
 }
 
-/* Every field has four bytes, but for a height of eight, and follows the one before. */
+/* Every field has four bytes, but for a height and the marks of a draft of eight, and follows the
+ * one before, at a place that its size divides. */
 static void try_structs(void)
 {
     if (sizeof(WallmirrorPlan) != 32 || offsetof(WallmirrorPlan, columns) != 0 ||
@@ -95,6 +96,18 @@ static void try_structs(void)
         wrong++;
     if (sizeof(WallmirrorCorners) != 8 || offsetof(WallmirrorCorners, number) != 0 ||
         offsetof(WallmirrorCorners, corners) != 4)
+        wrong++;
+    if (sizeof(WallmirrorDraft) != 16 || offsetof(WallmirrorDraft, open) != 0 ||
+        offsetof(WallmirrorDraft, marks) != 8 || sizeof(size_t) != 8)
+        wrong++;
+    if (sizeof(WallmirrorDrafted) != 24 || offsetof(WallmirrorDrafted, number) != 0 ||
+        offsetof(WallmirrorDrafted, draft) != 8)
+        wrong++;
+    if (sizeof(WallmirrorClosed) != 32 || offsetof(WallmirrorClosed, answer) != 0 ||
+        offsetof(WallmirrorClosed, draft) != 16)
+        wrong++;
+    if (sizeof(WallmirrorReadWithDraft) != 56 || offsetof(WallmirrorReadWithDraft, answer) != 0 ||
+        offsetof(WallmirrorReadWithDraft, draft) != 40)
         wrong++;
     if (sizeof(WallmirrorLevel) != 24 || offsetof(WallmirrorLevel, first_cell) != 0 ||
         offsetof(WallmirrorLevel, columns) != 4 || offsetof(WallmirrorLevel, rows) != 8 ||
