@@ -57,9 +57,10 @@ static const Plain plain[4] = {wallmirror_refine_cells, wallmirror_refine_functi
 static const PlainCarry plain_carrying[2] = {wallmirror_refine_cells_with_heights,
                                              wallmirror_refine_functions_with_heights};
 
-/* With cells 0, 1 and 3 refined. Cell 2 and function 2 can be refined, cell 3 and function 8 can be
- * coarsened, cell 7 is absent and function 0 deactivated, and cell 15 and function 29 are active
- * and of the last level. The same mesh with five levels is none for heights. */
+/* With cells 0, 1 and 3 refined. Cell 2 and function 10 can be refined, cell 3 and function 8 can
+ * be coarsened, cell 7 is absent and function 0 deactivated, and cell 15 and function 29 are active
+ * and of the last level. Cell 10 can be refined too, with another outcome than function 10. The
+ * same mesh with five levels is none for heights. */
 static const WallmirrorPlan shallow = WALLMIRROR_PLAN(3, 1, 3, 1, 1, 2),
                             deep = WALLMIRROR_PLAN(3, 1, 5, 1, 1, 2);
 
@@ -380,7 +381,7 @@ static void lend_file(struct lent *lent)
 /* What a call is to accept. */
 static void lend(int kind, struct lent *lent, WallmirrorPlan plan, int variant)
 {
-    uint32_t refine = 2, coarsen = by_functions(kind) ? 8 : 3;
+    uint32_t refine = by_functions(kind) ? 10 : 2, coarsen = by_functions(kind) ? 8 : 3;
     lend_mesh(lent, plan);
     lend_list(lent, MOST_MARKS + ROOM);
     lend_marks(lent, coarsens(kind) ? coarsen : refine, ROOM);
@@ -502,7 +503,8 @@ static void short_function_list(int kind, struct lent *lent, int variant)
     lent->function_list_len = 0;
 }
 
-/* Function 2 passes half of its height to a function of level 1 that is as high as it may be. */
+/* Function 2, which becomes deactivated, passes half of its height to a function of level 1 that is
+ * as high as it may be. */
 static void great_carried(int kind, struct lent *lent, int variant)
 {
     size_t i;

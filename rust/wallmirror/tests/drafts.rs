@@ -5,8 +5,8 @@ use wallmirror::*;
 
 const PLAN: Plan = Plan { columns: 3, levels: 3, admissibility_class: 2, ..Plan::SMALLEST };
 
-/// Cells 0, 1 and 3 are refined. Cell 2 and function 2 can be refined, cell 3 and function 8 can be
-/// coarsened.
+/// Cells 0, 1 and 3 are refined. Cell 2 and function 10 can be refined, cell 3 and function 8 can be
+/// coarsened. Cell 10 can be refined too, with another outcome than function 10.
 fn worked() -> Mesh {
     let mut mesh = Mesh::open(PLAN).expect("a plan");
     for mark in [0, 3] {
@@ -27,11 +27,11 @@ fn cells(numbers: &[u32]) -> Vec<Cell> {
 fn changes(mesh: &mut Mesh, heights: &mut [i32]) -> [Result<Lists, Refusal>; 7] {
     [
         mesh.refine_cells(&[Cell(2)]),
-        mesh.refine_functions(&[Function(2)]),
+        mesh.refine_functions(&[Function(10)]),
         mesh.coarsen_cells(&[Cell(3)]),
         mesh.coarsen_functions(&[Function(8)]),
         mesh.refine_cells_with_heights(heights, &[Cell(2)]),
-        mesh.refine_functions_with_heights(heights, &[Function(2)]),
+        mesh.refine_functions_with_heights(heights, &[Function(10)]),
         mesh.open_draft().map(|()| Lists::default()),
     ]
 }
@@ -190,10 +190,10 @@ macro_rules! expect_form {
 #[test]
 fn forms_with_a_lent_draft() {
     expect_form!(refine_cells_with_draft, refine_cells, Cell(2));
-    expect_form!(refine_functions_with_draft, refine_functions, Function(2));
+    expect_form!(refine_functions_with_draft, refine_functions, Function(10));
     expect_form!(coarsen_cells_with_draft, coarsen_cells, Cell(3));
     expect_form!(coarsen_functions_with_draft, coarsen_functions, Function(8));
-    let (cell, function) = (Cell(2), Function(2));
+    let (cell, function) = (Cell(2), Function(10));
     expect_form!(refine_cells_with_heights_and_draft, refine_cells_with_heights, cell, heights);
     expect_form!(
         refine_functions_with_heights_and_draft,
