@@ -107,19 +107,19 @@
  * open, and show the mesh without it.
  *
  * A draft is open where its field open is not 0 and its list has at least as many entries as it has
- * marks. With more marks than entries it counts as not open. While one is open, refining,
- * coarsening and opening a second draft are refused with 18, directly after 6 and before anything
- * of the heights. While none is open, adding, closing and dropping are refused with 19, after 6.
- * Adding more marks than the list has room for is refused with 10, after 7 to 9.
+ * marks. With more marks than entries it counts as not open. While it is open,
+ * wallmirror_draft_open and the refining and coarsening calls with a draft refuse 18, directly
+ * after 6 and before anything of the heights. While it is not, adding, closing and dropping refuse
+ * 19, after 6. Adding refuses 10, after 7 to 9, where the list does not have room for all marks.
  *
- * The calls that change the tables have a form with a draft, which is told by its name. A program
- * that never keeps a draft takes the forms without: they are the forms with a draft of which none
- * is open. A program that keeps one takes the forms with it everywhere, so that nothing changes the
- * mesh under an open draft: the refining and coarsening ones refuse 18, and wallmirror_open and
- * wallmirror_read with a draft, when accepted, drop it with the mesh that it was for. What only
- * reads the tables takes no draft. In the example above, with three levels, class 2 and cell 0
- * refined, let a draft have the marks 3, 4 and 3. Closed, it lists cells 1, 3 and 4 and functions
- * 1, 5, 8 and 9.
+ * Each call that changes the tables has a form with a draft, with _with_draft or _and_draft at the
+ * end of its name. A program that never keeps a draft takes the forms without: they do what the
+ * forms with a draft do where none is open. A program that keeps one takes the forms with it
+ * everywhere, so that nothing changes the mesh under an open draft: refining and coarsening are
+ * refused, and wallmirror_open_with_draft and wallmirror_read_with_draft, when accepted, drop the
+ * draft. What only reads the tables takes no draft. In the example above, with three levels, class
+ * 2 and cell 0 refined, let a draft have the marks 3, 4 and 3. Closed, it lists cells 1, 3 and 4
+ * and functions 1, 5, 8 and 9.
  *
  * Files. The file of a mesh is bytes that the caller keeps where it likes: wallmirror_write makes
  * them of a mesh, wallmirror_read makes the mesh of them. They are a list of numbers: the first six

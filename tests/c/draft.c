@@ -378,12 +378,13 @@ static void lend_file(struct lent *lent)
     memcpy(lent->file, file, sizeof file);
 }
 
-/* What a call is to accept. */
+/* What a call is to accept. The entries of the list past the marks of the draft are none. */
 static void lend(int kind, struct lent *lent, WallmirrorPlan plan, int variant)
 {
     uint32_t refine = by_functions(kind) ? 10 : 2, coarsen = by_functions(kind) ? 8 : 3;
     lend_mesh(lent, plan);
     lend_list(lent, MOST_MARKS + ROOM);
+    memset(lent->list + MOST_MARKS, 0xff, ROOM * sizeof *lent->list);
     lend_marks(lent, coarsens(kind) ? coarsen : refine, ROOM);
     lend_file(lent);
     lent->draft = takes_open(kind) ? open_draft(variant, MOST_MARKS)
@@ -730,6 +731,28 @@ static void try_overfull(void)
         }
 }
 
+/* The example of the header: what is listed, and nothing past it. */
+static void try_example(void)
+{
+    static const uint32_t marks[MOST_MARKS] = {3, 4, 3}, first = 0;
+    static const uint32_t listed_cells[3] = {1, 3, 4}, listed_functions[4] = {1, 5, 8, 9};
+    struct lent lent;
+    WallmirrorClosed closed;
+    lend(CLOSE, &lent, shallow, 0);
+    if (wallmirror_open(shallow, lent.cells, lent.cells_len, lent.functions, lent.functions_len) ||
+        refine_without(&lent, wallmirror_refine_cells, &first, 1).cells != 1)
+        wrong++;
+    memcpy(lent.list, marks, sizeof marks);
+    memset(lent.cell_list, 0xa5, lent.cell_list_len * sizeof *lent.cell_list);
+    closed = run(CLOSE, &lent);
+    if (closed.answer.number != WALLMIRROR_ACCEPTED || closed.answer.cells != 3 ||
+        closed.answer.functions != 4 || lent.cell_list[3] != 0xa5a5a5a5u ||
+        memcmp(lent.cell_list, listed_cells, sizeof listed_cells) != 0 ||
+        memcmp(lent.function_list, listed_functions, sizeof listed_functions) != 0)
+        wrong++;
+    accepted[CLOSE]++;
+}
+
 /* Nothing is lent at all. */
 static void try_nothing(void)
 {
@@ -770,6 +793,7 @@ int main(void)
         try_read(no_draft(variant, MOST_MARKS));
         try_open_mesh(open_draft(variant, MOST_MARKS));
     }
+    try_example();
     try_plan_read();
     try_full_list();
     try_entries();

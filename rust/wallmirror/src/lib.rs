@@ -208,8 +208,8 @@
 //! only read them may be made while a draft is open, and show the mesh without it.
 //!
 //! While a draft is open, refining, coarsening and opening a second one are refused with 18,
-//! directly after 6 and before anything of the heights. While none is open, adding, closing and
-//! dropping are refused with 19, after 6.
+//! directly after 6 and before anything of the heights, and a season takes nothing back. While none
+//! is open, adding, closing and dropping are refused with 19, after 6.
 //!
 //! ```
 //! # use wallmirror::{Call, Cell, Function, Mesh, Plan, Refusal, Season};
@@ -244,11 +244,12 @@
 //! room for are refused with 10, after 7 to 9. A draft with more marks than its list has entries
 //! counts as not open.
 //!
-//! The calls that change the tables have a form with a draft, as [`refine_cells_with_draft`] and
-//! [`open_with_draft`]. A program that never keeps a draft takes the forms without: they are the
-//! forms with a draft of which none is open. A program that keeps one takes the forms with it
-//! everywhere, so that nothing changes the mesh under an open draft. What only reads the tables takes
-//! no draft. A [`Mesh`] takes the forms with its own.
+//! Each call that changes the tables has a form with a draft, as [`refine_cells_with_draft`]. A
+//! program that never keeps a draft takes the forms without: they do what the forms with a draft do
+//! where none is open. A program that keeps one takes the forms with it everywhere, so that nothing
+//! changes the mesh under an open draft: refining and coarsening are refused, and
+//! [`open_with_draft`] and [`read_with_draft`], when accepted, drop the draft. What only reads the
+//! tables takes no draft. A [`Mesh`] takes the forms with its own.
 //!
 //! # Files
 //!

@@ -336,8 +336,8 @@ impl Mesh {
     }
 
     /// Closes the open draft: refines by its marks, as [`draft_close`] says. Refuses 1 to 6, then 19,
-    /// then 7 to 9. The marks were judged when they were added, so 7 to 9 are refused only where
-    /// the mesh or the draft was written to since.
+    /// then 7 to 9. The marks were judged when they were added, so 7 to 9 come only where the
+    /// tables or the draft were written to by other means.
     pub fn close_draft(&mut self) -> Result<Lists, Refusal> {
         self.change(|plan, (cells, functions), (draft, list), (cell_list, function_list)| {
             draft_close(plan, cells, functions, draft, list, cell_list, function_list)
