@@ -13,8 +13,6 @@ use Rattle.facts.specs.Numbers.{first}
 use Rattle.facts.specs.Writing.{writtenAt}
 use Rattle.facts.proofs.Tests.{and-r, true-T}
 use Rattle.grid.specs.declared.Plan.{Plan}
-use Rattle.mesh.specs.Mesh.{check}
-use Rattle.mesh.proofs.Bridge.{chain}
 use Rattle.outcomes.specs.declared.Answer.{Answer}
 use Rattle.outcomes.specs.Calls.{Direction, refine, By, cells, markRefusal, Outcome, refused, outcome}
 use Rattle.outcomes.specs.Contracts.{outcomeOf}
@@ -22,10 +20,6 @@ use Rattle.refining.specs.Refining.{WithHeights, refusedWith, outcomeWithHeight
 use Rattle.drafts.specs.declared.Draft.{Draft}
 use Rattle.drafts.specs.Drafts.{isOpen, marksOf, refusal18, refusal19, openDraft, dropDraft, addRefusal, Added, addMarks, endedBy, closeDraft, outcomeWithDraft, outcomeWithHeightsAndDraft}
 use Rattle.drafts.proofs.Refusals.{change-refused, change-taken, carry-refused, carry-taken, close-refused, close-taken, add-taken, add-refused}
-
-pub passes-18 : (p : Plan) (cs fs : List ℕ) (d : Draft) (dl : List ℕ) → refusal18 p cs fs d dl ≡ 0 → check p cs fs ≡ 0
-unfolding refusal18
-passes-18 p cs fs d dl e = chain (check p cs fs) _ e .0
 
 pub open-fits : (d : Draft) (dl : List ℕ) → isOpen d dl ≡ true → d .marks ≤ length dl
 unfolding isOpen

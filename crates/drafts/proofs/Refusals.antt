@@ -49,11 +49,15 @@ module _ (p : Plan) (cs fs : List ℕ) (d : Draft) (dl : List ℕ) where
   unfolding refusal19
   none-19 e o = rw (e, o)
 
-  -- where neither 1 to 6 nor 19 refuse, the tables pass and the draft is open
-  pub passes-19 : refusal19 p cs fs d dl ≡ 0 → (check p cs fs ≡ 0) × (isOpen d dl ≡ true)
+  -- where 1 to 6 do not refuse, nor 18, or 19, the tables pass; and in the second case the draft is open
+  pub passes-18 : {n : ℕ} → n ≡ refusal18 p cs fs d dl → n ≡ 0 → check p cs fs ≡ 0
+  unfolding refusal18
+  passes-18 e z = chain (check p cs fs) _ (sym e ∙ z) .0
+
+  pub passes-19 : {n : ℕ} → n ≡ refusal19 p cs fs d dl → n ≡ 0 → (check p cs fs ≡ 0) × (isOpen d dl ≡ true)
   unfolding refusal19
-  passes-19 e =
-      let (k, o) = chain (check p cs fs) _ e in
+  passes-19 e z =
+      let (k, o) = chain (check p cs fs) _ (sym e ∙ z) in
       (k, opened (isOpen d dl) o)
     where
       opened : (b : Bool) → _≡_ {A = ℕ} (cond b 0 19) 0 → b ≡ true
@@ -154,7 +158,7 @@ module _ (p : Plan) (cs fs : List ℕ) (d : Draft) (dl marks : List ℕ) where
   add-case = cases (eqb (addRefusal p cs fs d dl marks) 0)
       (λ z. let e = eqb→eq (addRefusal p cs fs d dl marks) 0 z in
       let (a, _, l) = add-none e in
-      taken l (passes-19 p cs fs d dl a .1) (add-taken e))
+      taken l (passes-19 p cs fs d dl refl a .1) (add-taken e))
       (λ z. let n : addRefusal p cs fs d dl marks ≢ 0 = differ _ _ z in
       let k : addRefusal p cs fs d dl marks ≡ suc (pred (addRefusal p cs fs d dl marks)) = omega arith in
       left-out (pred (addRefusal p cs fs d dl marks)) (add-refused n ∙ ap (λ m. record { answer = record { number = m; draft = d }; list = dl }) k))

@@ -1,5 +1,4 @@
 -- `add` meets its contract. Assumes nothing.
-use mathlib.Core.Path.{sym, _∙_}
 use Prim.Native.Nat.{_+_, _≤_}
 use native.Mathlib.Omega.{arith}
 use lib.ListN.{length}
@@ -15,7 +14,7 @@ returns c =
 
 judge-requires : tie.Need-judge-requires
 judge-requires c κs =
-    let a = c .before .before .before .before .before .before .before .args in passes-19 (a .plan) (a .cells .now) (a .functions .now) (a .draft) (a .list .now) (sym (c .before .refusal19 .ensures) ∙ c .if1 .left) .0
+    let a = c .before .before .before .before .before .before .before .args in passes-19 (a .plan) (a .cells .now) (a .functions .now) (a .draft) (a .list .now) (c .before .refusal19 .ensures) (c .if1 .left) .0
 
 returns-2 : tie.Need-returns-2
 returns-2 c =
@@ -23,7 +22,7 @@ returns-2 c =
 
 -- an open draft's marks fit its list
 fits : (c : tie.Else1) → let a = c .before .before .before .before .before .before .before .args in a .draft .marks ≤ length (a .list .now)
-fits c = let a = c .before .before .before .before .before .before .before .args in open-fits (a .draft) (a .list .now) (passes-19 (a .plan) (a .cells .now) (a .functions .now) (a .draft) (a .list .now) (sym (c .before .refusal19 .ensures) ∙ c .if1 .left) .1)
+fits c = let a = c .before .before .before .before .before .before .before .args in open-fits (a .draft) (a .list .now) (passes-19 (a .plan) (a .cells .now) (a .functions .now) (a .draft) (a .list .now) (c .before .refusal19 .ensures) (c .if1 .left) .1)
 
 sub-if3 : tie.Need-sub-if3
 sub-if3 c = fits (c .before .before)

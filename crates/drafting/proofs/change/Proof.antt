@@ -1,7 +1,8 @@
 -- `change` meets its contract. Assumes nothing.
-use mathlib.Core.Path.{sym, _∙_}
+use mathlib.Core.Path.{sym}
 use Rattle.calls.specs.Parts.{directionOf, byOf}
-use Rattle.drafting.proofs.Whole.{passes-18, changes-not, changes}
+use Rattle.drafts.proofs.Refusals.{passes-18}
+use Rattle.drafting.proofs.Whole.{changes-not, changes}
 use borrow.Author.Needs.{needs}
 use Rattle.drafting.proofs.change.Statement.{statement}
 use Rattle.drafting.proofs.change.Tie as tie
@@ -12,7 +13,7 @@ returns c =
 
 change-requires : tie.Need-change-requires
 change-requires c κs =
-    let a = c .before .before .before .before .before .before .before .before .before .before .before .before .before .before .args in sym (passes-18 (a .plan) (a .cells .now) (a .functions .now) (a .draft) (a .list .now) (sym (c .before .before .before .before .before .refusal18 .ensures) ∙ c .before .before .before .before .if1 .left))
+    let a = c .before .before .before .before .before .before .before .before .before .before .before .before .before .before .args in sym (passes-18 (a .plan) (a .cells .now) (a .functions .now) (a .draft) (a .list .now) (c .before .before .before .before .before .refusal18 .ensures) (c .before .before .before .before .if1 .left))
 
 returns-2 : tie.Need-returns-2
 returns-2 c =

@@ -1,5 +1,5 @@
 -- `close` meets its contract. Assumes nothing.
-use mathlib.Core.Path.{_≡_, sym, _∙_}
+use mathlib.Core.Path.{_≡_, sym}
 use mathlib.Core.Bool.{true}
 use lib.Seq.{length-take-le}
 use Rattle.mesh.specs.Mesh.{check}
@@ -16,7 +16,7 @@ returns c =
 
 -- past the first test the tables pass and the draft is open
 ready : (c : tie.Else1) → let a = c .before .before .before .before .before .before .before .before .before .args in (check (a .plan) (a .cells .now) (a .functions .now) ≡ 0) × (isOpen (a .draft) (a .list .now) ≡ true)
-ready c = let a = c .before .before .before .before .before .before .before .before .before .args in passes-19 (a .plan) (a .cells .now) (a .functions .now) (a .draft) (a .list .now) (sym (c .before .refusal19 .ensures) ∙ c .if1 .left)
+ready c = let a = c .before .before .before .before .before .before .before .before .before .args in passes-19 (a .plan) (a .cells .now) (a .functions .now) (a .draft) (a .list .now) (c .before .refusal19 .ensures) (c .if1 .left)
 
 slice-aggregate-change : tie.Need-slice-aggregate-change
 slice-aggregate-change c = sym (length-take-le (c .before .before .before .before .before .before .before .before .before .before .before .before .args .draft .marks) (c .before .before .before .before .before .before .before .before .before .before .before .before .args .list .now) (open-fits (c .before .before .before .before .before .before .before .before .before .before .before .before .args .draft) (c .before .before .before .before .before .before .before .before .before .before .before .before .args .list .now) (ready (c .before .before .before) .1)))

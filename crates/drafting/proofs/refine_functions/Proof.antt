@@ -1,10 +1,11 @@
 -- `refine_functions` meets its contract. Assumes nothing.
-use mathlib.Core.Path.{_≡_, sym, _∙_}
+use mathlib.Core.Path.{_≡_}
 use Rattle.mesh.specs.Mesh.{check}
 use Rattle.mesh.proofs.Bridge.{check-passed}
 use Rattle.outcomes.specs.Calls.{functions}
 use Rattle.refining.proofs.Outcomes.{tables-heights}
-use Rattle.drafting.proofs.Whole.{passes-18, carries-not, carries}
+use Rattle.drafts.proofs.Refusals.{passes-18}
+use Rattle.drafting.proofs.Whole.{carries-not, carries}
 use borrow.Author.Needs.{needs}
 use Rattle.drafting.proofs.refine_functions.Statement.{statement}
 use Rattle.drafting.proofs.refine_functions.Tie as tie
@@ -16,7 +17,7 @@ returns c =
 
 -- past the first test the tables pass
 passes : (c : tie.Else1) → let a = c .before .before .before .before .before .before .before .before .before .before .args in check (a .plan) (a .cells .now) (a .functions .now) ≡ 0
-passes c = let a = c .before .before .before .before .before .before .before .before .before .before .args in passes-18 (a .plan) (a .cells .now) (a .functions .now) (a .draft) (a .list .now) (sym (c .before .refusal18 .ensures) ∙ c .if1 .left)
+passes c = let a = c .before .before .before .before .before .before .before .before .before .before .args in passes-18 (a .plan) (a .cells .now) (a .functions .now) (a .draft) (a .list .now) (c .before .refusal18 .ensures) (c .if1 .left)
 
 refusal-requires : tie.Need-refusal-requires
 refusal-requires c κs =
