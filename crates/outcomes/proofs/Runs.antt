@@ -62,14 +62,14 @@ pub data Undoes (by : By) (p : Plan) (t t′ : Tables) : List Entry → Type 0 w
 
 -- a call, and what follows it
 module _ (by : By) (p : Plan) {t t′ t″ : Tables} {rest : List Entry}
-    (behind : (rooms : List LentLists) → LongEnough (backwards rest) rooms → WalkedBack by p t′ t″ rest rooms) where
+    (later : (rooms : List LentLists) → LongEnough (backwards rest) rooms → WalkedBack by p t′ t″ rest rooms) where
   one-more : {k : List Entry} → Undoes by p t t′ k → (rooms : List LentLists) → LongEnough (backwards (k ++ rest)) rooms → WalkedBack by p t t″ (k ++ rest) rooms
   unfolding finalOf logOf backwards undo allTaken
-  one-more (silent q) rooms l = subst (λ s. WalkedBack by p s t″ rest rooms) q (behind rooms l)
+  one-more (silent q) rooms l = subst (λ s. WalkedBack by p s t″ rest rooms) q (later rooms l)
   one-more (spoken {e = e} b) rooms l =
       let B : List Entry = backwards rest in
       let k = last-of B e l in
-      let u : WalkedBack by p t′ t″ rest (k .firsts) = behind (k .firsts) (k .enough) in
+      let u : WalkedBack by p t′ t″ rest (k .firsts) = later (k .firsts) (k .enough) in
       let x : List Call = undo by B (k .firsts) in
       let y : List Call = taking by e (k .room) ∷ [] in
       let q : undo by (B ++ (e ∷ [])) rooms ≡ x ++ y = ap (undo by (B ++ (e ∷ []))) (k .whole) ∙ undo-append by (e ∷ []) (k .room ∷ []) (k .enough) in
