@@ -1,4 +1,4 @@
--- One more mark written behind those of a draft. Assumes nothing.
+-- One more mark written after those of a draft. Assumes nothing.
 use mathlib.Core.Path.{_≡_, sym, ap, _∙_}
 use mathlib.Core.List.{List, [], _∷_}
 use Prim.Native.Nat.{ℕ, _+_, _≤_, _<_}
