@@ -5,15 +5,17 @@
 //! knots. Nothing is tuned beyond walking a rectangle instead of searching all cells for it, and
 //! keeping the knots of a level.
 //!
-//! The calls are pure: a refusal is `Err` with its number, and an accepted call answers the new
-//! tables and the two lists. The terms are those of the literature; the scope document calls a mesh
-//! a wall, refining and coarsening splitting and joining, admissible graded, reactivable joinable.
+//! The calls are pure, but for a draft, which is handed in to be changed: a refusal is `Err` with its
+//! number, and an accepted call answers the new tables and the two lists. The terms are those of the
+//! literature; the scope document calls a mesh a wall, refining and coarsening splitting and joining,
+//! admissible graded, reactivable joinable.
 
 use knots::{Direction, Knots};
 use std::collections::BTreeSet;
 use std::rc::Rc;
 
 mod cost;
+pub mod draft;
 pub mod file;
 pub mod height;
 pub mod knots;
@@ -466,7 +468,12 @@ impl<'a> Mesh<'a> {
         Ok(marked)
     }
 
-    /// The marked functions, likewise.
+    /// The marked cells, where refining by cells takes each.
+    fn cells_to_refine(&self, marks: &[u32]) -> Result<BTreeSet<Cell>, u32> {
+        self.cell_marks(marks, |cell| self.cell(cell) == ACTIVE, true)
+    }
+
+    /// The marked functions, as `cell_marks`.
     fn function_marks(
         &self,
         marks: &[u32],
@@ -551,8 +558,7 @@ pub fn refine_cells(
     function_room: usize,
 ) -> Result<Change, u32> {
     let mesh = Mesh::new(plan, cells, functions)?;
-    let marked = mesh.cell_marks(marks, |cell| mesh.cell(cell) == ACTIVE, true)?;
-    mesh.refine(marked, cell_room, function_room)
+    mesh.refine(mesh.cells_to_refine(marks)?, cell_room, function_room)
 }
 
 pub fn refine_functions(

@@ -1,0 +1,157 @@
+//! A draft kept open: cell marks that are collected over many calls, and become one refinement when
+//! the draft is closed.
+//!
+//! The draft is what the calls here change, so they are handed it to be changed; a refused call
+//! leaves it, and its list, as they were. The tables are lent as elsewhere, and an accepted call that
+//! makes new ones answers them.
+
+use crate::file::Tables;
+use crate::shape::refine_with_heights;
+use crate::{check, file, refine_cells, Call, Change, Mesh, Plan};
+
+/// A draft as it is handed in and handed back, with the lent list.
+#[derive(Clone, Debug, PartialEq, Eq)]
+pub struct Draft {
+    /// 0 where none is open.
+    pub open: u32,
+    /// How many marks it has: the first entries of the list.
+    pub marks: usize,
+    /// As long as it was lent, which bounds the marks.
+    pub list: Vec<u32>,
+}
+
+impl Draft {
+    /// No draft, with a list for the next one.
+    pub fn none(list: Vec<u32>) -> Draft {
+        Draft { open: 0, marks: 0, list }
+    }
+
+    /// The marks of an open draft, in the order in which they were added. A draft with more marks
+    /// than its list has entries is not open.
+    pub fn collected(&self) -> Option<&[u32]> {
+        match self.open {
+            0 => None,
+            _ => self.list.get(..self.marks),
+        }
+    }
+
+    /// What an accepted call leaves that ends the draft. The list keeps its values.
+    fn end(&mut self) {
+        (self.open, self.marks) = (0, 0);
+    }
+
+    /// Refusal 18, for what is not to be done while a draft is open; 1 to 6 come before it.
+    fn refuse_beside(&self, plan: Plan, cells: &[u8], functions: &[u8]) -> Result<(), u32> {
+        check(plan, cells, functions)?;
+        match self.collected() {
+            None => Ok(()),
+            Some(_) => Err(18),
+        }
+    }
+
+    /// The marks, or refusal 19; 1 to 6 come before it.
+    fn marks(&self, plan: Plan, cells: &[u8], functions: &[u8]) -> Result<&[u32], u32> {
+        check(plan, cells, functions)?;
+        self.collected().ok_or(19)
+    }
+
+    // ---- The calls on a draft ----
+
+    /// A new draft, without marks.
+    pub fn open(&mut self, plan: Plan, cells: &[u8], functions: &[u8]) -> Result<(), u32> {
+        self.refuse_beside(plan, cells, functions)?;
+        (self.open, self.marks) = (1, 0);
+        Ok(())
+    }
+
+    /// All marks, or none of them. A repeated one takes an entry each time.
+    pub fn add(
+        &mut self,
+        plan: Plan,
+        cells: &[u8],
+        functions: &[u8],
+        marks: &[u32],
+    ) -> Result<(), u32> {
+        let mut collected = self.marks(plan, cells, functions)?.to_vec();
+        Mesh::new(plan, cells, functions)?.cells_to_refine(marks)?;
+        collected.extend(marks);
+        if collected.len() > self.list.len() {
+            return Err(10);
+        }
+        self.marks = collected.len();
+        self.list[..collected.len()].copy_from_slice(&collected);
+        Ok(())
+    }
+
+    /// Refines by cells with all marks.
+    pub fn close(
+        &mut self,
+        plan: Plan,
+        cells: &[u8],
+        functions: &[u8],
+        cell_room: usize,
+        function_room: usize,
+    ) -> Result<Change, u32> {
+        let marks = self.marks(plan, cells, functions)?;
+        let change = refine_cells(plan, cells, functions, marks, cell_room, function_room)?;
+        self.end();
+        Ok(change)
+    }
+
+    /// Ends the draft without refining anything.
+    pub fn discard(&mut self, plan: Plan, cells: &[u8], functions: &[u8]) -> Result<(), u32> {
+        self.marks(plan, cells, functions)?;
+        self.end();
+        Ok(())
+    }
+
+    // ---- The other calls beside a draft ----
+
+    /// A refining or coarsening call.
+    pub fn change(
+        &self,
+        call: Call,
+        plan: Plan,
+        (cells, functions): (&[u8], &[u8]),
+        marks: &[u32],
+        (cell_room, function_room): (usize, usize),
+    ) -> Result<Change, u32> {
+        self.refuse_beside(plan, cells, functions)?;
+        call(plan, cells, functions, marks, cell_room, function_room)
+    }
+
+    /// A refining call with heights.
+    pub fn refine_with_heights(
+        &self,
+        call: Call,
+        plan: Plan,
+        (cells, functions): (&[u8], &[u8]),
+        heights: &[i32],
+        marks: &[u32],
+        rooms: (usize, usize),
+    ) -> Result<(Change, Vec<i32>), u32> {
+        self.refuse_beside(plan, cells, functions)?;
+        refine_with_heights(call, plan, (cells, functions), heights, marks, rooms)
+    }
+
+    /// The call that opens a mesh. Accepted it ends the draft, open or not.
+    pub fn open_mesh(&mut self, plan: Plan, cells: usize, functions: usize) -> Result<Tables, u32> {
+        let tables = crate::open(plan, cells, functions)?;
+        self.end();
+        Ok(tables)
+    }
+
+    /// Reading a mesh, likewise.
+    pub fn read_mesh(
+        &mut self,
+        file: &[u8],
+        cells: usize,
+        functions: usize,
+    ) -> (Plan, Result<Tables, u32>) {
+        let (plan, tables) = file::read(file, cells, functions);
+        if tables.is_ok() {
+            self.end();
+        }
+        (plan, tables)
+    }
+}
