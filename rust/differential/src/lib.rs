@@ -1,11 +1,12 @@
 //! Running a call of the compiled library on lent tables and holding everything it did to the model.
 
-use model::shape::refine_with_heights;
 use model::{Cell, Function, Mesh, Plan};
 use std::collections::BTreeSet;
 use std::fmt::Debug;
 use wallmirror::{ffi, Refusal, MAX_FILE_BYTES};
 
+mod change;
+mod draft;
 pub mod scenario;
 pub mod surface;
 
@@ -111,6 +112,25 @@ impl Kind {
         }
     }
 
+    /// The call with a draft.
+    pub fn with_draft(self) -> ffi::ChangeWithDraft {
+        match self {
+            RefineCells => ffi::wallmirror_refine_cells_with_draft,
+            RefineFunctions => ffi::wallmirror_refine_functions_with_draft,
+            CoarsenCells => ffi::wallmirror_coarsen_cells_with_draft,
+            CoarsenFunctions => ffi::wallmirror_coarsen_functions_with_draft,
+        }
+    }
+
+    /// The call with both.
+    pub fn with_heights_and_draft(self) -> ffi::ChangeWithHeightsAndDraft {
+        match self {
+            RefineCells => ffi::wallmirror_refine_cells_with_heights_and_draft,
+            RefineFunctions => ffi::wallmirror_refine_functions_with_heights_and_draft,
+            CoarsenCells | CoarsenFunctions => panic!("coarsening carries no heights"),
+        }
+    }
+
     pub fn of_model(self) -> model::Call {
         match self {
             RefineCells => model::refine_cells,
@@ -193,6 +213,9 @@ struct Lent<T> {
 
 const GUARDS: usize = 16;
 
+/// A lent slice for a call of the library.
+type Slice<T> = (*mut T, usize);
+
 /// The bits of a double that is no number and that arithmetic does not leave as it is.
 pub const SIGNALLING: u64 = 0x7ff0_0000_dead_beef;
 
@@ -210,6 +233,11 @@ impl<T: Copy + PartialEq + Debug> Lent<T> {
 
     fn pointer(&mut self) -> *mut T {
         self.buffer[GUARDS..].as_mut_ptr()
+    }
+
+    /// Pointer and length, as a call takes them.
+    fn slice(&mut self) -> Slice<T> {
+        (self.pointer(), self.len())
     }
 
     fn content(&self) -> &[T] {
@@ -268,20 +296,25 @@ impl Tables {
     }
 
     pub fn open(&mut self) -> u32 {
+        let expected = model::open(self.plan, self.cells.len(), self.functions.len());
+        self.open_by(expected, |plan, (cells, t), (functions, f)| {
+            // SAFETY: separate buffers of these lengths.
+            unsafe { ffi::wallmirror_open(plan, cells, t, functions, f) }
+        })
+    }
+
+    /// Opens by that call of the library, which answers its number. The tables are then as it left
+    /// them.
+    fn open_by(
+        &mut self,
+        expected: Result<model::file::Tables, u32>,
+        call: impl FnOnce(ffi::Plan, Slice<u8>, Slice<u8>) -> u32,
+    ) -> u32 {
         let (mut cells, mut functions) = self.lend();
         let plan = self.plan;
         let said = || format!("open {plan:?}");
-        // SAFETY: separate buffers of these lengths.
-        let number = unsafe {
-            ffi::wallmirror_open(
-                raw(self.plan),
-                cells.pointer(),
-                cells.len(),
-                functions.pointer(),
-                functions.len(),
-            )
-        };
-        match model::open(self.plan, self.cells.len(), self.functions.len()) {
+        let number = call(raw(plan), cells.slice(), functions.slice());
+        match expected {
             Err(refusal) => assert_eq!(number, refusal, "{}", said()),
             Ok(opened) => {
                 assert_eq!(number, 0, "{}", said());
@@ -348,6 +381,20 @@ impl Tables {
     /// Reads the file into these tables, of whatever content and lengths. Plan and tables are then
     /// as the call left them.
     pub fn read(&mut self, file: &[u8]) -> u32 {
+        let expected = model::file::read(file, self.cells.len(), self.functions.len());
+        self.read_by(file, expected, |(file, length), (cells, t), (functions, f)| {
+            // SAFETY: separate buffers of these lengths.
+            unsafe { ffi::wallmirror_read(file, length, cells, t, functions, f) }
+        })
+    }
+
+    /// Reads by that call of the library.
+    fn read_by(
+        &mut self,
+        file: &[u8],
+        (plan, expected): (Plan, Result<model::file::Tables, u32>),
+        call: impl FnOnce(Slice<u8>, Slice<u8>, Slice<u8>) -> ffi::Read,
+    ) -> u32 {
         let (mut cells, mut functions) = self.lend();
         // A guard that ends a number: one that is cut off would be whole to who reads on.
         let mut lent_file = Lent::new(file, 0x01);
@@ -356,18 +403,7 @@ impl Tables {
             let lent = (self.cells.len(), self.functions.len());
             format!("read into tables of {lent:?}, {} bytes {few:02x?}", file.len())
         };
-        // SAFETY: separate buffers of these lengths.
-        let answer = unsafe {
-            ffi::wallmirror_read(
-                lent_file.pointer(),
-                lent_file.len(),
-                cells.pointer(),
-                cells.len(),
-                functions.pointer(),
-                functions.len(),
-            )
-        };
-        let (plan, expected) = model::file::read(file, self.cells.len(), self.functions.len());
+        let answer = call(lent_file.slice(), cells.slice(), functions.slice());
         let number = *expected.as_ref().err().unwrap_or(&0);
         assert_eq!(answer, ffi::Read { number, plan: raw(plan) }, "{}", said());
         let (new_cells, new_functions) =
@@ -506,157 +542,6 @@ impl Tables {
             let at = self.answered_height(heights, 8 * across as u32, 8 * up as u32);
             assert_eq!(at.map(f64::to_bits), Ok(height.to_bits()), "{across}, {up}: {}", said());
         }
-    }
-
-    /// Runs one of the four calls with the lists as lent. The tables are then as it left them.
-    pub fn call(
-        &mut self,
-        kind: Kind,
-        marks: &[u32],
-        cell_list: &[u32],
-        function_list: &[u32],
-    ) -> Outcome {
-        let (mut cells, mut functions) = self.lend();
-        let mut lent_marks = Lent::new(marks, 0x1234_5678);
-        let mut cell_lent = Lent::new(cell_list, 0x8765_4321);
-        let mut function_lent = Lent::new(function_list, 0x1357_9bdf);
-        let plan = self.plan;
-        let said = || {
-            let few = &marks[..marks.len().min(40)];
-            format!("{kind:?} {plan:?}, {} marks {few:?}", marks.len())
-        };
-        // SAFETY: separate buffers of these lengths.
-        let answer = unsafe {
-            kind.of_library()(
-                raw(self.plan),
-                cells.pointer(),
-                cells.len(),
-                functions.pointer(),
-                functions.len(),
-                lent_marks.pointer(),
-                lent_marks.len(),
-                cell_lent.pointer(),
-                cell_lent.len(),
-                function_lent.pointer(),
-                function_lent.len(),
-            )
-        };
-        let expected = kind.of_model()(
-            self.plan,
-            &self.cells,
-            &self.functions,
-            marks,
-            cell_list.len(),
-            function_list.len(),
-        );
-        let outcome = match expected {
-            Err(number) => {
-                let refused = ffi::Answer { number, cells: 0, functions: 0 };
-                assert_eq!(answer, refused, "{}", said());
-                Outcome { number, cells: vec![], functions: vec![] }
-            }
-            Ok(change) => {
-                let accepted = ffi::Answer {
-                    number: 0,
-                    cells: change.cell_list.len() as u32,
-                    functions: change.function_list.len() as u32,
-                };
-                assert_eq!(answer, accepted, "{}", said());
-                if kind.refines() {
-                    self.expect_cost(kind, marks, &change.cell_list, &said);
-                }
-                (self.cells, self.functions) = (change.cells, change.functions);
-                self.expect_few_levels(&said);
-                Outcome { number: 0, cells: change.cell_list, functions: change.function_list }
-            }
-        };
-        cells.expect(&self.cells, "cell table", &said);
-        functions.expect(&self.functions, "function table", &said);
-        lent_marks.expect(marks, "marks", &said);
-        cell_lent.expect(&overwritten(cell_list, &outcome.cells), "cell list", &said);
-        function_lent.expect(
-            &overwritten(function_list, &outcome.functions),
-            "function list",
-            &said,
-        );
-        outcome
-    }
-
-    /// The same with lists of T and F entries.
-    pub fn call_with_room(&mut self, kind: Kind, marks: &[u32]) -> Outcome {
-        let cell_list = vec![0xdead_beef; self.cells.len()];
-        let function_list = vec![0xfeed_f00d; self.functions.len()];
-        self.call(kind, marks, &cell_list, &function_list)
-    }
-
-    /// Runs one of the two refining calls with heights, with the lists as lent. Tables and heights are
-    /// then as it left them.
-    pub fn refine_with_heights(
-        &mut self,
-        kind: Kind,
-        heights: &mut Vec<i32>,
-        marks: &[u32],
-        cell_list: &[u32],
-        function_list: &[u32],
-    ) -> Outcome {
-        let (mut cells, mut functions) = self.lend();
-        let mut lent_heights = Lent::new(heights, 0x2468_ace1);
-        let mut lent_marks = Lent::new(marks, 0x1234_5678);
-        let mut cell_lent = Lent::new(cell_list, 0x8765_4321);
-        let mut function_lent = Lent::new(function_list, 0x1357_9bdf);
-        let (plan, many) = (self.plan, heights.len());
-        let said = || {
-            let few = &marks[..marks.len().min(40)];
-            format!("{kind:?} with {many} heights {plan:?}, {} marks {few:?}", marks.len())
-        };
-        // SAFETY: separate buffers of these lengths.
-        let answer = unsafe {
-            kind.with_heights()(
-                raw(self.plan),
-                cells.pointer(),
-                cells.len(),
-                functions.pointer(),
-                functions.len(),
-                lent_heights.pointer(),
-                lent_heights.len(),
-                lent_marks.pointer(),
-                lent_marks.len(),
-                cell_lent.pointer(),
-                cell_lent.len(),
-                function_lent.pointer(),
-                function_lent.len(),
-            )
-        };
-        let (tables, rooms) =
-            ((&self.cells[..], &self.functions[..]), (cell_list.len(), function_list.len()));
-        let outcome =
-            match refine_with_heights(kind.of_model(), plan, tables, heights, marks, rooms) {
-                Err(number) => {
-                    let refused = ffi::Answer { number, cells: 0, functions: 0 };
-                    assert_eq!(answer, refused, "{}", said());
-                    Outcome { number, cells: vec![], functions: vec![] }
-                }
-                Ok((change, carried)) => {
-                    let accepted = ffi::Answer {
-                        number: 0,
-                        cells: change.cell_list.len() as u32,
-                        functions: change.function_list.len() as u32,
-                    };
-                    assert_eq!(answer, accepted, "{}", said());
-                    self.expect_cost(kind, marks, &change.cell_list, &said);
-                    (self.cells, self.functions) = (change.cells, change.functions);
-                    *heights = carried;
-                    Outcome { number: 0, cells: change.cell_list, functions: change.function_list }
-                }
-            };
-        cells.expect(&self.cells, "cell table", &said);
-        functions.expect(&self.functions, "function table", &said);
-        lent_heights.expect(heights, "heights", &said);
-        lent_marks.expect(marks, "marks", &said);
-        cell_lent.expect(&overwritten(cell_list, &outcome.cells), "cell list", &said);
-        let functions_then = overwritten(function_list, &outcome.functions);
-        function_lent.expect(&functions_then, "function list", &said);
-        outcome
     }
 
     /// Over each active cell of level k, with a class m other than 0, the active functions have levels
