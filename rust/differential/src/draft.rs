@@ -10,6 +10,99 @@ pub(crate) fn raw_draft(draft: &Draft) -> ffi::Draft {
     ffi::Draft { open: draft.open, marks: draft.marks }
 }
 
+/// The calls on a draft and beside one.
+#[derive(Clone, Copy, Debug, PartialEq, Eq)]
+pub enum Call {
+    Open,
+    Add,
+    Close,
+    Drop,
+    Change(Kind),
+    WithHeights(Kind),
+    OpenMesh,
+    ReadMesh,
+}
+
+use Call::*;
+
+impl Call {
+    pub const ALL: [Call; 12] = [
+        Open,
+        Add,
+        Close,
+        Drop,
+        Change(Kind::RefineCells),
+        Change(Kind::RefineFunctions),
+        Change(Kind::CoarsenCells),
+        Change(Kind::CoarsenFunctions),
+        WithHeights(Kind::RefineCells),
+        WithHeights(Kind::RefineFunctions),
+        OpenMesh,
+        ReadMesh,
+    ];
+
+    /// The kind of a change that a run is to take back, refused or not. A closed draft is one
+    /// refinement by cells.
+    pub fn kind(self) -> Option<Kind> {
+        match self {
+            Change(kind) | WithHeights(kind) => Some(kind),
+            Close => Some(Kind::RefineCells),
+            Open | Add | Drop | OpenMesh | ReadMesh => None,
+        }
+    }
+}
+
+/// All that a call can be handed. Each takes what it needs.
+#[derive(Clone, Debug, PartialEq, Eq)]
+pub struct Input {
+    pub tables: Tables,
+    pub heights: Vec<i32>,
+    pub draft: Draft,
+    pub marks: Vec<u32>,
+    pub cell_list: Vec<u32>,
+    pub function_list: Vec<u32>,
+    pub file: Vec<u8>,
+}
+
+impl Input {
+    /// Nothing but the tables, no draft and no list for one, and lists of T and F entries.
+    pub fn new(tables: Tables) -> Input {
+        let (cell_list, function_list) = tables.lists_with_room();
+        let heights = vec![0; tables.functions.len()];
+        let (draft, marks, file) = (Draft::none(vec![]), vec![], vec![]);
+        Input { tables, heights, draft, marks, cell_list, function_list, file }
+    }
+
+    /// Makes the call. Tables, heights and draft are then as it left them; a call without lists
+    /// answers empty ones.
+    pub fn make(&mut self, call: Call) -> Outcome {
+        let Input { tables, heights, draft, marks, cell_list, function_list, file } = self;
+        let number = match call {
+            Open => tables.draft_open(draft),
+            Add => tables.draft_add(draft, marks),
+            Drop => tables.draft_drop(draft),
+            OpenMesh => tables.open_with_draft(draft),
+            ReadMesh => {
+                let plan = tables.plan;
+                let number = tables.read_with_draft(draft, file);
+                if number != 0 {
+                    tables.plan = plan; // the tables are still of this one
+                }
+                number
+            }
+            Close => return tables.draft_close(draft, cell_list, function_list),
+            Change(kind) => {
+                return tables.call_with_draft(kind, draft, marks, cell_list, function_list)
+            }
+            WithHeights(kind) => {
+                let lists = (&cell_list[..], &function_list[..]);
+                return tables.refine_with_heights_and_draft(kind, heights, draft, marks, lists);
+            }
+        };
+        Outcome { number, cells: vec![], functions: vec![] }
+    }
+}
+
 /// A call on a draft that only reads both tables.
 type OnDraft = unsafe extern "C" fn(
     ffi::Plan,

@@ -6,7 +6,7 @@ use std::fmt::Debug;
 use wallmirror::{ffi, Refusal, MAX_FILE_BYTES};
 
 mod change;
-mod draft;
+pub mod draft;
 pub mod scenario;
 pub mod surface;
 

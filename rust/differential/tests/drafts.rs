@@ -1,0 +1,289 @@
+//! Drafts: calls of every kind in every order, on drafts that the calls made and on others, against
+//! the model; whole runs taken back; and what a draft is to the calls that know none.
+
+use differential::draft::{Call, Input};
+use differential::surface::{damage, random_heights, with_heights, Fill, DAMAGES, DEGREES};
+use differential::{
+    has_corners, random_marks, random_plan, random_refined, undo_by_cells, Kind, Log, Outcome,
+    Random, Tables,
+};
+use model::draft::Draft;
+use model::Plan;
+use Kind::*;
+
+/// How often each call answered each number.
+struct Seen([[u32; 20]; Call::ALL.len()]);
+
+impl Seen {
+    fn new() -> Seen {
+        Seen([[0; 20]; Call::ALL.len()])
+    }
+
+    fn count(&mut self, call: Call, number: u32) {
+        let row = Call::ALL.iter().position(|&other| other == call).expect("a call");
+        self.0[row][number as usize] += 1;
+    }
+
+    /// Every call was accepted, gave each refusal that it can give, and no other.
+    fn expect_all(&self) {
+        for (call, seen) in Call::ALL.into_iter().zip(self.0) {
+            let numbers = refusals(call);
+            for (number, often) in (0..).zip(seen) {
+                let can = number == 0 || numbers.contains(&number);
+                assert_eq!(often > 0, can, "{call:?}: {number} of {seen:?}");
+            }
+        }
+    }
+}
+
+/// The refusals that a call can give.
+fn refusals(call: Call) -> Vec<u32> {
+    let of_marks =
+        |kind: Kind| if kind.refines() { vec![7, 8, 9, 10, 11] } else { vec![7, 8, 10, 11] };
+    let after_check = match call {
+        Call::Open => vec![18],
+        Call::Add => vec![19, 7, 8, 9, 10],
+        Call::Close => vec![19, 7, 8, 9, 10, 11],
+        Call::Drop => vec![19],
+        Call::Change(kind) => [vec![18], of_marks(kind)].concat(),
+        Call::WithHeights(kind) => [vec![18, 14, 15, 17], of_marks(kind)].concat(),
+        Call::OpenMesh => return vec![1, 2, 3],
+        Call::ReadMesh => return vec![1, 2, 3, 4, 5, 12, 13],
+    };
+    [vec![1, 2, 3, 4, 5, 6], after_check].concat()
+}
+
+fn start(random: &mut Random, plan: Plan) -> Tables {
+    if random.once_in(2) {
+        return Tables::opened(plan);
+    }
+    let refined = random_refined(random, plan);
+    Tables::with_refined(plan, &refined)
+}
+
+/// A length that is enough, most often.
+fn room(random: &mut Random, total: usize) -> usize {
+    match random.below(8) {
+        0 => random.below(total / 4 + 2),
+        1 => total + random.below(9),
+        _ => total,
+    }
+}
+
+// ---- Calls in every order ----
+
+/// One run of calls.
+struct Run {
+    input: Input,
+    log: Log,
+    /// Whether calls that take another mesh are among them. Such a run is not taken back.
+    other_meshes: bool,
+}
+
+impl Run {
+    fn new(random: &mut Random, tables: Tables, other_meshes: bool) -> Run {
+        let mut input = Input::new(tables);
+        let entries = random.pick(&[0, 1, 2, 5, 20, 100, 1000]);
+        input.draft = Draft::none(random.numbers(entries));
+        Run { input, log: Log::new(), other_meshes }
+    }
+
+    /// A call that makes sense where there is a draft, or where there is none, more often than not.
+    fn pick(&self, random: &mut Random) -> Call {
+        if self.other_meshes && random.once_in(12) {
+            return random.pick(&[Call::OpenMesh, Call::ReadMesh]);
+        }
+        let open = self.input.draft.collected().is_some();
+        let kind = random.pick(&[
+            RefineCells,
+            RefineCells,
+            RefineFunctions,
+            CoarsenCells,
+            CoarsenFunctions,
+        ]);
+        let change = match random.once_in(3) && kind.refines() {
+            true => Call::WithHeights(kind),
+            false => Call::Change(kind),
+        };
+        let about_drafts = random.pick(&[Call::Open, Call::Add, Call::Close, Call::Drop]);
+        match (open, random.below(8)) {
+            (true, 0..=3) => Call::Add,
+            (true, 4) => Call::Close,
+            (false, 0..=1) => Call::Open,
+            (false, 2..=5) => change,
+            _ => random.pick(&[about_drafts, change]),
+        }
+    }
+
+    /// Marks, heights, lists and a file for the call.
+    fn prepare(&mut self, random: &mut Random, call: Call) {
+        let Input { tables, heights, marks, cell_list, function_list, file, .. } = &mut self.input;
+        let kind = call.kind().unwrap_or(RefineCells);
+        *marks = random_marks(random, tables, kind);
+        if random.once_in(20) {
+            marks.push(random.pick(&[tables.cells.len() as u32, u32::MAX]));
+        }
+        let fill = random.pick(&Fill::ALL);
+        if let Call::WithHeights(_) = call {
+            *heights = random_heights(random, tables, fill);
+        }
+        let rooms = (room(random, tables.cells.len()), room(random, tables.functions.len()));
+        (*cell_list, *function_list) = (random.numbers(rooms.0), random.numbers(rooms.1));
+        if call == Call::ReadMesh {
+            *file = random_file(random, tables.plan);
+        }
+    }
+
+    /// Somebody hands in another draft, or another list.
+    fn disturb(&mut self, random: &mut Random) {
+        let markable = self.input.tables.markable(RefineCells);
+        let total = self.input.tables.cells.len();
+        let draft = &mut self.input.draft;
+        let entries = draft.list.len();
+        match random.below(9) {
+            0 => draft.open = random.pick(&[0, 1, 2, 1 << 31, u32::MAX]),
+            1 => draft.marks = random.pick(&[0, entries / 2, entries, entries + 1]),
+            2 => draft.marks = random.pick(&[usize::MAX, usize::MAX - 1, 1 << 32, 1 << 63]),
+            3 => draft.list = random.numbers(entries),
+            4 => draft.list.truncate(random.below(entries + 1)),
+            5 => draft.list.extend(random.numbers(3)),
+            6 if !markable.is_empty() => {
+                draft.list.iter_mut().for_each(|entry| *entry = random.pick(&markable));
+            }
+            _ if draft.marks > 0 && draft.marks <= entries => {
+                draft.list[random.below(draft.marks)] = random.below(total + 1) as u32;
+            }
+            _ => {}
+        }
+    }
+
+    /// Makes the call on tables, plan or heights with something wrong, and a copy of all else.
+    fn make_damaged(&self, random: &mut Random, call: Call) -> u32 {
+        let mut damaged = self.input.clone();
+        let Input { tables, heights, .. } = &mut damaged;
+        for _ in 0..random.pick(&[1, 1, 2]) {
+            if !tables.functions.is_empty() {
+                let thing = random.below(DAMAGES);
+                damage(random, thing, &self.input.tables, tables, heights);
+            }
+        }
+        let before = damaged.clone();
+        let number = damaged.make(call).number;
+        assert!(number == 0 || damaged == before, "{call:?}");
+        number
+    }
+
+    /// One call of the run. What it answers in tables, lists, heights and draft is held to the model.
+    fn turn(&mut self, random: &mut Random, seen: &mut Seen) {
+        if random.once_in(12) {
+            self.disturb(random);
+        }
+        let call = self.pick(random);
+        self.prepare(random, call);
+        if random.once_in(6) {
+            seen.count(call, self.make_damaged(random, call));
+        }
+        let before = self.input.clone();
+        let outcome = self.input.make(call);
+        seen.count(call, outcome.number);
+        self.expect_kept(call, &outcome, &before);
+        if let Some(kind) = call.kind() {
+            self.log.push((kind, outcome));
+        }
+        if random.once_in(10) {
+            self.look();
+        }
+    }
+
+    /// What no call may touch, whatever the model says.
+    fn expect_kept(&self, call: Call, outcome: &Outcome, before: &Input) {
+        let input = &self.input;
+        assert!(outcome.number == 0 || input == before, "{call:?}: {}", outcome.number);
+        let changes = call.kind().is_some() || matches!(call, Call::OpenMesh | Call::ReadMesh);
+        assert!(changes || input.tables == before.tables, "{call:?}");
+        let carries = matches!(call, Call::WithHeights(_));
+        assert!(carries || input.heights == before.heights, "{call:?}");
+        assert!(call == Call::Add || input.draft.list == before.draft.list, "{call:?}");
+        let keeps = matches!(call, Call::Change(_) | Call::WithHeights(_));
+        assert!(!keeps || input.draft == before.draft, "{call:?}");
+        if let Some(marks) = before.draft.collected() {
+            let ends = matches!(call, Call::Close | Call::OpenMesh | Call::ReadMesh);
+            assert!(ends || input.tables == before.tables, "{call:?} while a draft is open");
+            assert!(input.draft.list.starts_with(marks), "{call:?}");
+        }
+    }
+
+    /// Calls that only read the tables, which know of no draft.
+    fn look(&self) {
+        let tables = &self.input.tables;
+        assert_eq!(tables.check(), 0);
+        assert_eq!(tables.count().number, 0);
+        assert!(!tables.file().is_empty());
+    }
+}
+
+/// The file of a mesh of the plan, often with something wrong.
+fn random_file(random: &mut Random, plan: Plan) -> Vec<u8> {
+    let refined = random_refined(random, plan);
+    let mut file = Tables::with_refined(plan, &refined).file();
+    match random.below(8) {
+        0 => drop(file.pop()),
+        1 => file.push(random.pick(&[0, 2, 200])),
+        2 => file[0] = random.pick(&[0, 1, 16, 17]),
+        3 => file[2] = random.pick(&[0, 5, 8, 9]),
+        4 => file[5] = random.pick(&[0, 2, 3, 9]),
+        5 => {
+            let at = random.below(file.len());
+            file[at] = random.bits() as u8;
+        }
+        _ => {}
+    }
+    file
+}
+
+/// A run on the plan. One without other meshes is taken back: the opposite calls by cells, without a
+/// draft, each accepted with the same lists, and the first tables are there again.
+fn run(random: &mut Random, plan: Plan, other_meshes: bool, seen: &mut Seen) -> usize {
+    let first = start(random, plan);
+    let mut run = Run::new(random, first.clone(), other_meshes);
+    for _ in 0..random.below(40) + 20 {
+        run.turn(random, seen);
+    }
+    if other_meshes {
+        return 0;
+    }
+    let mut tables = run.input.tables;
+    let spare = random.pick(&[0, 3]);
+    undo_by_cells(&mut tables, &run.log, spare, random);
+    assert_eq!(tables, first);
+    run.log.iter().map(|(_, outcome)| outcome.cells.len()).sum()
+}
+
+/// Runs on plans of these degrees and this class, of which every other is one whose surface has
+/// heights.
+fn runs(random: &mut Random, class: u32, seen: &mut Seen) -> (usize, usize) {
+    let (mut taken_back, mut cornered) = (0, 0);
+    for degrees in (1..=4).flat_map(|across| (1..=4).map(move |up| (across, up))).cycle().take(96) {
+        let most = random.pick(&[30, 100, 400, 1500]);
+        let plan = random_plan(random, degrees, class, most);
+        let degrees = random.pick(&DEGREES);
+        for plan in [plan, with_heights(random, degrees, class, 100)] {
+            cornered += usize::from(has_corners(plan));
+            let other_meshes = random.once_in(3);
+            taken_back += run(random, plan, other_meshes, seen);
+        }
+    }
+    (taken_back, cornered)
+}
+
+#[test]
+fn calls_in_every_order() {
+    let mut random = Random::new(1000);
+    let mut seen = Seen::new();
+    for class in [0, 2, 3, 4, 5, 6, 7, 8] {
+        let (taken_back, cornered) = runs(&mut random, class, &mut seen);
+        assert!(taken_back > 1000 && cornered > 20, "{class}: {taken_back} {cornered}");
+    }
+    eprintln!("{:?}", seen.0);
+    seen.expect_all();
+}
