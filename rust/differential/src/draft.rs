@@ -41,6 +41,9 @@ impl Call {
         ReadMesh,
     ];
 
+    /// Those beside one, which there are without a draft too.
+    pub const BESIDE: &'static [Call] = Call::ALL.split_at(4).1;
+
     /// The kind of a change that a run is to take back, refused or not. A closed draft is one
     /// refinement by cells.
     pub fn kind(self) -> Option<Kind> {

@@ -2,6 +2,7 @@
 //! the model; whole runs taken back; and what a draft is to the calls that know none.
 
 use differential::draft::{Call, Input};
+use differential::scenario;
 use differential::surface::{damage, random_heights, with_heights, Fill, DAMAGES, DEGREES};
 use differential::{
     has_corners, random_marks, random_plan, random_refined, undo_by_cells, Kind, Log, Outcome,
@@ -19,9 +20,13 @@ impl Seen {
         Seen([[0; 20]; Call::ALL.len()])
     }
 
-    fn count(&mut self, call: Call, number: u32) {
+    fn of(&mut self, call: Call) -> &mut [u32; 20] {
         let row = Call::ALL.iter().position(|&other| other == call).expect("a call");
-        self.0[row][number as usize] += 1;
+        &mut self.0[row]
+    }
+
+    fn count(&mut self, call: Call, number: u32) {
+        self.of(call)[number as usize] += 1;
     }
 
     /// Every call was accepted, gave each refusal that it can give, and no other.
@@ -284,6 +289,247 @@ fn calls_in_every_order() {
         let (taken_back, cornered) = runs(&mut random, class, &mut seen);
         assert!(taken_back > 1000 && cornered > 20, "{class}: {taken_back} {cornered}");
     }
-    eprintln!("{:?}", seen.0);
     seen.expect_all();
+}
+
+// ---- What a draft comes to ----
+
+/// An open draft on the mesh, with a list of that length, to be filled.
+fn opened(tables: &Tables, entries: usize, random: &mut Random) -> Draft {
+    let mut draft = Draft::none(random.numbers(entries));
+    assert_eq!(tables.draft_open(&mut draft), 0);
+    assert_eq!((draft.open, draft.marks), (1, 0));
+    draft
+}
+
+/// Adds that are accepted or refused. Answers the marks that were added, as this test keeps them.
+fn fill(tables: &Tables, draft: &mut Draft, random: &mut Random) -> Vec<u32> {
+    let mut added = vec![];
+    for _ in 0..random.below(8) {
+        let marks = random_marks(random, tables, RefineCells);
+        let before = draft.clone();
+        if tables.draft_add(draft, &marks) == 0 {
+            added.extend(marks);
+        } else {
+            assert_eq!(draft, &before);
+        }
+        assert_eq!(draft.collected(), Some(&added[..]));
+        assert_eq!(draft.list[added.len()..], before.list[added.len()..]);
+    }
+    added
+}
+
+/// Closing is refining by cells with all marks: number, lists and tables, refused or not. A refused
+/// one leaves the draft, which can be closed again.
+fn expect_closed_as_refined(
+    tables: &mut Tables,
+    draft: &mut Draft,
+    marks: &[u32],
+    rooms: (usize, usize),
+    random: &mut Random,
+) -> Outcome {
+    let (cell_list, function_list) = (random.numbers(rooms.0), random.numbers(rooms.1));
+    let mut refined = tables.clone();
+    let expected = refined.call(RefineCells, marks, &cell_list, &function_list);
+    let before = draft.clone();
+    let outcome = tables.draft_close(draft, &cell_list, &function_list);
+    assert_eq!(outcome, expected);
+    assert_eq!(tables, &refined);
+    match outcome.number {
+        0 => assert_eq!(*draft, Draft { open: 0, marks: 0, list: before.list }),
+        _ => assert_eq!(draft, &before),
+    }
+    outcome
+}
+
+#[test]
+fn closed_as_one_refinement() {
+    let mut random = Random::new(1001);
+    let (mut seen, mut refined) = ([0; 12], 0);
+    for turn in 0..3000 {
+        let (degrees, class) = ((turn % 4 + 1, turn / 4 % 4 + 1), random.pick(&[0, 2, 2, 3, 4]));
+        let most = random.pick(&[30, 100, 400]);
+        let plan = random_plan(&mut random, degrees, class, most);
+        let mut tables = start(&mut random, plan);
+        let entries = random.pick(&[0, 5, 50, 1000, 1000]);
+        let mut draft = opened(&tables, entries, &mut random);
+        let marks = fill(&tables, &mut draft, &mut random);
+        let totals = (tables.cells.len(), tables.functions.len());
+        let rooms = (room(&mut random, totals.0), room(&mut random, totals.1));
+        let mut outcome =
+            expect_closed_as_refined(&mut tables, &mut draft, &marks, rooms, &mut random);
+        seen[outcome.number as usize] += 1;
+        if outcome.number != 0 {
+            outcome =
+                expect_closed_as_refined(&mut tables, &mut draft, &marks, totals, &mut random);
+        }
+        assert_eq!(outcome.number, 0);
+        refined += outcome.cells.len();
+    }
+    assert!(
+        seen[0] > 1000 && seen[10] > 20 && seen[11] > 20 && refined > 2000,
+        "{seen:?} {refined}"
+    );
+}
+
+/// The same on meshes near the largest, then taken back as the one refinement that it is.
+#[test]
+fn closed_on_the_largest_meshes() {
+    let mut random = Random::new(1002);
+    let mut scenarios = scenario::all();
+    scenarios.extend(scenario::with_corners());
+    scenarios.extend(scenario::with_heights());
+    for scenario in scenarios {
+        let first = &scenario.to_refine;
+        let mut tables = first.clone();
+        let mut marks = tables.markable(RefineCells);
+        random.shuffle(&mut marks);
+        let mut draft = opened(&tables, marks.len(), &mut random);
+        let (some, others) = marks.split_at(random.below(marks.len()));
+        assert_eq!(tables.draft_add(&mut draft, some), 0);
+        assert_eq!(tables.draft_add(&mut draft, &[others, &marks[..1]].concat()), 10, "{scenario}");
+        assert_eq!(tables.draft_add(&mut draft, others), 0);
+        let totals = (tables.cells.len(), tables.functions.len());
+        let outcome =
+            expect_closed_as_refined(&mut tables, &mut draft, &marks, totals, &mut random);
+        undo_by_cells(&mut tables, &vec![(RefineCells, outcome)], 0, &mut random);
+        assert!(&tables == first, "{scenario}");
+    }
+}
+
+/// Dropping leaves everything but the draft's two numbers.
+#[test]
+fn dropped_without_a_trace() {
+    let mut random = Random::new(1003);
+    let mut dropped = 0;
+    for turn in 0..400 {
+        let degrees = (turn % 4 + 1, turn / 4 % 4 + 1);
+        let class = random.pick(&[0, 2, 3]);
+        let plan = random_plan(&mut random, degrees, class, 200);
+        let first = start(&mut random, plan);
+        let tables = first.clone();
+        let mut draft = opened(&tables, 30, &mut random);
+        dropped += fill(&tables, &mut draft, &mut random).len();
+        let list = draft.list.clone();
+        assert_eq!(tables.draft_drop(&mut draft), 0);
+        assert_eq!(draft, Draft { open: 0, marks: 0, list });
+        assert_eq!(tables, first);
+        // There is none to close now, and a new one begins without marks.
+        assert_eq!(tables.clone().draft_close(&mut draft, &[], &[]).number, 19);
+        assert_eq!(tables.draft_open(&mut draft), 0);
+        assert_eq!(draft.collected(), Some(&[][..]));
+    }
+    assert!(dropped > 1000, "{dropped}");
+}
+
+/// While a draft is open, no call but closing changes a table: splits and joins of every kind are
+/// refused, with marks and without, and so is a second draft.
+#[test]
+fn while_a_draft_is_open() {
+    let mut random = Random::new(1004);
+    for turn in 0..300 {
+        let degrees = random.pick(&DEGREES);
+        let plan = with_heights(&mut random, degrees, [0, 2, 3][turn % 3], 100);
+        let mut input = Input::new(start(&mut random, plan));
+        input.draft = opened(&input.tables, 40, &mut random);
+        fill(&input.tables, &mut input.draft, &mut random);
+        input.draft.open = random.pick(&[1, 1, 2, u32::MAX]);
+        for call in Call::ALL {
+            let kind = call.kind().unwrap_or(RefineCells);
+            let mut lent = input.clone();
+            lent.marks = random_marks(&mut random, &lent.tables, kind);
+            let before = lent.clone();
+            let number = lent.make(call).number;
+            match call {
+                Call::Open | Call::Change(_) | Call::WithHeights(_) => {
+                    assert_eq!(number, 18, "{call:?}");
+                    assert_eq!(lent, before);
+                }
+                Call::Add | Call::Drop => assert_eq!(lent.tables, before.tables),
+                Call::Close => assert_eq!(number, 0),
+                Call::OpenMesh | Call::ReadMesh => {}
+            }
+        }
+    }
+}
+
+// ---- No draft open ----
+
+/// A draft that counts as not open.
+fn none_open(random: &mut Random) -> Draft {
+    let entries = random.pick(&[0, 1, 3, 20]);
+    let list = random.numbers(entries);
+    match random.below(4) {
+        0 => Draft::none(list),
+        1 => Draft { open: 0, marks: random.below(entries + 2), list },
+        2 => Draft { open: random.pick(&[1, 2, u32::MAX]), marks: entries + 1, list },
+        _ => Draft {
+            open: random.pick(&[1, 1 << 31]),
+            marks: random.pick(&[1 << 32, usize::MAX]),
+            list,
+        },
+    }
+}
+
+/// The forms without a draft, which are to do the same.
+fn make_without_draft(input: &mut Input, call: Call) -> Outcome {
+    let Input { tables, heights, marks, cell_list, function_list, file, .. } = input;
+    let number = match call {
+        Call::Change(kind) => return tables.call(kind, marks, cell_list, function_list),
+        Call::WithHeights(kind) => {
+            let lists = (&cell_list[..], &function_list[..]);
+            return tables.refine_with_heights(kind, heights, marks, lists.0, lists.1);
+        }
+        Call::OpenMesh => tables.open(),
+        Call::ReadMesh => {
+            let plan = tables.plan;
+            let number = tables.read(file);
+            if number != 0 {
+                tables.plan = plan;
+            }
+            number
+        }
+        Call::Open | Call::Add | Call::Close | Call::Drop => panic!("{call:?} needs a draft"),
+    };
+    Outcome { number, cells: vec![], functions: vec![] }
+}
+
+/// On good input and on bad: what the forms without a draft give, and the draft as it was, or none
+/// where opening or reading a mesh is accepted.
+#[test]
+fn with_none_open_as_without_a_draft() {
+    let mut random = Random::new(1005);
+    let mut seen = Seen::new();
+    for turn in 0..2000 {
+        let class = [0, 2, 3][turn % 3];
+        let degrees = random.pick(&[(1, 1), (2, 1), (1, 2), (2, 2), (3, 1), (4, 4)]);
+        let plan = random_plan(&mut random, degrees, class, 100);
+        let tables = start(&mut random, plan);
+        let mut run = Run::new(&mut random, tables, true);
+        for &call in Call::BESIDE {
+            run.input.draft = none_open(&mut random);
+            run.prepare(&mut random, call);
+            let mut with = run.input.clone();
+            if random.once_in(2) {
+                let thing = random.below(DAMAGES);
+                let Input { tables, heights, .. } = &mut with;
+                damage(&mut random, thing, &run.input.tables, tables, heights);
+            }
+            let mut without = with.clone();
+            let outcome = with.make(call);
+            assert_eq!(outcome, make_without_draft(&mut without, call), "{call:?}");
+            seen.count(call, outcome.number);
+            if outcome.number == 0 && matches!(call, Call::OpenMesh | Call::ReadMesh) {
+                (without.draft.open, without.draft.marks) = (0, 0);
+            }
+            assert_eq!(with, without, "{call:?}");
+        }
+    }
+    for &call in Call::BESIDE {
+        let seen = seen.of(call);
+        for number in refusals(call).into_iter().filter(|&number| number != 18) {
+            assert!(seen[number as usize] > 0, "{call:?}: {number} of {seen:?}");
+        }
+        assert_eq!(seen[18], 0, "{call:?}");
+    }
 }
