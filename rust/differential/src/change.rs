@@ -1,6 +1,6 @@
 //! Refining and coarsening calls: plain, with heights, with a draft, or with both.
 
-use crate::draft::raw_draft;
+use crate::draft::{lent_list, raw_draft};
 use crate::{overwritten, raw, Kind, Lent, Outcome, Slice, Tables};
 use model::draft::Draft;
 use model::shape::refine_with_heights;
@@ -8,13 +8,13 @@ use model::Plan;
 use wallmirror::ffi;
 
 /// A call with what it is lent beside the tables.
-struct Change<'a> {
-    kind: Kind,
-    heights: Option<&'a mut Vec<i32>>,
-    draft: Option<&'a Draft>,
-    marks: &'a [u32],
-    cell_list: &'a [u32],
-    function_list: &'a [u32],
+pub struct Change<'a> {
+    pub kind: Kind,
+    pub heights: Option<&'a mut Vec<i32>>,
+    pub draft: Option<&'a Draft>,
+    pub marks: &'a [u32],
+    pub cell_list: &'a [u32],
+    pub function_list: &'a [u32],
 }
 
 impl Change<'_> {
@@ -74,6 +74,60 @@ impl LentLists {
         self.cells.expect(&overwritten(cell_list, &outcome.cells), "cell list", said);
         let functions = overwritten(function_list, &outcome.functions);
         self.functions.expect(&functions, "function list", said);
+    }
+}
+
+/// A call on buffers of its own, ready to run.
+pub struct Lending {
+    kind: Kind,
+    plan: ffi::Plan,
+    cells: Lent<u8>,
+    functions: Lent<u8>,
+    heights: Option<Lent<i32>>,
+    draft: Option<(ffi::Draft, Lent<u32>)>,
+    marks: Lent<u32>,
+    lists: LentLists,
+}
+
+impl Lending {
+    pub fn new(tables: &Tables, change: &Change) -> Lending {
+        let (cells, functions) = tables.lend();
+        Lending {
+            kind: change.kind,
+            plan: raw(tables.plan),
+            cells,
+            functions,
+            heights: change.heights.as_ref().map(|heights| Lent::new(heights, 0x2468_ace1)),
+            draft: change.draft.map(|draft| (raw_draft(draft), lent_list(draft))),
+            marks: Lent::new(change.marks, 0x1234_5678),
+            lists: LentLists::new(change.cell_list, change.function_list),
+        }
+    }
+
+    pub fn run(&mut self) -> ffi::Answer {
+        let Lending { kind, plan: p, cells, functions, heights, draft, marks, lists } = self;
+        let ((c, c_len), (f, f_len)) = (cells.slice(), functions.slice());
+        let (m, m_len) = marks.slice();
+        let ((cl, cl_len), (fl, fl_len)) = lists.slices();
+        let heights = heights.as_mut().map(Lent::slice);
+        let draft = draft.as_mut().map(|(draft, list)| (*draft, list.slice()));
+        // SAFETY: separate buffers of these lengths.
+        unsafe {
+            match (heights, draft) {
+                (None, None) => {
+                    kind.of_library()(*p, c, c_len, f, f_len, m, m_len, cl, cl_len, fl, fl_len)
+                }
+                (Some((h, h_len)), None) => kind.with_heights()(
+                    *p, c, c_len, f, f_len, h, h_len, m, m_len, cl, cl_len, fl, fl_len,
+                ),
+                (None, Some((d, (l, l_len)))) => kind.with_draft()(
+                    *p, c, c_len, f, f_len, d, l, l_len, m, m_len, cl, cl_len, fl, fl_len,
+                ),
+                (Some((h, h_len)), Some((d, (l, l_len)))) => kind.with_heights_and_draft()(
+                    *p, c, c_len, f, f_len, h, h_len, d, l, l_len, m, m_len, cl, cl_len, fl, fl_len,
+                ),
+            }
+        }
     }
 }
 
@@ -142,49 +196,23 @@ impl Tables {
     }
 
     fn change(&mut self, change: Change) -> Outcome {
-        let (mut cells, mut functions) = self.lend();
-        let mut heights = change.heights.as_ref().map(|heights| Lent::new(heights, 0x2468_ace1));
-        let mut list = change.draft.map(|draft| Lent::new(&draft.list, 0x0f1e_2d3c));
-        let mut marks = Lent::new(change.marks, 0x1234_5678);
-        let mut lists = LentLists::new(change.cell_list, change.function_list);
+        let mut lent = Lending::new(self, &change);
         let (plan, kind) = (self.plan, change.kind);
         let said = || change.said(plan);
-        let ((c, c_len), (f, f_len)) = (cells.slice(), functions.slice());
-        let (m, m_len) = marks.slice();
-        let ((cl, cl_len), (fl, fl_len)) = lists.slices();
-        let lent_heights = heights.as_mut().map(Lent::slice);
-        let lent_list = list.as_mut().map(Lent::slice);
-        let p = raw(plan);
-        // SAFETY: separate buffers of these lengths.
-        let answer = unsafe {
-            match (lent_heights, change.draft.map(raw_draft).zip(lent_list)) {
-                (None, None) => {
-                    kind.of_library()(p, c, c_len, f, f_len, m, m_len, cl, cl_len, fl, fl_len)
-                }
-                (Some((h, h_len)), None) => kind.with_heights()(
-                    p, c, c_len, f, f_len, h, h_len, m, m_len, cl, cl_len, fl, fl_len,
-                ),
-                (None, Some((d, (l, l_len)))) => kind.with_draft()(
-                    p, c, c_len, f, f_len, d, l, l_len, m, m_len, cl, cl_len, fl, fl_len,
-                ),
-                (Some((h, h_len)), Some((d, (l, l_len)))) => kind.with_heights_and_draft()(
-                    p, c, c_len, f, f_len, h, h_len, d, l, l_len, m, m_len, cl, cl_len, fl, fl_len,
-                ),
-            }
-        };
+        let answer = lent.run();
         let (expected, carried) = match change.expected(self) {
             Err(number) => (Err(number), None),
             Ok((made, carried)) => (Ok(made), carried),
         };
         let outcome = self.expect_change(kind, change.marks, answer, expected, &said);
-        cells.expect(&self.cells, "cell table", &said);
-        functions.expect(&self.functions, "function table", &said);
-        marks.expect(change.marks, "marks", &said);
-        lists.expect((change.cell_list, change.function_list), &outcome, &said);
-        if let (Some(lent), Some(draft)) = (list, change.draft) {
-            lent.expect(&draft.list, "list of the draft", &said);
+        lent.cells.expect(&self.cells, "cell table", &said);
+        lent.functions.expect(&self.functions, "function table", &said);
+        lent.marks.expect(change.marks, "marks", &said);
+        lent.lists.expect((change.cell_list, change.function_list), &outcome, &said);
+        if let (Some((_, list)), Some(draft)) = (lent.draft, change.draft) {
+            list.expect(&draft.list, "list of the draft", &said);
         }
-        if let (Some(lent), Some(before)) = (heights, &change.heights) {
+        if let (Some(lent), Some(before)) = (lent.heights, &change.heights) {
             lent.expect(carried.as_ref().unwrap_or(before), "heights", &said);
         }
         if let (Some(heights), Some(carried)) = (change.heights, carried) {

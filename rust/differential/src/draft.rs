@@ -260,6 +260,6 @@ impl Tables {
     }
 }
 
-fn lent_list(draft: &Draft) -> Lent<u32> {
+pub(crate) fn lent_list(draft: &Draft) -> Lent<u32> {
     Lent::new(&draft.list, 0x0f1e_2d3c)
 }

@@ -5,8 +5,9 @@ use std::collections::BTreeSet;
 use std::fmt::Debug;
 use wallmirror::{ffi, Refusal, MAX_FILE_BYTES};
 
-mod change;
+pub mod change;
 pub mod draft;
+pub mod pages;
 pub mod scenario;
 pub mod surface;
 

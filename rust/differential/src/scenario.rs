@@ -108,7 +108,7 @@ fn cornered(numbers: [u32; 6]) -> Plan {
 }
 
 /// All cells refined, and the mesh before its last level was.
-fn wholly(plan: Plan) -> Scenario {
+pub fn wholly(plan: Plan) -> Scenario {
     steps("wholly refined", plan, plan.levels - 1, |tables, _| tables.markable(Kind::RefineCells))
 }
 

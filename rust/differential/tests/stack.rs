@@ -1,12 +1,14 @@
 //! The stack that a call takes is at most `STACK_BYTES`: measured on a painted stack, tried on one
 //! without a byte more, and tried on a thread.
 
+use differential::change::{Change, Lending};
+use differential::pages::{Access, Pages, PAGE};
 use differential::scenario::{self, Scenario};
 use differential::{raw, Kind, Tables};
+use model::draft::Draft;
 use model::Plan;
 use std::arch::asm;
 use std::collections::BTreeMap;
-use std::ffi::c_void;
 use wallmirror::{ffi, MAX_CORNER_DOUBLES, MAX_PROJECTED_CELLS, STACK_BYTES};
 
 /// What a thread needs for itself: its start in the C library and in Rust, its thread-local data,
@@ -29,10 +31,15 @@ fn each_call(scenarios: &[Scenario], mut visit: impl FnMut(&str, &str, Ready)) {
             let last = markable.len().saturating_sub(1);
             for marks in [&markable[..0], &markable[last..], &markable[..]] {
                 let place = format!("{scenario}, {} marks", marks.len());
-                change(kind, tables, marks, |ready| visit(kind.name(), &place, ready));
-                if kind.refines() && has_heights(tables.plan) {
-                    let name = format!("{} with heights", kind.name());
-                    with_heights(kind, tables, marks, |ready| visit(&name, &place, ready));
+                let can_have_heights = kind.refines() && has_heights(tables.plan);
+                for heights in [false, true].into_iter().filter(|&has| !has || can_have_heights) {
+                    for form in [false, true].map(|draft| Form { heights, draft }) {
+                        let name = form.name(kind);
+                        change(kind, tables, marks, form, |ready| visit(&name, &place, ready));
+                    }
+                }
+                if kind == Kind::RefineCells {
+                    each_call_on_a_draft(tables, marks, &place, &mut visit);
                 }
             }
         }
@@ -118,98 +125,122 @@ fn each_call_without_marks(
     visit("open", place, &mut || unsafe {
         ffi::wallmirror_open(raw(plan), cells.as_mut_ptr(), t, functions.as_mut_ptr(), f)
     });
-}
-
-fn change(kind: Kind, tables: &Tables, marks: &[u32], visit: impl FnOnce(Ready)) {
-    let Tables { plan, mut cells, mut functions } = tables.clone();
-    let (mut cell_list, mut function_list) = (vec![0; cells.len()], vec![0; functions.len()]);
-    // SAFETY: separate vectors of these lengths.
-    visit(&mut || unsafe {
-        kind.of_library()(
-            raw(plan),
-            cells.as_mut_ptr(),
-            cells.len(),
-            functions.as_mut_ptr(),
-            functions.len(),
-            marks.as_ptr(),
-            marks.len(),
-            cell_list.as_mut_ptr(),
-            cell_list.len(),
-            function_list.as_mut_ptr(),
-            function_list.len(),
-        )
-        .number
+    let draft = ffi::Draft { open: 1, marks: 0 };
+    visit("read with a draft", place, &mut || unsafe {
+        let (cells, functions) = (cells.as_mut_ptr(), functions.as_mut_ptr());
+        let (file, length) = (file.as_ptr(), file.len());
+        ffi::wallmirror_read_with_draft(file, length, cells, t, functions, f, draft).answer.number
+    });
+    visit("open with a draft", place, &mut || unsafe {
+        let (cells, functions) = (cells.as_mut_ptr(), functions.as_mut_ptr());
+        ffi::wallmirror_open_with_draft(raw(plan), cells, t, functions, f, draft).number
     });
 }
 
-fn with_heights(kind: Kind, tables: &Tables, marks: &[u32], visit: impl FnOnce(Ready)) {
-    let Tables { plan, mut cells, mut functions } = tables.clone();
-    let (mut cell_list, mut function_list) = (vec![0; cells.len()], vec![0; functions.len()]);
+/// A refining or coarsening call, with heights and with a draft if so.
+fn change(kind: Kind, tables: &Tables, marks: &[u32], with: Form, visit: impl FnOnce(Ready)) {
     // 4,096 mm on level 0 and less on the others, so that no carried height is beyond the limit.
-    let mut heights = vec![-4_096; functions.len()];
-    // SAFETY: separate vectors of these lengths.
-    visit(&mut || unsafe {
-        kind.with_heights()(
+    let mut heights = vec![-4_096; tables.functions.len()];
+    let draft = Draft::none(marks.to_vec());
+    let (cell_list, function_list) = tables.lists_with_room();
+    let change = Change {
+        kind,
+        heights: with.heights.then_some(&mut heights),
+        draft: with.draft.then_some(&draft),
+        marks,
+        cell_list: &cell_list,
+        function_list: &function_list,
+    };
+    let mut lending = Lending::new(tables, &change);
+    visit(&mut || lending.run().number);
+}
+
+#[derive(Clone, Copy)]
+struct Form {
+    heights: bool,
+    draft: bool,
+}
+
+impl Form {
+    fn name(self, kind: Kind) -> String {
+        let with = match (self.heights, self.draft) {
+            (false, false) => "",
+            (true, false) => " with heights",
+            (false, true) => " with a draft",
+            (true, true) => " with heights and a draft",
+        };
+        format!("{}{with}", kind.name())
+    }
+}
+
+/// The calls on a draft that has these marks, or gets them.
+fn each_call_on_a_draft(
+    tables: &Tables,
+    marks: &[u32],
+    place: &str,
+    visit: &mut impl FnMut(&str, &str, Ready),
+) {
+    let Tables { plan, mut cells, mut functions } = tables.clone();
+    let (cells, functions) = (&mut cells[..], &mut functions[..]);
+    let (t, f, many) = (cells.len(), functions.len(), marks.len());
+    let (mut cell_list, mut function_list) = tables.lists_with_room();
+    let mut list = marks.to_vec();
+    let (empty, full) = (ffi::Draft { open: 1, marks: 0 }, ffi::Draft { open: 1, marks: many });
+    // SAFETY: separate vectors of these lengths, here and below.
+    visit("open a draft", place, &mut || unsafe {
+        let (cells, functions, list) = (cells.as_ptr(), functions.as_ptr(), list.as_ptr());
+        ffi::wallmirror_draft_open(raw(plan), cells, t, functions, f, ffi::Draft::NONE, list, many)
+            .number
+    });
+    visit("add to a draft", place, &mut || unsafe {
+        let (cells, functions, list) = (cells.as_ptr(), functions.as_ptr(), list.as_mut_ptr());
+        let marks = marks.as_ptr();
+        ffi::wallmirror_draft_add(raw(plan), cells, t, functions, f, empty, list, many, marks, many)
+            .number
+    });
+    visit("drop a draft", place, &mut || unsafe {
+        let (cells, functions, list) = (cells.as_ptr(), functions.as_ptr(), list.as_ptr());
+        ffi::wallmirror_draft_drop(raw(plan), cells, t, functions, f, full, list, many).number
+    });
+    visit("close a draft", place, &mut || unsafe {
+        let (cells, functions, list) = (cells.as_mut_ptr(), functions.as_mut_ptr(), list.as_ptr());
+        let (cell_list, function_list) = (cell_list.as_mut_ptr(), function_list.as_mut_ptr());
+        ffi::wallmirror_draft_close(
             raw(plan),
-            cells.as_mut_ptr(),
-            cells.len(),
-            functions.as_mut_ptr(),
-            functions.len(),
-            heights.as_mut_ptr(),
-            heights.len(),
-            marks.as_ptr(),
-            marks.len(),
-            cell_list.as_mut_ptr(),
-            cell_list.len(),
-            function_list.as_mut_ptr(),
-            function_list.len(),
+            cells,
+            t,
+            functions,
+            f,
+            full,
+            list,
+            many,
+            cell_list,
+            t,
+            function_list,
+            f,
         )
+        .answer
         .number
     });
 }
 
-const PAGE: usize = 4096;
 const PAINT: u8 = 0xc5;
 
 /// Memory to run a call on: a page that must not be touched, and above it painted bytes.
-struct Stack {
-    mapped: *mut u8,
-    size: usize,
-}
-
-extern "C" {
-    fn mmap(
-        at: *mut c_void,
-        size: usize,
-        access: i32,
-        flags: i32,
-        file: i32,
-        offset: i64,
-    ) -> *mut c_void;
-    fn mprotect(at: *mut c_void, size: usize, access: i32) -> i32;
-    fn munmap(at: *mut c_void, size: usize) -> i32;
-}
+struct Stack(Pages);
 
 impl Stack {
     /// The size is to be one of whole pages.
     fn new(size: usize) -> Stack {
-        const NO_ACCESS: i32 = 0;
-        const READ_AND_WRITE: i32 = 3;
-        const PRIVATE_AND_ANONYMOUS: i32 = 0x22;
-        assert_eq!(size % PAGE, 0);
-        // SAFETY: asks for memory of its own.
-        let mapped = unsafe {
-            mmap(std::ptr::null_mut(), PAGE + size, READ_AND_WRITE, PRIVATE_AND_ANONYMOUS, -1, 0)
-        };
-        assert_ne!(mapped as isize, -1, "no memory for a stack");
-        // SAFETY: the first page of that memory, which nothing uses.
-        assert_eq!(unsafe { mprotect(mapped, PAGE, NO_ACCESS) }, 0);
-        Stack { mapped: mapped.cast(), size }
+        let mut pages = Pages::new(PAGE + size);
+        pages.allow(0..PAGE, Access::None);
+        Stack(pages)
     }
 
     fn bytes(&mut self) -> &mut [u8] {
-        // SAFETY: mapped in `new`, readable and writable, and used by nothing else meanwhile.
-        unsafe { std::slice::from_raw_parts_mut(self.mapped.add(PAGE), self.size) }
+        let size = self.0.size();
+        // SAFETY: readable and writable, and used by nothing else meanwhile.
+        unsafe { std::slice::from_raw_parts_mut(self.0.at(PAGE), size - PAGE) }
     }
 
     /// Runs the call on this stack: its number, and how many bytes it took together with the frames
@@ -219,7 +250,7 @@ impl Stack {
         let mut work = Work { call, number: u32::MAX };
         // SAFETY: the end of the painted bytes, aligned as a stack is to be; `start` does not unwind.
         unsafe {
-            let top = self.mapped.add(PAGE + self.size);
+            let top = self.0.at(self.0.size());
             asm!(
                 "mov r12, rsp",
                 "mov rsp, rsi",
@@ -233,15 +264,9 @@ impl Stack {
             );
         }
         let number = work.number;
-        let untouched = self.bytes().iter().position(|&byte| byte != PAINT);
-        (number, self.size - untouched.expect("a stack that was used"))
-    }
-}
-
-impl Drop for Stack {
-    fn drop(&mut self) {
-        // SAFETY: what `new` mapped.
-        unsafe { munmap(self.mapped.cast(), PAGE + self.size) };
+        let bytes = self.bytes();
+        let untouched = bytes.iter().position(|&byte| byte != PAINT);
+        (number, bytes.len() - untouched.expect("a stack that was used"))
     }
 }
 
@@ -278,7 +303,7 @@ fn measure(scenarios: &[Scenario]) {
         }
     });
     for (name, (used, place)) in &greatest {
-        println!("{name:<29} {used:>7} bytes of stack at most: {place}");
+        println!("{name:<41} {used:>7} bytes of stack at most: {place}");
     }
     for (name, (used, place)) in greatest {
         assert!(used <= STACK_BYTES, "{name} takes {used} bytes of stack: {place}");
