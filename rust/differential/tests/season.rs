@@ -1,7 +1,8 @@
 //! The wrapper's own meshes and its seasons.
 //!
-//! Runs of calls of all four kinds, refused ones among them, are made on a `Mesh` and in a `Season`
-//! beside lent tables, whose calls are held to the model one by one; then the season is taken back.
+//! Runs of calls of all four kinds, refused ones among them, and of drafts are made on a `Mesh` and
+//! in a `Season` beside lent tables, whose calls are held to the model one by one; then the season is
+//! taken back.
 //! Damaged meshes are refused as lent tables are. The first mark at fault is the one that the model
 //! refuses.
 
@@ -10,6 +11,7 @@ use differential::{
     all_corners, has_corners, of_wrapper, plan, random_marks, random_plan, random_refined, Kind,
     Outcome, Random, Tables,
 };
+use model::draft::Draft;
 use model::Plan;
 use std::collections::BTreeSet;
 use wallmirror::{
@@ -97,22 +99,49 @@ fn with_heights_in_season(
     lists.cloned()
 }
 
-/// The lent call with heights and lists of T and F entries.
+/// The mesh with the draft that is open on lent tables.
+fn owned_with(tables: &Tables, draft: &Draft) -> Mesh {
+    Mesh { draft: draft.collected().map(as_cells), ..owned(tables) }
+}
+
+/// The lent call with lists of T and F entries.
+fn on_tables(tables: &mut Tables, kind: Kind, draft: &Draft, marks: &[u32]) -> Outcome {
+    let (cell_list, function_list) = tables.lists_with_room();
+    tables.call_with_draft(kind, draft, marks, &cell_list, &function_list)
+}
+
+/// The same with heights.
 fn with_heights_on_tables(
     tables: &mut Tables,
     kind: Kind,
     heights: &mut Vec<i32>,
+    draft: &Draft,
     marks: &[u32],
 ) -> Outcome {
-    let cell_list = vec![0xdead_beef; tables.cells.len()];
-    let function_list = vec![0xfeed_f00d; tables.functions.len()];
-    tables.refine_with_heights(kind, heights, marks, &cell_list, &function_list)
+    let (cell_list, function_list) = tables.lists_with_room();
+    let lists = (&cell_list[..], &function_list[..]);
+    tables.refine_with_heights_and_draft(kind, heights, draft, marks, lists)
+}
+
+/// Closes the lent draft with lists of T and F entries.
+fn close_on_tables(tables: &mut Tables, draft: &mut Draft) -> Outcome {
+    let (cell_list, function_list) = tables.lists_with_room();
+    tables.draft_close(draft, &cell_list, &function_list)
+}
+
+/// Adds to the lent draft, whose list is made long enough, as that of a mesh is.
+fn add_on_tables(tables: &Tables, draft: &mut Draft, marks: &[u32]) -> u32 {
+    if draft.collected().is_some() {
+        draft.list.resize(draft.marks + marks.len(), 0xdead_beef);
+    }
+    tables.draft_add(draft, marks)
 }
 
 /// One run three times over: on lent tables, which are held to the model, on a mesh and in a season.
 struct Run {
     first: Mesh,
     tables: Tables,
+    draft: Draft,
     mesh: Mesh,
     season: Season,
     /// What the season is to have: the accepted calls that were not taken back.
@@ -123,12 +152,13 @@ impl Run {
     fn new(tables: Tables) -> Run {
         let first = owned(&tables);
         let season = Season::new(first.clone()).expect("a mesh that check passes");
-        Run { mesh: first.clone(), first, tables, season, made: vec![] }
+        let draft = Draft::none(vec![]);
+        Run { mesh: first.clone(), first, tables, draft, season, made: vec![] }
     }
 
     /// Makes a call, by the method that takes any or by its own. Answers the number.
     fn make(&mut self, kind: Kind, marks: &[u32], by_name: bool) -> u32 {
-        let outcome = self.tables.call_with_room(kind, marks);
+        let outcome = on_tables(&mut self.tables, kind, &self.draft, marks);
         let call = call_of(kind, marks);
         let (on_mesh, in_season) = if by_name {
             (by_name_on_mesh(&mut self.mesh, &call), by_name_in_season(&mut self.season, &call))
@@ -147,10 +177,61 @@ impl Run {
             with_heights_on_mesh(&mut self.mesh, kind, of_mesh, marks),
             with_heights_in_season(&mut self.season, kind, of_season, marks),
         ];
-        let outcome = with_heights_on_tables(&mut self.tables, kind, heights, marks);
+        let outcome = with_heights_on_tables(&mut self.tables, kind, heights, &self.draft, marks);
         assert!(carried.iter().all(|carried| carried == heights), "{:?}", self.tables.plan);
         self.expect(call_of(kind, marks), &outcome, answers);
         outcome.number
+    }
+
+    fn open_draft(&mut self) -> u32 {
+        let number = self.tables.draft_open(&mut self.draft);
+        self.expect_drafted(number, |mesh| mesh.open_draft(), |season| season.open_draft())
+    }
+
+    fn add_marks(&mut self, marks: &[u32]) -> u32 {
+        let number = add_on_tables(&self.tables, &mut self.draft, marks);
+        let marks = as_cells(marks);
+        self.expect_drafted(
+            number,
+            |mesh| mesh.add_marks(&marks),
+            |season| season.add_marks(&marks),
+        )
+    }
+
+    fn drop_draft(&mut self) -> u32 {
+        let number = self.tables.draft_drop(&mut self.draft);
+        self.expect_drafted(number, |mesh| mesh.drop_draft(), |season| season.drop_draft())
+    }
+
+    /// Both answers are that of the lent call, and nothing is kept to be taken back.
+    fn expect_drafted(
+        &mut self,
+        number: u32,
+        on_mesh: impl FnOnce(&mut Mesh) -> Result<(), Refusal>,
+        in_season: impl FnOnce(&mut Season) -> Result<(), Refusal>,
+    ) -> u32 {
+        let expected = if number == 0 { Ok(()) } else { Err(refusal(number)) };
+        assert_eq!(on_mesh(&mut self.mesh), expected, "{:?}", self.tables.plan);
+        assert_eq!(in_season(&mut self.season), expected, "{:?}", self.tables.plan);
+        self.expect_same();
+        number
+    }
+
+    /// Closes the draft, which is kept as one refinement by cells.
+    fn close_draft(&mut self) -> u32 {
+        let marks = self.draft.collected().unwrap_or(&[]).to_vec();
+        let outcome = close_on_tables(&mut self.tables, &mut self.draft);
+        let answers = [self.mesh.close_draft(), self.season.close_draft().cloned()];
+        self.expect(call_of(RefineCells, &marks), &outcome, answers);
+        outcome.number
+    }
+
+    /// While a draft is open nothing is taken back.
+    fn expect_not_undone(&mut self) {
+        assert!(self.draft.collected().is_some());
+        assert_eq!(self.season.undo(), Err(Refusal::DraftOpen));
+        assert_eq!(self.season.undo_all(), Err(Refusal::DraftOpen));
+        self.expect_same();
     }
 
     /// Both answers are that of the lent call, and a call is kept where it was accepted.
@@ -166,7 +247,7 @@ impl Run {
     }
 
     fn expect_same(&self) {
-        let tables = owned(&self.tables);
+        let tables = owned_with(&self.tables, &self.draft);
         assert!(self.mesh == tables, "{:?}", self.tables.plan);
         assert!(self.season.mesh() == &tables, "{:?}", self.tables.plan);
         assert!(self.season.first() == &self.first, "{:?}", self.tables.plan);
@@ -314,6 +395,88 @@ fn seasons_with_heights_are_taken_back() {
     assert!(often(0) > 100 && all_came, "{numbers:?}");
 }
 
+/// A run with drafts, in which calls are taken back where none is open. Answers the number of each
+/// call, and how many marks each closed draft had.
+fn season_with_drafts(random: &mut Random, plan: Plan) -> (Vec<u32>, Vec<usize>) {
+    let mut run = Run::new(random_start(random, plan));
+    let (mut numbers, mut closed) = (vec![], vec![]);
+    for _ in 0..random.below(20) + 10 {
+        let open = run.draft.collected().is_some();
+        let kind = random.pick(&[RefineCells, RefineFunctions, CoarsenCells, CoarsenFunctions]);
+        let to_add = marks(random, &run.tables, RefineCells);
+        let many = run.draft.marks;
+        numbers.push(match (open, random.below(10)) {
+            (true, 0..=4) => run.add_marks(&to_add),
+            (true, 5) | (false, 0) => {
+                let number = run.close_draft();
+                closed.extend((number == 0).then_some(many));
+                number
+            }
+            (true, 6) | (false, 1) => run.drop_draft(),
+            (false, 2) => run.add_marks(&to_add),
+            (true, 7) | (false, 3..=5) => run.open_draft(),
+            _ if kind.refines() && random.once_in(2) => {
+                let marks = marks(random, &run.tables, kind);
+                let mut heights = random_heights(random, &run.tables, Fill::Small);
+                run.refine_with_heights(kind, &mut heights, &marks)
+            }
+            _ => {
+                let marks = marks(random, &run.tables, kind);
+                run.make(kind, &marks, random.once_in(2))
+            }
+        });
+        match run.draft.collected() {
+            Some(_) => run.expect_not_undone(),
+            None if random.once_in(6) => run.undo(),
+            None => {}
+        }
+    }
+    if run.draft.collected().is_some() {
+        run.drop_draft();
+    }
+    run.undo_all();
+    (numbers, closed)
+}
+
+#[test]
+fn seasons_with_drafts_are_taken_back() {
+    let mut random = Random::new(807);
+    let (mut numbers, mut closed) = (vec![], vec![]);
+    for class in [0, 2, 3, 4, 5, 8] {
+        for degrees in (1..=4).flat_map(|across| (1..=2).map(move |up| (across, up))) {
+            for most in [30, 100, 350].repeat(4) {
+                let plan = random_plan(&mut random, degrees, class, most);
+                let (more_numbers, more_closed) = season_with_drafts(&mut random, plan);
+                numbers.extend(more_numbers);
+                closed.extend(more_closed);
+            }
+        }
+    }
+    let often = |number| numbers.iter().filter(|&&is| is == number).count();
+    let all_came = [7, 8, 9, 14, 18, 19].iter().all(|&number| often(number) > 9);
+    assert!(often(0) > 1000 && all_came, "{numbers:?}");
+    assert!(closed.iter().filter(|&&marks| marks > 1).count() > 100, "{closed:?}");
+}
+
+/// A season that begins while a draft is open goes on with it, and its first mesh is without.
+#[test]
+fn a_season_begun_with_a_draft() {
+    let tables = opened([3, 1, 3, 1, 1, 2]);
+    let mesh = Mesh { draft: Some(as_cells(&[0, 2, 0])), ..owned(&tables) };
+    let mut season = Season::new(mesh.clone()).expect("a mesh");
+    assert_eq!((season.mesh(), season.first()), (&mesh, &owned(&tables)));
+    assert_eq!(season.undo(), Err(Refusal::DraftOpen));
+    assert_eq!(season.refine_cells(&[Cell(1)]), Err(Refusal::DraftOpen));
+    assert_eq!(season.add_marks(&[Cell(1), Cell(3)]), Err(Refusal::MarkOfWrongKind));
+    season.add_marks(&[Cell(2)]).expect("an active cell");
+    let lists = season.close_draft().expect("active cells").clone();
+    assert_eq!(lists.cells, as_cells(&[0, 2]));
+    let call = Call::RefineCells(as_cells(&[0, 2, 0, 2]));
+    assert_eq!(season.calls(), [Made { call, lists }]);
+    assert_eq!(season.undo_all().expect("no draft").len(), 1);
+    assert_eq!((season.mesh(), season.first()), (&owned(&tables), &owned(&tables)));
+}
+
 /// The active cells that are not of the last level.
 fn refinable(mesh: &Mesh) -> Vec<Cell> {
     let last = |cell| mesh.plan.place(cell).is_none_or(|p| p.level + 1 == mesh.plan.levels);
@@ -389,28 +552,61 @@ fn expect_alike(tables: &Tables, heights: &[i32]) {
         mesh.corners(heights).map(|c| c.len()).map_err(Refusal::number),
         corners.map(|c| c.len())
     );
-    for kind in Kind::ALL {
-        expect_call_alike(tables, kind, &[0]);
-    }
-    for kind in Kind::REFINING {
-        expect_call_with_heights_alike(tables, kind, heights, &[0]);
+    for draft in [Draft::none(vec![]), Draft { open: 1, marks: 2, list: vec![0, 0] }] {
+        for kind in Kind::ALL {
+            expect_call_alike(tables, kind, &draft, &[0]);
+        }
+        for kind in Kind::REFINING {
+            expect_call_with_heights_alike(tables, kind, heights, &draft, &[0]);
+        }
+        expect_drafts_alike(tables, &draft, &[0]);
     }
 }
 
-fn expect_call_alike(tables: &Tables, kind: Kind, marks: &[u32]) {
-    let (mut tables, mut mesh) = (tables.clone(), owned(tables));
-    let outcome = tables.call_with_room(kind, marks);
+fn expect_call_alike(tables: &Tables, kind: Kind, draft: &Draft, marks: &[u32]) {
+    let (mut tables, mut mesh) = (tables.clone(), owned_with(tables, draft));
+    let outcome = on_tables(&mut tables, kind, draft, marks);
     assert_eq!(mesh.make(&call_of(kind, marks)), answer(&outcome), "{kind:?} {:?}", tables.plan);
-    assert!(mesh == owned(&tables));
+    assert!(mesh == owned_with(&tables, draft));
 }
 
-fn expect_call_with_heights_alike(tables: &Tables, kind: Kind, heights: &[i32], marks: &[u32]) {
-    let (mut tables, mut mesh) = (tables.clone(), owned(tables));
+fn expect_call_with_heights_alike(
+    tables: &Tables,
+    kind: Kind,
+    heights: &[i32],
+    draft: &Draft,
+    marks: &[u32],
+) {
+    let (mut tables, mut mesh) = (tables.clone(), owned_with(tables, draft));
     let (mut lent, mut carried) = (heights.to_vec(), heights.to_vec());
-    let outcome = with_heights_on_tables(&mut tables, kind, &mut lent, marks);
+    let outcome = with_heights_on_tables(&mut tables, kind, &mut lent, draft, marks);
     let is = with_heights_on_mesh(&mut mesh, kind, &mut carried, marks);
     assert_eq!(is, answer(&outcome), "{kind:?} {:?}", tables.plan);
-    assert!(mesh == owned(&tables) && carried == lent);
+    assert!(mesh == owned_with(&tables, draft) && carried == lent);
+}
+
+/// Each call on the draft, on copies of all.
+fn expect_drafts_alike(tables: &Tables, draft: &Draft, marks: &[u32]) {
+    let expect = |number_and_draft: (u32, Draft),
+                  call: &dyn Fn(&mut Mesh) -> Result<(), Refusal>| {
+        let (expected, draft_then) = number_and_draft;
+        let mut mesh = owned_with(tables, draft);
+        assert_eq!(number(&call(&mut mesh)), expected, "{:?}", tables.plan);
+        assert!(mesh == owned_with(tables, &draft_then), "{:?}", tables.plan);
+    };
+    let lent = |call: &dyn Fn(&mut Draft) -> u32| {
+        let mut draft = draft.clone();
+        (call(&mut draft), draft)
+    };
+    expect(lent(&|draft| tables.draft_open(draft)), &Mesh::open_draft);
+    expect(lent(&|draft| tables.draft_drop(draft)), &Mesh::drop_draft);
+    let add = |mesh: &mut Mesh| mesh.add_marks(&as_cells(marks));
+    expect(lent(&|draft| add_on_tables(tables, draft, marks)), &add);
+    let (mut mesh, mut tables, mut draft) =
+        (owned_with(tables, draft), tables.clone(), draft.clone());
+    let outcome = close_on_tables(&mut tables, &mut draft);
+    assert_eq!(mesh.close_draft(), answer(&outcome), "{:?}", tables.plan);
+    assert!(mesh == owned_with(&tables, &draft));
 }
 
 fn opened(numbers: [u32; 6]) -> Tables {
