@@ -9,6 +9,7 @@ pub mod change;
 pub mod draft;
 pub mod pages;
 pub mod scenario;
+mod slices;
 pub mod surface;
 
 /// A seeded generator (splitmix64), so that every run of the tests is the same.

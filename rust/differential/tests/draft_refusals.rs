@@ -394,7 +394,9 @@ fn expect_in_order(call: Call, good: &Input, faults: &[Fault]) {
         }
         let before = input.clone();
         let number = faults.get(mended).map_or(0, |fault| fault.0);
-        assert_eq!(input.make(call).number, number, "{call:?} with {mended} mended");
+        let outcome = input.make(call);
+        assert_eq!(outcome.number, number, "{call:?} with {mended} mended");
+        before.expect_on_pages(call, &outcome, &input);
         assert!(number == 0 || input == before, "{call:?} refused with {number}");
     }
 }
@@ -446,7 +448,9 @@ fn reading_in_its_order() {
         input.file = [plan, rest].concat();
         input.draft = full(&[3]);
         let before = input.clone();
-        assert_eq!(input.make(Call::ReadMesh).number, number);
+        let outcome = input.make(Call::ReadMesh);
+        assert_eq!(outcome.number, number);
+        before.expect_on_pages(Call::ReadMesh, &outcome, &input);
         assert!(number == 0 || input == before, "{number}");
         assert!(number != 0 || input.draft == draft(0, 0, &[3]));
     }

@@ -192,6 +192,9 @@ impl Run {
         let outcome = self.input.make(call);
         seen.count(call, outcome.number);
         self.expect_kept(call, &outcome, &before);
+        if random.once_in(20) {
+            before.expect_on_pages(call, &outcome, &self.input);
+        }
         if let Some(kind) = call.kind() {
             self.log.push((kind, outcome));
         }
