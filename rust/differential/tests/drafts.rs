@@ -5,8 +5,8 @@ use differential::draft::{Call, Input};
 use differential::scenario;
 use differential::surface::{damage, random_heights, with_heights, Fill, DAMAGES, DEGREES};
 use differential::{
-    has_corners, random_marks, random_plan, random_refined, undo_by_cells, Kind, Log, Outcome,
-    Random, Tables,
+    all_admissible, has_corners, plan, random_marks, random_plan, random_refined, undo_by_cells,
+    Kind, Log, Outcome, Random, Tables,
 };
 use model::draft::Draft;
 use model::Plan;
@@ -293,6 +293,60 @@ fn calls_in_every_order() {
         assert!(taken_back > 1000 && cornered > 20, "{class}: {taken_back} {cornered}");
     }
     seen.expect_all();
+}
+
+/// All lists of at most so many entries below n.
+fn all_lists(most: usize, n: u32) -> Vec<Vec<u32>> {
+    let mut lists = vec![vec![]];
+    let mut from = 0;
+    for _ in 0..most {
+        let longer: Vec<Vec<u32>> = lists[from..]
+            .iter()
+            .flat_map(|list| (0..n).map(move |entry| [&list[..], &[entry]].concat()))
+            .collect();
+        from = lists.len();
+        lists.extend(longer);
+    }
+    lists
+}
+
+/// Every draft with a short list on every mesh of small plans: each call on it, and each add of a few
+/// marks, in range or just beyond it.
+#[test]
+fn every_small_draft() {
+    let mut seen = Seen::new();
+    for (numbers, entries) in [([1, 1, 2, 2, 1, 2], 2), ([2, 1, 2, 1, 1, 0], 1)] {
+        for tables in all_admissible(plan(numbers)) {
+            let beyond = tables.cells.len() as u32 + 1;
+            let lists = all_lists(entries, beyond);
+            let adds = all_lists(2, beyond);
+            for (list, marks) in
+                lists.iter().flat_map(|list| (0..=entries + 1).map(move |marks| (list, marks)))
+            {
+                for open in [0, 1, 2] {
+                    let mut input = Input::new(tables.clone());
+                    input.draft = Draft { open, marks, list: list.clone() };
+                    for call in [Call::Open, Call::Close, Call::Drop] {
+                        seen.count(call, input.clone().make(call).number);
+                    }
+                    for marks in &adds {
+                        let mut draft = input.draft.clone();
+                        seen.count(Call::Add, tables.draft_add(&mut draft, marks));
+                    }
+                }
+            }
+        }
+    }
+    for (call, numbers) in [
+        (Call::Open, &[0, 18][..]),
+        (Call::Add, &[0, 7, 8, 9, 10, 19]),
+        (Call::Close, &[0, 7, 8, 9, 19]),
+        (Call::Drop, &[0, 19]),
+    ] {
+        for (number, &often) in (0..).zip(seen.of(call).iter()) {
+            assert_eq!(often > 0, numbers.contains(&number), "{call:?}: {number}");
+        }
+    }
 }
 
 // ---- What a draft comes to ----

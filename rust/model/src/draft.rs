@@ -155,3 +155,55 @@ impl Draft {
         (plan, tables)
     }
 }
+
+#[cfg(test)]
+mod tests {
+    use super::*;
+    use crate::tests::plan;
+
+    /// The plan 3 1 3, degrees 1 1, class 2, with cell 0 refined.
+    fn mesh() -> (Plan, Vec<u8>, Vec<u8>) {
+        let plan = plan([3, 1, 3, 1, 1, 2, 0, 0]);
+        let (cells, functions) =
+            crate::open(plan, plan.cell_total(), plan.function_total()).expect("a plan in range");
+        let change = refine_cells(plan, &cells, &functions, &[0], 1, 2).expect("an active cell");
+        (plan, change.cells, change.functions)
+    }
+
+    /// Cell 3 is refined, and cell 1 for the class.
+    #[test]
+    fn a_draft_by_hand() {
+        let (plan, cells, functions) = mesh();
+        let mut draft = Draft::none(vec![9; 3]);
+        assert_eq!(draft.add(plan, &cells, &functions, &[3]), Err(19));
+        assert_eq!(draft.open(plan, &cells, &functions), Ok(()));
+        assert_eq!(draft.open(plan, &cells, &functions), Err(18));
+        assert_eq!(draft.add(plan, &cells, &functions, &[3]), Ok(()));
+        assert_eq!(draft.add(plan, &cells, &functions, &[1, 0]), Err(8));
+        assert_eq!(draft.add(plan, &cells, &functions, &[3, 3, 3]), Err(10));
+        assert_eq!(draft.add(plan, &cells, &functions, &[3]), Ok(()));
+        assert_eq!(draft, Draft { open: 1, marks: 2, list: vec![3, 3, 9] });
+        assert_eq!(draft.close(plan, &cells, &functions, 1, 3), Err(10));
+        assert_eq!(draft.collected(), Some(&[3, 3][..]));
+        let change = draft.close(plan, &cells, &functions, 2, 3).expect("room for both lists");
+        assert_eq!((change.cell_list, change.function_list), (vec![1, 3], vec![1, 5, 8]));
+        assert_eq!(draft, Draft { open: 0, marks: 0, list: vec![3, 3, 9] });
+        assert_eq!(draft.discard(plan, &cells, &functions), Err(19));
+    }
+
+    #[test]
+    fn open_or_not() {
+        for (open, marks, is_open) in [
+            (0, 0, false),
+            (0, 2, false),
+            (1, 0, true),
+            (1, 2, true),
+            (u32::MAX, 2, true),
+            (1, 3, false),
+            (u32::MAX, usize::MAX, false),
+        ] {
+            let draft = Draft { open, marks, list: vec![1, 2] };
+            assert_eq!(draft.collected().is_some(), is_open, "{draft:?}");
+        }
+    }
+}
