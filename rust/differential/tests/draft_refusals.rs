@@ -374,12 +374,12 @@ fn faults(call: Call) -> (Vec<Fault>, Vec<u32>) {
     ([of_tables, &after.concat()].concat(), marks)
 }
 
-/// W2 with cells 0, 1 and 3 refined, and a draft with a mark where the call needs one.
+/// W2 with cells 0, 1 and 3 refined, and a draft with a mark where the call needs or ends one.
 fn good_input(call: Call, marks: Vec<u32>) -> Input {
     let mut input = Input::new(mesh(W2, &[0, 1, 3]));
     input.marks = marks;
     input.draft = match call {
-        Call::Add | Call::Close | Call::Drop => draft(1, 1, &[2, 9, 9]),
+        Call::Add | Call::Close | Call::Drop | Call::OpenMesh => draft(1, 1, &[2, 9, 9]),
         _ => Draft::none(vec![9; 3]),
     };
     input
