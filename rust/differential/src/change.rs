@@ -1,7 +1,7 @@
 //! Refining and coarsening calls: plain, with heights, with a draft, or with both.
 
 use crate::draft::{lent_list, raw_draft};
-use crate::{overwritten, raw, Kind, Lent, Outcome, Slice, Tables};
+use crate::{accepted, overwritten, raw, refused, Kind, Lent, Outcome, Slice, Tables};
 use model::draft::Draft;
 use model::shape::refine_with_heights;
 use model::Plan;
@@ -231,11 +231,8 @@ impl Tables {
         said: &dyn Fn() -> String,
     ) -> Outcome {
         let outcome = match &expected {
-            Err(number) => Outcome { number: *number, cells: vec![], functions: vec![] },
-            Ok(change) => {
-                let (cells, functions) = (change.cell_list.clone(), change.function_list.clone());
-                Outcome { number: 0, cells, functions }
-            }
+            Err(number) => refused(*number),
+            Ok(change) => accepted(&change.cell_list, &change.function_list),
         };
         let lengths = (outcome.cells.len() as u32, outcome.functions.len() as u32);
         let (number, cells, functions) = (outcome.number, lengths.0, lengths.1);

@@ -207,6 +207,16 @@ pub fn of_wrapper(plan: Plan) -> wallmirror::Plan {
     }
 }
 
+/// The same numbers for the wrapper.
+pub fn as_cells(numbers: &[u32]) -> Vec<wallmirror::Cell> {
+    numbers.iter().copied().map(wallmirror::Cell).collect()
+}
+
+/// The same numbers for the wrapper.
+pub fn as_functions(numbers: &[u32]) -> Vec<wallmirror::Function> {
+    numbers.iter().copied().map(wallmirror::Function).collect()
+}
+
 /// A slice as it is lent to the library, with guards before and behind it that must stay.
 struct Lent<T> {
     buffer: Vec<T>,
@@ -274,6 +284,16 @@ pub struct Outcome {
     pub number: u32,
     pub cells: Vec<u32>,
     pub functions: Vec<u32>,
+}
+
+/// What a call answers that is accepted, with its lists.
+pub fn accepted(cells: &[u32], functions: &[u32]) -> Outcome {
+    Outcome { number: 0, cells: cells.to_vec(), functions: functions.to_vec() }
+}
+
+/// What a call answers that is refused.
+pub fn refused(number: u32) -> Outcome {
+    Outcome { number, cells: vec![], functions: vec![] }
 }
 
 impl Tables {
@@ -705,6 +725,15 @@ pub fn random_refined(random: &mut Random, plan: Plan) -> BTreeSet<Cell> {
     let seeds = random.pick(&[0, 1, 2, 5, refinable / 8, refinable]);
     let base = (0..seeds).map(|_| plan.cell_at(random.below(refinable))).collect();
     model::smallest(plan, base)
+}
+
+/// The mesh that is opened, or another admissible one.
+pub fn random_start(random: &mut Random, plan: Plan) -> Tables {
+    if random.once_in(2) {
+        return Tables::opened(plan);
+    }
+    let refined = random_refined(random, plan);
+    Tables::with_refined(plan, &refined)
 }
 
 /// Refined cells of a mesh of class 0 in which each lies in the support of a deactivated function of

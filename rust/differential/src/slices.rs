@@ -5,7 +5,7 @@
 
 use crate::draft::{raw_draft, Call, Input};
 use crate::pages::{Access, Guarded};
-use crate::{of_wrapper, overwritten, Kind, Outcome};
+use crate::{as_cells, as_functions, of_wrapper, overwritten, Kind, Outcome};
 use wallmirror::{Cell, Changed, Draft, Function, Plan, Refusal};
 
 struct OnPages {
@@ -18,14 +18,6 @@ struct OnPages {
     cell_list: Guarded<Cell>,
     function_list: Guarded<Function>,
     file: Guarded<u8>,
-}
-
-fn as_cells(numbers: &[u32]) -> Vec<Cell> {
-    numbers.iter().copied().map(Cell).collect()
-}
-
-fn as_functions(numbers: &[u32]) -> Vec<Function> {
-    numbers.iter().copied().map(Function).collect()
 }
 
 impl OnPages {

@@ -1,22 +1,14 @@
-//! Drafts: rows worked by hand, with the numbers written out, so that library and model are both held
-//! to them; the order of all refusals of each call; and the largest drafts.
+//! Drafts: rows worked by hand, with the numbers written out, so that library and model are both
+//! held to them; the order of all refusals of each call; and the largest drafts.
 
 use differential::draft::{Call, Input};
 use differential::surface::{heights_with, mesh};
-use differential::{all_corners, plan, scenario, Kind, Outcome, Tables};
+use differential::{accepted, all_corners, plan, refused, scenario, Kind, Tables};
 use model::draft::Draft;
 use model::{Cell, Plan, ACTIVE, REFINED};
 use Kind::*;
 
 const W2: [u32; 6] = [3, 1, 3, 1, 1, 2];
-
-fn accepted(cells: &[u32], functions: &[u32]) -> Outcome {
-    Outcome { number: 0, cells: cells.to_vec(), functions: functions.to_vec() }
-}
-
-fn refused(number: u32) -> Outcome {
-    Outcome { number, cells: vec![], functions: vec![] }
-}
 
 fn draft(open: u32, marks: usize, list: &[u32]) -> Draft {
     Draft { open, marks, list: list.to_vec() }
@@ -210,7 +202,7 @@ fn opening_and_reading_drop_it() {
     }
 }
 
-/// 18 comes before everything of the heights: their number, the plan, their limits, what is carried.
+/// 18 comes before all of the heights: their number, the plan, their limits, what is carried.
 #[test]
 fn a_draft_before_heights() {
     let d = full(&[3]);

@@ -5,8 +5,8 @@ use differential::draft::{Call, Input};
 use differential::scenario;
 use differential::surface::{damage, random_heights, with_heights, Fill, DAMAGES, DEGREES};
 use differential::{
-    all_admissible, has_corners, plan, random_marks, random_plan, random_refined, undo_by_cells,
-    Kind, Log, Outcome, Random, Tables,
+    all_admissible, has_corners, plan, random_marks, random_plan, random_refined, random_start,
+    undo_by_cells, Kind, Log, Outcome, Random, Tables,
 };
 use model::draft::Draft;
 use model::Plan;
@@ -56,14 +56,6 @@ fn refusals(call: Call) -> Vec<u32> {
         Call::ReadMesh => return vec![1, 2, 3, 4, 5, 12, 13],
     };
     [vec![1, 2, 3, 4, 5, 6], after_check].concat()
-}
-
-fn start(random: &mut Random, plan: Plan) -> Tables {
-    if random.once_in(2) {
-        return Tables::opened(plan);
-    }
-    let refined = random_refined(random, plan);
-    Tables::with_refined(plan, &refined)
 }
 
 /// A length that is enough, most often.
@@ -178,7 +170,7 @@ impl Run {
         number
     }
 
-    /// One call of the run. What it answers in tables, lists, heights and draft is held to the model.
+    /// One call of the run, which is held to the model in all that it answers and leaves.
     fn turn(&mut self, random: &mut Random, seen: &mut Seen) {
         if random.once_in(12) {
             self.disturb(random);
@@ -249,10 +241,11 @@ fn random_file(random: &mut Random, plan: Plan) -> Vec<u8> {
     file
 }
 
-/// A run on the plan. One without other meshes is taken back: the opposite calls by cells, without a
-/// draft, each accepted with the same lists, and the first tables are there again.
+/// A run on the plan. One without other meshes is taken back: the opposite calls by cells, without
+/// a draft, are each accepted with the same lists, and the first tables are there again. Answers how
+/// many cells were listed.
 fn run(random: &mut Random, plan: Plan, other_meshes: bool, seen: &mut Seen) -> usize {
-    let first = start(random, plan);
+    let first = random_start(random, plan);
     let mut run = Run::new(random, first.clone(), other_meshes);
     for _ in 0..random.below(40) + 20 {
         run.turn(random, seen);
@@ -267,8 +260,8 @@ fn run(random: &mut Random, plan: Plan, other_meshes: bool, seen: &mut Seen) -> 
     run.log.iter().map(|(_, outcome)| outcome.cells.len()).sum()
 }
 
-/// Runs on plans of these degrees and this class, of which every other is one whose surface has
-/// heights.
+/// Runs on plans of all degrees and this class; the surface of every other one has heights. Answers
+/// how many cells were listed in those that were taken back, and how many plans had corners.
 fn runs(random: &mut Random, class: u32, seen: &mut Seen) -> (usize, usize) {
     let (mut taken_back, mut cornered) = (0, 0);
     for degrees in (1..=4).flat_map(|across| (1..=4).map(move |up| (across, up))).cycle().take(96) {
@@ -310,8 +303,8 @@ fn all_lists(most: usize, n: u32) -> Vec<Vec<u32>> {
     lists
 }
 
-/// Every draft with a short list on every mesh of small plans: each call on it, and each add of a few
-/// marks, in range or just beyond it.
+/// Every draft with a short list on every mesh of small plans: each call on it, and each add of a
+/// few marks, in range or just beyond it.
 #[test]
 fn every_small_draft() {
     let mut seen = Seen::new();
@@ -407,7 +400,7 @@ fn closed_as_one_refinement() {
         let (degrees, class) = ((turn % 4 + 1, turn / 4 % 4 + 1), random.pick(&[0, 2, 2, 3, 4]));
         let most = random.pick(&[30, 100, 400]);
         let plan = random_plan(&mut random, degrees, class, most);
-        let mut tables = start(&mut random, plan);
+        let mut tables = random_start(&mut random, plan);
         let entries = random.pick(&[0, 5, 50, 1000, 1000]);
         let mut draft = opened(&tables, entries, &mut random);
         let marks = fill(&tables, &mut draft, &mut random);
@@ -463,7 +456,7 @@ fn dropped_without_a_trace() {
         let degrees = (turn % 4 + 1, turn / 4 % 4 + 1);
         let class = random.pick(&[0, 2, 3]);
         let plan = random_plan(&mut random, degrees, class, 200);
-        let first = start(&mut random, plan);
+        let first = random_start(&mut random, plan);
         let tables = first.clone();
         let mut draft = opened(&tables, 30, &mut random);
         dropped += fill(&tables, &mut draft, &mut random).len();
@@ -487,7 +480,7 @@ fn while_a_draft_is_open() {
     for turn in 0..300 {
         let degrees = random.pick(&DEGREES);
         let plan = with_heights(&mut random, degrees, [0, 2, 3][turn % 3], 100);
-        let mut input = Input::new(start(&mut random, plan));
+        let mut input = Input::new(random_start(&mut random, plan));
         input.draft = opened(&input.tables, 40, &mut random);
         fill(&input.tables, &mut input.draft, &mut random);
         input.draft.open = random.pick(&[1, 1, 2, u32::MAX]);
@@ -561,7 +554,7 @@ fn with_none_open_as_without_a_draft() {
         let class = [0, 2, 3][turn % 3];
         let degrees = random.pick(&[(1, 1), (2, 1), (1, 2), (2, 2), (3, 1), (4, 4)]);
         let plan = random_plan(&mut random, degrees, class, 100);
-        let tables = start(&mut random, plan);
+        let tables = random_start(&mut random, plan);
         let mut run = Run::new(&mut random, tables, true);
         for &call in Call::BESIDE {
             run.input.draft = none_open(&mut random);

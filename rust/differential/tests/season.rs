@@ -1,15 +1,15 @@
 //! The wrapper's own meshes and its seasons.
 //!
-//! Runs of calls of all four kinds, refused ones among them, and of drafts are made on a `Mesh` and
-//! in a `Season` beside lent tables, whose calls are held to the model one by one; then the season is
-//! taken back.
+//! Runs of calls of all four kinds and on drafts, refused ones among them, are made on a `Mesh` and
+//! in a `Season` beside lent tables, whose calls are held to the model one by one; then the season
+//! is taken back.
 //! Damaged meshes are refused as lent tables are. The first mark at fault is the one that the model
 //! refuses.
 
 use differential::surface::{damage, random_heights, with_heights, Fill, DAMAGES, DEGREES};
 use differential::{
-    all_corners, has_corners, of_wrapper, plan, random_marks, random_plan, random_refined, Kind,
-    Outcome, Random, Tables,
+    all_corners, as_cells, as_functions, has_corners, of_wrapper, plan, random_marks, random_plan,
+    random_start, Kind, Outcome, Random, Tables,
 };
 use model::draft::Draft;
 use model::Plan;
@@ -23,14 +23,6 @@ use Kind::*;
 fn owned(tables: &Tables) -> Mesh {
     let Tables { plan, cells, functions } = tables.clone();
     Mesh::from_tables(of_wrapper(plan), cells, functions)
-}
-
-fn as_cells(numbers: &[u32]) -> Vec<Cell> {
-    numbers.iter().copied().map(Cell).collect()
-}
-
-fn as_functions(numbers: &[u32]) -> Vec<Function> {
-    numbers.iter().copied().map(Function).collect()
 }
 
 fn call_of(kind: Kind, marks: &[u32]) -> Call {
@@ -292,14 +284,6 @@ impl Run {
         assert_eq!(self.season.mesh().to_file(), self.first.to_file());
         assert!(self.season.into_mesh() == self.first);
     }
-}
-
-fn random_start(random: &mut Random, plan: Plan) -> Tables {
-    if random.once_in(2) {
-        return Tables::opened(plan);
-    }
-    let refined = random_refined(random, plan);
-    Tables::with_refined(plan, &refined)
 }
 
 /// Marks for a call, sometimes with one beyond the last.

@@ -1,19 +1,11 @@
 //! The meshes worked by hand and the examples of the refusal table, with the numbers written out, so
 //! that library and model are both held to them.
 
-use differential::{plan, Kind::*, Outcome, Tables};
+use differential::{accepted, plan, refused, Kind::*, Tables};
 use model::Plan;
 
 const W0: [u32; 6] = [3, 1, 3, 1, 1, 0];
 const W2: [u32; 6] = [3, 1, 3, 1, 1, 2];
-
-fn accepted(cells: &[u32], functions: &[u32]) -> Outcome {
-    Outcome { number: 0, cells: cells.to_vec(), functions: functions.to_vec() }
-}
-
-fn refused(number: u32) -> Outcome {
-    Outcome { number, cells: vec![], functions: vec![] }
-}
 
 /// Tables with these cells refined one after the other.
 fn refined<const N: usize>(numbers: [u32; N], marks: &[u32]) -> Tables {

@@ -2,8 +2,8 @@
 //! the draft is closed.
 //!
 //! The draft is what the calls here change, so they are handed it to be changed; a refused call
-//! leaves it, and its list, as they were. The tables are lent as elsewhere, and an accepted call that
-//! makes new ones answers them.
+//! leaves it, and its list, as they were. The tables are lent as elsewhere, and an accepted call
+//! that makes new ones answers them.
 
 use crate::file::Tables;
 use crate::shape::refine_with_heights;
