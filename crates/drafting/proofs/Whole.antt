@@ -103,5 +103,8 @@ module _ (by : By) (p : Plan) (cs fs : List ℕ) (hs : List ℤ) (d : Draft) (dl
       ap (λ (a : Answer). record { outcome = outcomeOf a cs fs cl fl; heights = hs }) e ∙ ap (λ m. refusedWith m cs fs hs cl fl) q
       ∙ sym (carry-refused by p cs fs hs d dl marks cl fl (λ w. z (q ∙ w)))
 
-  pub carries : {n : ℕ} → n ≡ refusal18 p cs fs d dl → n ≡ 0 → {o : WithHeights} → o ≡ outcomeWithHeights by p cs fs hs marks cl fl → o ≡ outcomeWithHeightsAndDraft by p cs fs hs d dl marks cl fl
-  carries q z e = e ∙ sym (carry-taken by p cs fs hs d dl marks cl fl (sym q ∙ z))
+-- by is the kind of marks that the code found
+module _ {by kind : By} (b : by ≡ kind) (p : Plan) (cs fs : List ℕ) (hs : List ℤ) (d : Draft) (dl marks cl fl : List ℕ) where
+  pub carries : {n : ℕ} → n ≡ refusal18 p cs fs d dl → n ≡ 0 → {o : WithHeights} → o ≡ outcomeWithHeights kind p cs fs hs marks cl fl
+      → o ≡ outcomeWithHeightsAndDraft by p cs fs hs d dl marks cl fl
+  carries q z e = e ∙ ap (λ k. outcomeWithHeights k p cs fs hs marks cl fl) (sym b) ∙ sym (carry-taken by p cs fs hs d dl marks cl fl (sym q ∙ z))

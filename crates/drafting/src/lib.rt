@@ -220,8 +220,9 @@ pub fn change(
     )
 }
 
-// Refine by cells with heights and a draft: 18 is decided before the heights are tried.
-pub fn refine_cells(
+// Refine with heights and a draft: 18 is decided before the heights are tried.
+pub fn refine(
+    by: By,
     plan: Plan,
     cells: &mut [u8],
     functions: &mut [u8],
@@ -232,54 +233,39 @@ pub fn refine_cells(
     cell_list: &mut [u32],
     function_list: &mut [u32],
 ) -> Answer
-    ensures { λ r. ⌜ MeetsWithHeightsAndDraft (outcomeWithHeightsAndDraft calls.cells plan) draft (now (list .entry)) r cells functions heights marks «cell_list» «function_list» ⌝ }
+    ensures { λ r. ⌜ MeetsWithHeightsAndDraft (outcomeWithHeightsAndDraft (byOf by) plan) draft (now (list .entry)) r cells functions heights marks «cell_list» «function_list» ⌝ }
 {
     let number = refusal18(plan, cells, functions, draft, list);
     if number != 0 {
         return changes::refuse(number);
     }
     let checked = heights::refusal(plan, functions, heights);
-    refining::refine_cells(
-        checked,
-        plan,
-        cells,
-        functions,
-        heights,
-        marks,
-        cell_list,
-        function_list,
-    )
-}
-
-// The same by functions.
-pub fn refine_functions(
-    plan: Plan,
-    cells: &mut [u8],
-    functions: &mut [u8],
-    heights: &mut [i32],
-    draft: Draft,
-    list: &[u32],
-    marks: &[u32],
-    cell_list: &mut [u32],
-    function_list: &mut [u32],
-) -> Answer
-    ensures { λ r. ⌜ MeetsWithHeightsAndDraft (outcomeWithHeightsAndDraft calls.functions plan) draft (now (list .entry)) r cells functions heights marks «cell_list» «function_list» ⌝ }
-{
-    let number = refusal18(plan, cells, functions, draft, list);
-    if number != 0 {
-        return changes::refuse(number);
+    match by {
+        By::Cells => {
+            refining::refine_cells(
+                checked,
+                plan,
+                cells,
+                functions,
+                heights,
+                marks,
+                cell_list,
+                function_list,
+            )
+        }
+        By::Functions => {
+            refining::refine_functions(
+                checked,
+                plan,
+                cells,
+                functions,
+                heights,
+                marks,
+                cell_list,
+                function_list,
+            )
+        }
     }
-    let checked = heights::refusal(plan, functions, heights);
-    refining::refine_functions(
-        checked,
-        plan,
-        cells,
-        functions,
-        heights,
-        marks,
-        cell_list,
-        function_list,
-    )
 }
 
 // Opens a mesh; accepted, this drops the draft.

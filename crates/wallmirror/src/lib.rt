@@ -489,7 +489,8 @@ pub extern "C" fn wallmirror_refine_cells_with_heights_and_draft(
 ) -> Answer
     ensures { λ r. ⌜ MeetsWithHeightsAndDraft (outcomeWithHeightsAndDraft calls.cells plan) draft (now (list .entry)) r cells functions heights marks «cell_list» «function_list» ⌝ }
 {
-    drafting::refine_cells(
+    drafting::refine(
+        By::Cells,
         plan,
         cells,
         functions,
@@ -516,7 +517,8 @@ pub extern "C" fn wallmirror_refine_functions_with_heights_and_draft(
 ) -> Answer
     ensures { λ r. ⌜ MeetsWithHeightsAndDraft (outcomeWithHeightsAndDraft calls.functions plan) draft (now (list .entry)) r cells functions heights marks «cell_list» «function_list» ⌝ }
 {
-    drafting::refine_functions(
+    drafting::refine(
+        By::Functions,
         plan,
         cells,
         functions,
