@@ -3,11 +3,14 @@
 //! calls follow on meshes with corners, for which there are no goals, and on meshes with heights
 //! the height at a point, and refining with heights and without. Then, for the smallest meshes,
 //! what the height at one point takes, and for the largest that the projector takes, what the
-//! corners of their cells take. Run it in release mode: `cargo run --release --offline -p bench`.
+//! corners of their cells take. Last, without goals, what calls with a draft take beside calls
+//! without one, on the first meshes again. Run it in release mode:
+//! `cargo run --release --offline -p bench`.
 //!
 //! The times are the least of many rounds. Library, C and reading take turns, so that a ratio
 //! compares what ran under the same conditions.
 
+mod drafts;
 mod versions;
 
 use differential::scenario::{self, Scenario};
@@ -155,7 +158,8 @@ fn main() {
         eprintln!("bench: these are times of a debug build; use cargo run --release");
     }
     println!("C: {}. Times in microseconds, the least of many rounds.\n", env!("TUNED_BY"));
-    let mut rows: Vec<Row> = scenario::all().iter().flat_map(measure).collect();
+    let scenarios = scenario::all();
+    let mut rows: Vec<Row> = scenarios.iter().flat_map(measure).collect();
     let mut cornered: Vec<Row> =
         scenario::with_corners().iter().flat_map(measure_corners).collect();
     let with_heights: Vec<Row> =
@@ -166,6 +170,7 @@ fn main() {
     }
     let points = measure_points();
     let projected = measure_projected(&points);
+    drafts::measure(&scenarios);
     print_summary(&rows, &points.map(|[.., four]| four.to_tuned()), &projected);
     print_summary_of_corners(&cornered);
 }
