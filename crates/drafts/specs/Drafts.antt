@@ -16,7 +16,7 @@ use Rattle.files.specs.File.{readMesh}
 use Rattle.drafts.specs.declared.Draft.{Draft}
 use Rattle.drafts.specs.declared.DraftAnswer.{DraftAnswer}
 
--- "A draft handed in with more marks than its list has entries counts as not open"
+-- any number other than 0 is open; but "A draft handed in with more marks than its list has entries counts as not open"
 unfoldable pub isOpen : Draft → List ℕ → Bool
 isOpen d dl = not (eqb (d .«open») 0) && leb (d .marks) (length dl)
 
