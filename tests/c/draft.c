@@ -60,7 +60,7 @@ static const PlainCarry plain_carrying[2] = {wallmirror_refine_cells_with_height
 /* With cells 0, 1 and 3 refined. Cell 2 and function 10 can be refined, cell 3 and function 8 can
  * be coarsened, cell 7 is absent and function 0 deactivated, and cell 15 and function 29 are active
  * and of the last level. Cell 10 can be refined too, with another outcome than function 10. The
- * same mesh with five levels is none for heights. */
+ * same mesh with five levels cannot have heights. */
 static const WallmirrorPlan shallow = WALLMIRROR_PLAN(3, 1, 3, 1, 1, 2),
                             deep = WALLMIRROR_PLAN(3, 1, 5, 1, 1, 2);
 

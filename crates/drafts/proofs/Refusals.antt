@@ -1,4 +1,4 @@
--- What each call on a draft, and each call beside one, leaves, by its refusals. Assumes nothing.
+-- What each call on a draft, and each call with one, leaves, by its refusals. Assumes nothing.
 use mathlib.Core.Path.{_≡_, refl, sym, ap, _∙_}
 use mathlib.Core.Bool.{Bool, true, false, cond}
 use mathlib.Core.List.{List}
