@@ -7,12 +7,14 @@ use native.Mathlib.Omega.{arith}
 use lib.Dec.{eqb, leb, le→leb, eqb·suc-zero}
 use lib.ListN.{length, take, drop, length-append}
 use lib.Seq.{length-take-le, take-at}
+use Rattle.facts.specs.Numbers.{first}
 use Rattle.facts.specs.Writing.{writtenAt}
 use Rattle.facts.proofs.Tests.{and-i, and-l, T-true, true-T}
 use Rattle.facts.proofs.Writing.{length-written}
 use Rattle.grid.specs.declared.Plan.{Plan}
 use Rattle.mesh.specs.Mesh.{check}
-use Rattle.outcomes.specs.Calls.{refine, cells, refused, outcome}
+use Rattle.mesh.proofs.Bridge.{chain}
+use Rattle.outcomes.specs.Calls.{refine, cells, markRefusal, refused, outcome}
 use Rattle.outcomes.specs.Runs.{Tables, finalOf}
 use Rattle.refining.specs.Seasons.{SeasonCall}
 use Rattle.drafts.specs.Drafts.{isOpen, noDraft, marksOf, refusal19, openDraft, dropDraft, Added, Closed}
@@ -22,6 +24,17 @@ use Rattle.drafts.proofs.Refusals.{open-18, none-18, open-19, AddCase, 
 use Rattle.drafts.proofs.Seasons.{changed-open}
 use Rattle.drafts.proofs.Kept.{close-yes}
 
+-- ---- marks that are not refused
+
+-- judged against these tables
+abbrev Judged : Plan → Tables → List ℕ → Type 0
+Judged p t marks = first (markRefusal refine cells p (t .cells) (t .functions)) marks ≡ 0
+
+first-both : (f : ℕ → ℕ) (xs ys : List ℕ) → first f xs ≡ 0 → first f ys ≡ 0 → first f (xs ++ ys) ≡ 0
+unfolding first
+first-both f [] ys a b = b
+first-both f (x ∷ xs) ys a b = let (z, r) = chain (f x) (first f xs) a in rw z (first-both f xs ys r b)
+
 -- ---- one call while a draft is open
 
 module _ (p : Plan) (s : State) where
@@ -30,6 +43,7 @@ module _ (p : Plan) (s : State) where
     still : s′ .tables ≡ s .tables
     remains : isOpen (s′ .draft) (s′ .list) ≡ true
     marks : marksOf (s′ .draft) (s′ .list) ≡ marksOf (s .draft) (s .list) ++ new
+    judged : Judged p (s .tables) new
 
   abbrev Grew : DraftCall → Type 0
   Grew a = Grown (leave p s a) (newMarks p s a)
@@ -53,7 +67,8 @@ module _ (p : Plan) (s : State) where
 
   module _ (k : Passes p s) (o : isOpen (s .draft) (s .list) ≡ true) where
     same : {s′ : State} → s′ ≡ s → Grown s′ []
-    same e = record { still = ap (λ (s : State). s .tables) e; remains = rw e o; marks = rw e (sym (append-nil (marksOf (s .draft) (s .list)))) }
+    unfolding first
+    same e = record { still = ap (λ (s : State). s .tables) e; remains = rw e o; marks = rw e (sym (append-nil (marksOf (s .draft) (s .list)))); judged = refl }
 
     grew-changing : (a : SeasonCall) → Grew (changing a)
     unfolding leave newMarks refused
@@ -64,13 +79,13 @@ module _ (p : Plan) (s : State) where
     grew-opening = same (rw (open-18 p (s .tables .cells) (s .tables .functions) (s .draft) (s .list) k o) refl)
 
     grew-adding : (m : List ℕ) → Grew (adding m)
-    unfolding leave added newMarks
+    unfolding leave added newMarks first
     grew-adding m = go (add-case p (s .tables .cells) (s .tables .functions) (s .draft) (s .list) m)
       where
         go : {r : Added} → AddCase p (s .tables .cells) (s .tables .functions) (s .draft) (s .list) m r
             → Grown (record { tables = s .tables; draft = r .answer .draft; list = r .list }) (cond (eqb (r .answer .number) 0) m [])
-        go (taken l q e) = rw e (record { still = refl; remains = open-more m l q; marks = take-more m l })
-        go (left-out n e) = rw e (record { still = refl; remains = o; marks = rw (eqb·suc-zero n) (sym (append-nil (marksOf (s .draft) (s .list)))) })
+        go (taken l q j e) = rw e (record { still = refl; remains = open-more m l q; marks = take-more m l; judged = j })
+        go (left-out n e) = rw e (record { still = refl; remains = o; marks = rw (eqb·suc-zero n) (sym (append-nil (marksOf (s .draft) (s .list)))); judged = rw (eqb·suc-zero n) refl })
 
 -- ---- any of them, one after another
 
@@ -78,6 +93,7 @@ record Kept (p : Plan) (s : State) (calls : List DraftCall) : Type 0 where
   still : finalState p s calls .tables ≡ s .tables
   remains : isOpen (finalState p s calls .draft) (finalState p s calls .list) ≡ true
   marks : marksOf (finalState p s calls .draft) (finalState p s calls .list) ≡ marksOf (s .draft) (s .list) ++ collected p s calls
+  judged : Judged p (s .tables) (collected p s calls)
 
 one-more : (p : Plan) (s : State) (a : DraftCall) (rest : List DraftCall) → Grew p s a → Kept p (leave p s a) rest → Kept p s (a ∷ rest)
 unfolding finalOf collected
@@ -87,6 +103,9 @@ one-more p s a rest g f = record {
   marks =
       f .marks ∙ ap (λ (x : List ℕ). x ++ collected p (leave p s a) rest) (g .marks)
       ∙ append-assoc (marksOf (s .draft) (s .list)) (newMarks p s a) (collected p (leave p s a) rest);
+  judged =
+      first-both (markRefusal refine cells p (s .tables .cells) (s .tables .functions)) (newMarks p s a) (collected p (leave p s a) rest) (g .judged)
+      (subst (λ t. Judged p t (collected p (leave p s a) rest)) (g .still) (f .judged));
 }
 
 -- the tables pass after it, since they are those of before
@@ -94,8 +113,8 @@ passes : (p : Plan) (s : State) (a : DraftCall) → Passes p s → Grew p s a �
 passes p s a k g = subst (λ (t : Tables). check p (t .cells) (t .functions) ≡ 0) (sym (g .still)) k
 
 kept : (p : Plan) {calls : List DraftCall} (s : State) → Passes p s → isOpen (s .draft) (s .list) ≡ true → Meanwhile calls → Kept p s calls
-unfolding finalOf collected
-kept p s k o ended = record { still = refl; remains = o; marks = sym (append-nil (marksOf (s .draft) (s .list))) }
+unfolding finalOf collected first
+kept p s k o ended = record { still = refl; remains = o; marks = sym (append-nil (marksOf (s .draft) (s .list))); judged = refl }
 kept p s k o (changes {a = a} {rest = rest} m) = let g = grew-changing p s k o a in one-more p s (changing a) rest g (kept p (leave p s (changing a)) (passes p s (changing a) k g) (g .remains) m)
 kept p s k o (opens {rest = rest} m) = let g = grew-opening p s k o in one-more p s opening rest g (kept p (leave p s opening) (passes p s opening k g) (g .remains) m)
 kept p s k o (adds {marks = x} {rest = rest} m) = let g = grew-adding p s k o x in one-more p s (adding x) rest g (kept p (leave p s (adding x)) (passes p s (adding x) k g) (g .remains) m)
@@ -103,25 +122,25 @@ kept p s k o (adds {marks = x} {rest = rest} m) = let g = grew-adding p s k o x 
 -- ---- from opening on
 
 module _ (p : Plan) (s : State) (calls : List DraftCall) (k : Passes p s) (o : isOpen (s .draft) (s .list) ≡ false) (m : Meanwhile calls) where
-  abbrev first : State
-  first = opened p s calls
+  abbrev start : State
+  start = opened p s calls
 
   abbrev last : State
   last = full p s calls
 
-  first-is : first ≡ record { tables = s .tables; draft = record { «open» = 1; marks = 0 }; list = s .list }
+  start-is : start ≡ record { tables = s .tables; draft = record { «open» = 1; marks = 0 }; list = s .list }
   unfolding leave openDraft
-  first-is = rw (none-18 p (s .tables .cells) (s .tables .functions) (s .draft) (s .list) k o) refl
+  start-is = rw (none-18 p (s .tables .cells) (s .tables .functions) (s .draft) (s .list) k o) refl
 
-  first-open : isOpen (first .draft) (first .list) ≡ true
+  start-open : isOpen (start .draft) (start .list) ≡ true
   unfolding isOpen
-  first-open = rw first-is (T-true (leb 0 (length (s .list))) (le→leb 0 (length (s .list)) (omega arith)))
+  start-open = rw start-is (T-true (leb 0 (length (s .list))) (le→leb 0 (length (s .list)) (omega arith)))
 
-  whole : Kept p first calls
-  whole = kept p first (subst (Passes p) (sym first-is) k) first-open m
+  whole : Kept p start calls
+  whole = kept p start (subst (Passes p) (sym start-is) k) start-open m
 
   same-tables : last .tables ≡ s .tables
-  same-tables = whole .still ∙ ap (λ (s : State). s .tables) first-is
+  same-tables = whole .still ∙ ap (λ (s : State). s .tables) start-is
 
   last-passes : Passes p last
   last-passes = subst (λ (t : Tables). check p (t .cells) (t .functions) ≡ 0) (sym same-tables) k
@@ -129,8 +148,8 @@ module _ (p : Plan) (s : State) (calls : List DraftCall) (k : Passes p s) (o : i
   last-refusal : refusal19 p (last .tables .cells) (last .tables .functions) (last .draft) (last .list) ≡ 0
   last-refusal = open-19 p (last .tables .cells) (last .tables .functions) (last .draft) (last .list) last-passes (whole .remains)
 
-  has : marksOf (last .draft) (last .list) ≡ collected p first calls
-  has = whole .marks ∙ ap (λ (s : State). marksOf (s .draft) (s .list) ++ collected p first calls) first-is
+  has : marksOf (last .draft) (last .list) ≡ collected p start calls
+  has = whole .marks ∙ ap (λ (s : State). marksOf (s .draft) (s .list) ++ collected p start calls) start-is
 
   drops : leave p last dropping ≡ record { tables = s .tables; draft = noDraft; list = last .list }
   unfolding leave dropDraft
@@ -141,6 +160,7 @@ module _ (p : Plan) (s : State) (calls : List DraftCall) (k : Passes p s) (o : i
     still = same-tables;
     remains = true-T _ (whole .remains);
     marks = has;
+    judged = subst (λ t. Judged p t (collected p start calls)) (ap (λ (s : State). s .tables) start-is) (whole .judged);
     asOne = λ room.
         ap (λ (c : Closed). c .outcome) (close-yes p last room last-refusal)
         ∙ ap₂ (λ (u : Tables) m. outcome refine cells p (u .cells) (u .functions) m (room .cells) (room .functions)) same-tables has;

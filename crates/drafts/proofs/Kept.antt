@@ -32,7 +32,7 @@ refused-add p s marks = go (add-case p (s .tables .cells) (s .tables .functions)
   where
     go : {o : Added} → AddCase p (s .tables .cells) (s .tables .functions) (s .draft) (s .list) marks o → o .answer .number ≢ 0
         → o ≡ record { answer = record { number = o .answer .number; draft = s .draft }; list = s .list }
-    go (taken l q e) n = absurd (n (ap (λ (o : Added). o .answer .number) e))
+    go (taken l q m e) n = absurd (n (ap (λ (o : Added). o .answer .number) e))
     go (left-out m e) n = rw e refl
 
 -- a refused outcome is its number, and nothing else

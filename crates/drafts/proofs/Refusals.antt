@@ -135,7 +135,7 @@ module _ (p : Plan) (cs fs : List ℕ) (d : Draft) (dl marks : List ℕ) where
   more = record { «open» = d .«open»; marks = d .marks + length marks }
 
   pub data AddCase (o : Added) : Type 0 where
-    taken : d .marks + length marks ≤ length dl → isOpen d dl ≡ true → o ≡ record { answer = record { number = 0; draft = more }; list = writtenAt dl (d .marks) marks } → AddCase o
+    taken : d .marks + length marks ≤ length dl → isOpen d dl ≡ true → first (markRefusal refine cells p cs fs) marks ≡ 0 → o ≡ record { answer = record { number = 0; draft = more }; list = writtenAt dl (d .marks) marks } → AddCase o
     left-out : (n : ℕ) → o ≡ record { answer = record { number = suc n; draft = d }; list = dl } → AddCase o
 
   pub add-taken : addRefusal p cs fs d dl marks ≡ 0 → addMarks p cs fs d dl marks ≡ record { answer = record { number = 0; draft = more }; list = writtenAt dl (d .marks) marks }
@@ -157,8 +157,8 @@ module _ (p : Plan) (cs fs : List ℕ) (d : Draft) (dl marks : List ℕ) where
   pub add-case : AddCase (addMarks p cs fs d dl marks)
   add-case = cases (eqb (addRefusal p cs fs d dl marks) 0)
       (λ z. let e = eqb→eq (addRefusal p cs fs d dl marks) 0 z in
-      let (a, _, l) = add-none e in
-      taken l (passes-19 p cs fs d dl refl a .1) (add-taken e))
+      let (a, m, l) = add-none e in
+      taken l (passes-19 p cs fs d dl refl a .1) m (add-taken e))
       (λ z. let n : addRefusal p cs fs d dl marks ≢ 0 = differ _ _ z in
       let k : addRefusal p cs fs d dl marks ≡ suc (pred (addRefusal p cs fs d dl marks)) = omega arith in
       left-out (pred (addRefusal p cs fs d dl marks)) (add-refused n ∙ ap (λ m. record { answer = record { number = m; draft = d }; list = dl }) k))

@@ -6,9 +6,10 @@ use mathlib.Core.Path.{_≡_}
 use Prim.Native.Nat.{ℕ}
 use lib.Dec.{T}
 use lib.IntN.{ℤ}
+use Rattle.facts.specs.Numbers.{first}
 use Rattle.grid.specs.declared.Plan.{Plan}
 use Rattle.mesh.specs.Mesh.{check}
-use Rattle.outcomes.specs.Calls.{Direction, refine, By, cells, functions, refused, outcome}
+use Rattle.outcomes.specs.Calls.{Direction, refine, By, cells, functions, markRefusal, refused, outcome}
 use Rattle.outcomes.specs.Runs.{LentLists, backwards, LongEnough, covered}
 use Rattle.refining.specs.Refining.{outcomeWithHeights}
 use Rattle.refining.specs.Seasons.{SeasonCall}
@@ -38,6 +39,8 @@ module _ (p : Plan) (s : State) (calls : List DraftCall) where
     -- the draft is open and has the marks of the accepted adds, in their order
     pub remains : Open full
     pub marks : marksOf (full .draft) (full .list) ≡ collected p opened calls
+    -- none of 7 to 9 is due for them, so closing it is refused with 10 or 11, or not at all
+    pub judged : first (markRefusal refine cells p (s .tables .cells) (s .tables .functions)) (collected p opened calls) ≡ 0
     -- closed, it is one split by cells with these marks, in every byte
     pub asOne : (room : LentLists) → closed p full room .outcome
         ≡ outcome refine cells p (s .tables .cells) (s .tables .functions) (collected p opened calls) (room .cells) (room .functions)
