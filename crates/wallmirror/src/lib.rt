@@ -29,6 +29,8 @@ ghost use Rattle.files.specs.Steps.{leftByRead, leftByWrite};
 ghost use Rattle.heights.specs.Heights.{answer, flattened};
 ghost use Rattle.refining.specs.Refining.{refineCellsWithHeights, refineFunctionsWithHeights};
 ghost use Rattle.refining.specs.Steps.{MeetsWithHeights};
+ghost use Rattle.planes.specs.Planes.{openPlanes, checkPlanes, countPlanes, onPlanes, packed, unpacked};
+ghost use Rattle.planes.specs.Contracts.{leftByOpen, MeetsOnPlanes, leftByPack, leftByUnpack};
 ghost use Rattle.projector.specs.Projector.{project};
 ghost use Rattle.projector.specs.Steps.{leftByCorners};
 ghost use Rattle.outcomes.specs.Calls as calls;
@@ -557,4 +559,160 @@ pub extern "C" fn wallmirror_read_with_draft(
     ensures draft { λ r. ⌜ r .draft ≡ draftAfterRead (now (file .entry)) (now (cells .entry)) (now (functions .entry)) draft ⌝ }
 {
     drafting::read_mesh(file, cells, functions, draft)
+}
+
+#[no_mangle]
+pub extern "C" fn wallmirror_planes_open(
+    plan: Plan,
+    present: &mut [u64],
+    refined: &mut [u64],
+    functions: &mut [u8],
+) -> u32
+    ensures { λ r. ⌜ leftByOpen r present refined functions ≡ openPlanes plan (now (present .entry)) (now (refined .entry)) (now (functions .entry)) ⌝ }
+{
+    planes::open(plan, present, refined, functions)
+}
+
+#[no_mangle]
+pub extern "C" fn wallmirror_planes_check(
+    plan: Plan,
+    present: &[u64],
+    refined: &[u64],
+    functions: &[u8],
+) -> u32
+    ensures { λ r. ⌜ r ≡ checkPlanes plan (now (present .entry)) (now (refined .entry)) (now (functions .entry)) ⌝ }
+{
+    planes::check(plan, present, refined, functions)
+}
+
+#[no_mangle]
+pub extern "C" fn wallmirror_planes_count(
+    plan: Plan,
+    present: &[u64],
+    refined: &[u64],
+    functions: &[u8],
+) -> Count
+    ensures { λ r. ⌜ r ≡ countPlanes plan (now (present .entry)) (now (refined .entry)) (now (functions .entry)) ⌝ }
+{
+    planes::count(plan, present, refined, functions)
+}
+
+#[no_mangle]
+pub extern "C" fn wallmirror_planes_refine_cells(
+    plan: Plan,
+    present: &mut [u64],
+    refined: &mut [u64],
+    functions: &mut [u8],
+    marks: &[u32],
+    cell_list: &mut [u32],
+    function_list: &mut [u32],
+) -> Answer
+    ensures { λ r. ⌜ MeetsOnPlanes (onPlanes refineCells plan) r present refined functions marks «cell_list» «function_list» ⌝ }
+{
+    planes::change(
+        Call(Direction::Refine, By::Cells),
+        plan,
+        present,
+        refined,
+        functions,
+        marks,
+        cell_list,
+        function_list,
+    )
+}
+
+#[no_mangle]
+pub extern "C" fn wallmirror_planes_refine_functions(
+    plan: Plan,
+    present: &mut [u64],
+    refined: &mut [u64],
+    functions: &mut [u8],
+    marks: &[u32],
+    cell_list: &mut [u32],
+    function_list: &mut [u32],
+) -> Answer
+    ensures { λ r. ⌜ MeetsOnPlanes (onPlanes refineFunctions plan) r present refined functions marks «cell_list» «function_list» ⌝ }
+{
+    planes::change(
+        Call(Direction::Refine, By::Functions),
+        plan,
+        present,
+        refined,
+        functions,
+        marks,
+        cell_list,
+        function_list,
+    )
+}
+
+#[no_mangle]
+pub extern "C" fn wallmirror_planes_coarsen_cells(
+    plan: Plan,
+    present: &mut [u64],
+    refined: &mut [u64],
+    functions: &mut [u8],
+    marks: &[u32],
+    cell_list: &mut [u32],
+    function_list: &mut [u32],
+) -> Answer
+    ensures { λ r. ⌜ MeetsOnPlanes (onPlanes coarsenCells plan) r present refined functions marks «cell_list» «function_list» ⌝ }
+{
+    planes::change(
+        Call(Direction::Coarsen, By::Cells),
+        plan,
+        present,
+        refined,
+        functions,
+        marks,
+        cell_list,
+        function_list,
+    )
+}
+
+#[no_mangle]
+pub extern "C" fn wallmirror_planes_coarsen_functions(
+    plan: Plan,
+    present: &mut [u64],
+    refined: &mut [u64],
+    functions: &mut [u8],
+    marks: &[u32],
+    cell_list: &mut [u32],
+    function_list: &mut [u32],
+) -> Answer
+    ensures { λ r. ⌜ MeetsOnPlanes (onPlanes coarsenFunctions plan) r present refined functions marks «cell_list» «function_list» ⌝ }
+{
+    planes::change(
+        Call(Direction::Coarsen, By::Functions),
+        plan,
+        present,
+        refined,
+        functions,
+        marks,
+        cell_list,
+        function_list,
+    )
+}
+
+#[no_mangle]
+pub extern "C" fn wallmirror_planes_from_cells(
+    plan: Plan,
+    cells: &[u8],
+    present: &mut [u64],
+    refined: &mut [u64],
+) -> u32
+    ensures { λ r. ⌜ leftByPack r present refined ≡ packed plan (now (cells .entry)) (now (present .entry)) (now (refined .entry)) ⌝ }
+{
+    planes::from_cells(plan, cells, present, refined)
+}
+
+#[no_mangle]
+pub extern "C" fn wallmirror_planes_to_cells(
+    plan: Plan,
+    present: &[u64],
+    refined: &[u64],
+    cells: &mut [u8],
+) -> u32
+    ensures { λ r. ⌜ leftByUnpack r cells ≡ unpacked plan (now (present .entry)) (now (refined .entry)) (now (cells .entry)) ⌝ }
+{
+    planes::to_cells(plan, present, refined, cells)
 }

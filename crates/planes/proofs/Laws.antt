@@ -1,0 +1,184 @@
+-- Planes and the bytes that they hold: each undoes the other. Assumes nothing.
+use mathlib.Core.Path.{_≡_, refl, sym, ap, _∙_}
+use mathlib.Core.Bool.{Bool, true, false, not, _&&_, cond}
+use mathlib.Core.List.{List}
+use Prim.Native.Nat.{ℕ, zero, suc, _+_, _-_, _*_, _/_, _%_, _^_, _≤_, _<_}
+use native.Mathlib.Omega.{arith}
+use lib.Dec.{T, eqb, ltb, ltb→lt, nltb→le, eqb→eq}
+use lib.ListN.{length, getD, List·getD-eq-default}
+use Rattle.facts.proofs.Tests.{and-i, and-l, and-r, not-e, cases, implies-i, implies-e, T-true, T-false}
+use Rattle.facts.proofs.Bounded.{every-i, every-e}
+use Rattle.facts.proofs.Ranges.{from-i, from-e}
+use Rattle.facts.proofs.Numbers.{bit, length-tabulate, getD-tabulate, tabulate-is}
+use Rattle.mesh.specs.Mesh.{absent, refined}
+use Rattle.planes.specs.Bits.{isSet, wordsFor, byteOf, bytesOf, wordAt, planeOf, isPresent, presentOf, refinedOf, noSpare, within, inOrder}
+use Rattle.planes.specs.Bits as planes
+use Rattle.planes.proofs.Bits.{bit-lt, bit-is, word-bit, word-is}
+
+-- as many bits as cells, at least
+pub words-enough : (n : ℕ) → n ≤ 64 * wordsFor n
+unfolding wordsFor
+words-enough n = omega arith
+
+-- ---- one bit of a plane
+
+pub set-bit : (plane : List ℕ) (w k : ℕ) → k < 64 → cond (isSet plane (64 * w + k)) 1 0 ≡ planes.bit (getD plane w 0) k
+unfolding isSet
+set-bit plane w k l =
+    let a : (64 * w + k) / 64 ≡ w = omega arith in
+    let b : (64 * w + k) % 64 ≡ k = omega arith in
+    rw (a, b) (bit-is (planes.bit (getD plane w 0) k) (bit-lt (getD plane w 0) k))
+
+pub plane-set : (words : ℕ) (test : ℕ → Bool) (c : ℕ) → c < 64 * words → isSet (planeOf words test) c ≡ test c
+unfolding isSet planeOf wordAt
+plane-set words test c l =
+    let e : 64 * (c / 64) + c % 64 ≡ c = omega arith in
+    rw (getD-tabulate words (wordAt test) (c / 64) 0 (omega arith), word-bit test 64 (64 * (c / 64)) (c % 64) (omega arith), e)
+    (bit (test c))
+
+-- the numbers of a plane are 64-bit words
+abbrev pub Words : List ℕ → Type 0
+Words plane = (w : ℕ) → getD plane w 0 < 2 ^ 64
+
+-- a plane is made of the tests that its bits are
+pub plane-is : (words : ℕ) (test : ℕ → Bool) (plane : List ℕ) → length plane ≡ words → Words plane
+    → ((c : ℕ) → c < 64 * words → test c ≡ isSet plane c) → planeOf words test ≡ plane
+unfolding planeOf wordAt
+plane-is words test plane e small h = sym (tabulate-is words (wordAt test) plane e (λ w l.
+    sym (word-is test 64 (64 * w) (getD plane w 0) (small w) (λ k i.
+    ap (λ (b : Bool). cond b 1 0) (h (64 * w + k) (omega arith)) ∙ set-bit plane w k i))))
+
+-- ---- in order, as facts
+
+module _ (n : ℕ) (P R : List ℕ) where
+  pub record Ordered : Type 0 where
+    pub noPresent : (c : ℕ) → n ≤ c → c < 64 * wordsFor n → T (not (isSet P c))
+    pub noRefined : (c : ℕ) → n ≤ c → c < 64 * wordsFor n → T (not (isSet R c))
+    pub inside : (c : ℕ) → c < n → T (isSet R c) → T (isSet P c)
+
+  pub ordered : T (inOrder n P R) → Ordered
+  unfolding inOrder noSpare within
+  ordered t =
+      let a = and-l (noSpare n P && noSpare n R) (within n P R) t in
+      record {
+        noPresent = λ c l m. from-e n (64 * wordsFor n - n) _ (and-l (noSpare n P) (noSpare n R) a) c l (omega (arith, words-enough n));
+        noRefined = λ c l m. from-e n (64 * wordsFor n - n) _ (and-r (noSpare n P) (noSpare n R) a) c l (omega (arith, words-enough n));
+        inside = λ c l u. implies-e (isSet R c) (isSet P c) (every-e n _ (and-r (noSpare n P && noSpare n R) (within n P R) t) c l) u;
+      }
+
+  pub order-i : Ordered → T (inOrder n P R)
+  unfolding inOrder noSpare within
+  order-i o = and-i (noSpare n P && noSpare n R) (within n P R)
+      (and-i (noSpare n P) (noSpare n R)
+      (from-i n (64 * wordsFor n - n) _ (λ c l m. o .noPresent c l (omega (arith, words-enough n))))
+      (from-i n (64 * wordsFor n - n) _ (λ c l m. o .noRefined c l (omega (arith, words-enough n)))))
+      (every-i n _ (λ c l. implies-i (isSet R c) (isSet P c) (o .inside c l)))
+
+-- ---- bytes of planes
+
+pub length-bytes : (n : ℕ) (P R : List ℕ) → length (bytesOf n P R) ≡ n
+unfolding bytesOf
+length-bytes n P R = length-tabulate n _
+
+-- what a byte of two bits is
+byte-present : (a b : Bool) → not (eqb (cond a (cond b 2 1) 0) 0) ≡ a
+byte-present true true = refl
+byte-present true false = refl
+byte-present false b = refl
+
+byte-refined : (a b : Bool) → (T b → T a) → eqb (cond a (cond b 2 1) 0) 2 ≡ b
+byte-refined true true i = refl
+byte-refined true false i = refl
+byte-refined false true i = absurd (i tt)
+byte-refined false false i = refl
+
+byte-small : (a b : Bool) → cond a (cond b 2 1) 0 ≤ 2
+byte-small true true = omega arith
+byte-small true false = omega arith
+byte-small false b = omega arith
+
+pub byte-at : (n : ℕ) (P R : List ℕ) (c : ℕ) → c < n → getD (bytesOf n P R) c 0 ≡ byteOf P R c
+unfolding bytesOf
+byte-at n P R c l = getD-tabulate n (byteOf P R) c 0 l
+
+pub byte-past : (n : ℕ) (P R : List ℕ) (c : ℕ) → n ≤ c → getD (bytesOf n P R) c 0 ≡ 0
+byte-past n P R c l = List·getD-eq-default (bytesOf n P R) 0 (rw (length-bytes n P R) l)
+
+pub bytes-small : (n : ℕ) (P R : List ℕ) (c : ℕ) → getD (bytesOf n P R) c 0 ≤ 2
+unfolding byteOf
+bytes-small n P R c = cases (ltb c n)
+    (λ t. rw (byte-at n P R c (ltb→lt c n t)) (byte-small (isSet P c) (isSet R c)))
+    (λ t. rw (byte-past n P R c (nltb→le c n t)) (omega arith))
+
+module _ (n : ℕ) (P R : List ℕ) (o : Ordered n P R) (c : ℕ) (l : c < 64 * wordsFor n) where
+  pub present-bytes : isPresent (bytesOf n P R) c ≡ isSet P c
+  unfolding isPresent absent byteOf
+  present-bytes = cases (ltb c n)
+      (λ t. rw (byte-at n P R c (ltb→lt c n t)) (byte-present (isSet P c) (isSet R c)))
+      (λ t. rw (byte-past n P R c (nltb→le c n t)) (sym (T-false (isSet P c) (not-e (isSet P c) (o .noPresent c (nltb→le c n t) l)))))
+
+  pub refined-bytes : refined (bytesOf n P R) c ≡ isSet R c
+  unfolding refined byteOf
+  refined-bytes = cases (ltb c n)
+      (λ t. rw (byte-at n P R c (ltb→lt c n t)) (byte-refined (isSet P c) (isSet R c) (o .inside c (ltb→lt c n t))))
+      (λ t. rw (byte-past n P R c (nltb→le c n t)) (sym (T-false (isSet R c) (not-e (isSet R c) (o .noRefined c (nltb→le c n t) l)))))
+
+-- planes in order are the planes of their bytes
+module _ (n : ℕ) (P R : List ℕ) (o : T (inOrder n P R)) where
+  pub present-back : length P ≡ wordsFor n → Words P → presentOf (bytesOf n P R) ≡ P
+  unfolding presentOf
+  present-back e small = rw (length-bytes n P R) (plane-is (wordsFor n) _ P e small (present-bytes n P R (ordered n P R o)))
+
+  pub refined-back : length R ≡ wordsFor n → Words R → refinedOf (bytesOf n P R) ≡ R
+  unfolding refinedOf
+  refined-back e small = rw (length-bytes n P R) (plane-is (wordsFor n) _ R e small (refined-bytes n P R (ordered n P R o)))
+
+-- ---- planes of bytes
+
+byte-of : (b : ℕ) → b ≤ 2 → b ≡ cond (not (eqb b 0)) (cond (eqb b 2) 2 1) 0
+byte-of zero l = refl
+byte-of (suc zero) l = refl
+byte-of (suc (suc zero)) l = refl
+byte-of (suc (suc (suc b))) l = absurd (omega arith)
+
+module _ (cs : List ℕ) where
+  pub length-present : length (presentOf cs) ≡ wordsFor (length cs)
+  unfolding presentOf planeOf
+  length-present = length-tabulate _ _
+
+  pub length-refined : length (refinedOf cs) ≡ wordsFor (length cs)
+  unfolding refinedOf planeOf
+  length-refined = length-tabulate _ _
+
+  module _ (c : ℕ) (l : c < 64 * wordsFor (length cs)) where
+    pub present-set : isSet (presentOf cs) c ≡ isPresent cs c
+    unfolding presentOf
+    present-set = plane-set (wordsFor (length cs)) (isPresent cs) c l
+
+    pub refined-set : isSet (refinedOf cs) c ≡ refined cs c
+    unfolding refinedOf
+    refined-set = plane-set (wordsFor (length cs)) (refined cs) c l
+
+  past : (c : ℕ) → length cs ≤ c → getD cs c 0 ≡ 0
+  past c l = List·getD-eq-default cs 0 l
+
+  pub planes-ordered : Ordered (length cs) (presentOf cs) (refinedOf cs)
+  unfolding isPresent absent refined
+  planes-ordered = record {
+    noPresent = λ c l m. rw (present-set c m, past c l) tt;
+    noRefined = λ c l m. rw (refined-set c m, past c l) tt;
+    inside = λ c l t. inner c (rw (refined-set c (omega (arith, words-enough (length cs)))) at t) (omega (arith, words-enough (length cs)));
+  }
+    where
+      inner : (c : ℕ) → T (eqb (getD cs c 0) 2) → c < 64 * wordsFor (length cs) → T (isSet (presentOf cs) c)
+      inner c t m = rw (present-set c m, eqb→eq (getD cs c 0) 2 t) tt
+
+  pub planes-in-order : inOrder (length cs) (presentOf cs) (refinedOf cs) ≡ true
+  planes-in-order = T-true _ (order-i (length cs) (presentOf cs) (refinedOf cs) planes-ordered)
+
+  -- the bytes of a table's planes are the table
+  pub bytes-back : ((c : ℕ) → c < length cs → getD cs c 0 ≤ 2) → bytesOf (length cs) (presentOf cs) (refinedOf cs) ≡ cs
+  unfolding bytesOf byteOf
+  bytes-back small = sym (tabulate-is (length cs) _ cs refl (λ c l.
+      let m : c < 64 * wordsFor (length cs) = omega (arith, words-enough (length cs)) in
+      rw (present-set c m, refined-set c m) (unfold isPresent absent refined in byte-of (getD cs c 0) (small c l))))

@@ -1,0 +1,59 @@
+-- The room for the bytes of whole words, and the cells in it. Assumes nothing.
+use mathlib.Core.Path.{_≡_, sym, _∙_}
+use mathlib.Core.Logic.{_≢_}
+use mathlib.Core.List.{List}
+use Prim.Native.Nat.{ℕ, _*_, _≤_}
+use native.Mathlib.Omega.{arith}
+use lib.ListN.{length, take}
+use lib.Seq.{getD-take, length-take-le}
+use borrow.Author.Tests.{ne-eqb}
+use Rattle.facts.proofs.Numbers.{tabulate-is}
+use Rattle.grid.specs.Bounds.{mostCells}
+use Rattle.grid.specs.declared.Plan.{Plan}
+use Rattle.grid.specs.Plan.{cellTotal}
+use Rattle.mesh.specs.Mesh.{check}
+use Rattle.planes.specs.Bits.{wordsFor, byteOf, bytesOf}
+use Rattle.planes.specs.Steps.{Within}
+use Rattle.planes.specs.Planes.{cellsOf, refusal4, checkPlanes}
+use Rattle.planes.proofs.Laws.{words-enough, length-bytes, byte-at}
+use Rattle.planes.proofs.Order.{ordered-within}
+use Rattle.planes.proofs.Refusals.{Held}
+
+-- the first cells of a room
+pub take-bytes : (n m : ℕ) (P R : List ℕ) → n ≤ m → take n (bytesOf m P R) ≡ bytesOf n P R
+unfolding bytesOf
+take-bytes n m P R l = tabulate-is n (byteOf P R) (take n (bytesOf m P R)) (length-take-le n (bytesOf m P R) (rw (length-bytes m P R) l)) (λ c i.
+    getD-take n (bytesOf m P R) c 0 i ∙ byte-at m P R c (omega arith))
+
+-- the largest plane
+pub room-enough : (n : ℕ) → n ≤ mostCells → 64 * wordsFor n ≤ 21888
+unfolding wordsFor
+room-enough n l = omega arith
+
+module _ {p : Plan} {P R fs : List ℕ} (h : Held p P R fs) where
+  pub same-words : length R ≡ length P
+  same-words = h .sizes .refined ∙ sym (h .sizes .present)
+
+  pub held-within : Within P R
+  held-within = ordered-within P R (cellTotal p) (h .sizes .present) (h .sizes .refined) (h .order)
+
+  pub held-room : 64 * length P ≤ 21888
+  held-room = rw (h .sizes .present) (room-enough (cellTotal p) (h .sizes .small))
+
+  pub held-cells : cellTotal p ≤ 64 * length P
+  held-cells = rw (h .sizes .present) (words-enough (cellTotal p))
+
+  -- the cells, in a room that holds the bytes
+  pub cells-are : (n : ℕ) (bytes : List ℕ) → n ≡ cellTotal p → bytes ≡ bytesOf (64 * length P) P R → take n bytes ≡ cellsOf p P R
+  cells-are n bytes e b = rw (e, b) (take-bytes (cellTotal p) (64 * length P) P R held-cells)
+
+-- ---- check
+
+module _ (p : Plan) (P R fs : List ℕ) where
+  pub check-early : {n : ℕ} → n ≡ refusal4 p P R fs → n ≢ 0 → n ≡ checkPlanes p P R fs
+  unfolding checkPlanes
+  check-early e z = rw (ne-eqb (refusal4 p P R fs) 0 (λ q. z (e ∙ q)), e)
+
+  pub check-held : refusal4 p P R fs ≡ 0 → check p (cellsOf p P R) fs ≡ checkPlanes p P R fs
+  unfolding checkPlanes
+  check-held e = rw e
