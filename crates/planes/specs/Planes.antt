@@ -7,7 +7,7 @@ use lib.Dec.{leb, eqb}
 use lib.ListN.{length, getD}
 use Rattle.facts.specs.Bounded.{every}
 use Rattle.grid.specs.declared.Plan.{Plan}
-use Rattle.grid.specs.Plan.{inRange, tooLarge, cellTotal, functionTotal}
+use Rattle.grid.specs.Plan.{planRefusalOr, planRefusal, cellTotal, functionTotal}
 use Rattle.mesh.specs.declared.Count.{Count}
 use Rattle.mesh.specs.Mesh.{check, count, openMesh}
 use Rattle.outcomes.specs.declared.Answer.{Answer}
@@ -16,13 +16,17 @@ use Rattle.planes.specs.Bits.{wordsFor, bytesOf, presentOf, refinedOf, i
 
 -- ---- refusals
 
+-- "T/64 words, rounded up", of each plane; 0 where the plan is refused
+unfoldable pub planesLength : Plan → ℕ
+planesLength p = cond (eqb (planRefusal p) 0) (wordsFor (cellTotal p)) 0
+
 -- both planes have "T/64 words, rounded up"
 unfoldable pub sized : Plan → List ℕ → List ℕ → Bool
 sized p P R = eqb (length P) (wordsFor (cellTotal p)) && eqb (length R) (wordsFor (cellTotal p))
 
 -- 1 and 2 by the plan; 3 where a length is not what the plan asks
 unfoldable pub sizeRefusal : Plan → Bool → ℕ
-sizeRefusal p right = cond (not (inRange p)) 1 (cond (tooLarge p) 2 (cond (not right) 3 0))
+sizeRefusal p right = planRefusalOr p (cond (not right) 3 0)
 
 -- 1 to 3 of planes and functions
 unfoldable pub refusal3 : Plan → List ℕ → List ℕ → List ℕ → ℕ

@@ -13,7 +13,7 @@ ghost use Rattle.calls.specs.Parts.{directionOf, byOf};
 ghost use Rattle.mesh.specs.Mesh.{check, refined as isRefined};
 ghost use Rattle.outcomes.specs.Calls.{outcome};
 ghost use Rattle.planes.specs.Bits.{wordsFor, bytesOf, planeOf, isPresent};
-ghost use Rattle.planes.specs.Planes.{sized, sizeRefusal, refusal3, cellsRefusal, orderRefusal, refusal4, cellsOf, openPlanes, checkPlanes, countPlanes, onPlanes, packed, unpacked};
+ghost use Rattle.planes.specs.Planes.{planesLength, sized, sizeRefusal, refusal3, cellsRefusal, orderRefusal, refusal4, cellsOf, openPlanes, checkPlanes, countPlanes, onPlanes, packed, unpacked};
 ghost use Rattle.planes.specs.Contracts.{leftByOpen, MeetsOnPlanes, leftByPack, leftByUnpack};
 ghost use Rattle.planes.specs.Steps.{InRoom, Within, Small, Clear};
 
@@ -28,6 +28,16 @@ fn word_count(plan: Plan) -> usize
     ensures { λ r. ⌜ r ≡ wordsFor (cellTotal plan) ⌝ }
 {
     (plan.cell_total() as usize + 63) / 64
+}
+
+// How many words each plane has, 0 where the plan is refused.
+pub fn len(plan: Plan) -> usize
+    ensures { λ r. ⌜ r ≡ planesLength plan ⌝ }
+{
+    if plan.refusal() == 0 {
+        return word_count(plan);
+    }
+    0
 }
 
 // Refusals 1 to 3 of planes, or 0.

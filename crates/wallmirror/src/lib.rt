@@ -29,7 +29,7 @@ ghost use Rattle.files.specs.Steps.{leftByRead, leftByWrite};
 ghost use Rattle.heights.specs.Heights.{answer, flattened};
 ghost use Rattle.refining.specs.Refining.{refineCellsWithHeights, refineFunctionsWithHeights};
 ghost use Rattle.refining.specs.Steps.{MeetsWithHeights};
-ghost use Rattle.planes.specs.Planes.{openPlanes, checkPlanes, countPlanes, onPlanes, packed, unpacked};
+ghost use Rattle.planes.specs.Planes.{planesLength, openPlanes, checkPlanes, countPlanes, onPlanes, packed, unpacked};
 ghost use Rattle.planes.specs.Contracts.{leftByOpen, MeetsOnPlanes, leftByPack, leftByUnpack};
 ghost use Rattle.projector.specs.Projector.{project};
 ghost use Rattle.projector.specs.Steps.{leftByCorners};
@@ -38,12 +38,12 @@ ghost use Rattle.outcomes.specs.Calls.{refine, coarsen};
 ghost use Rattle.drafts.specs.Drafts.{openDraft, dropDraft, addMarks, closeDraft, outcomeWithDraft, outcomeWithHeightsAndDraft, draftAfterOpen, draftAfterRead};
 ghost use Rattle.drafts.specs.Contracts.{leftByAdd, leftByClose, MeetsWithDraft, MeetsWithHeightsAndDraft};
 
-// 0.10.0, as major * 1,000,000 + minor * 1,000 + patch.
+// 0.11.0, as major * 1,000,000 + minor * 1,000 + patch.
 #[no_mangle]
 pub extern "C" fn wallmirror_version() -> u32
-    ensures { λ r. ⌜ r ≡ 10000 ⌝ }
+    ensures { λ r. ⌜ r ≡ 11000 ⌝ }
 {
-    10000
+    11000
 }
 
 #[no_mangle]
@@ -559,6 +559,13 @@ pub extern "C" fn wallmirror_read_with_draft(
     ensures draft { λ r. ⌜ r .draft ≡ draftAfterRead (now (file .entry)) (now (cells .entry)) (now (functions .entry)) draft ⌝ }
 {
     drafting::read_mesh(file, cells, functions, draft)
+}
+
+#[no_mangle]
+pub extern "C" fn wallmirror_planes_len(plan: Plan) -> usize
+    ensures { λ r. ⌜ r ≡ planesLength plan ⌝ }
+{
+    planes::len(plan)
 }
 
 #[no_mangle]
