@@ -13,7 +13,7 @@ use Rattle.facts.specs.Ranges.{Written}
 use Rattle.facts.proofs.Tests.{cases, T-true, T-false}
 use Rattle.facts.proofs.Numbers.{length-tabulate, getD-tabulate}
 use Rattle.grid.specs.declared.Plan.{Plan}
-use Rattle.grid.specs.Plan.{inRange, tooLarge, cellTotal, functionTotal, cellOffset, functionOffset}
+use Rattle.grid.specs.Plan.{planRefusal, inRange, tooLarge, cellTotal, functionTotal, cellOffset, functionOffset}
 use Rattle.mesh.specs.Mesh.{absent, refined}
 use Rattle.mesh.proofs.Bridge.{Passed, pass, stop}
 use Rattle.tables.specs.Entries.{freshByte}
@@ -26,12 +26,14 @@ use Rattle.planes.proofs.Refusals.{Sized, both-of}
 use Rattle.planes.proofs.Rooms.{room-enough}
 use Rattle.planes.proofs.Changes.{plane-same}
 
-plan-right : (p : Plan) (right : Bool) → sizeRefusal p right ≡ 0 → (inRange p ≡ true) × (tooLarge p ≡ false)
-unfolding sizeRefusal
-plan-right p right e =
-    let a = pass (inRange p) 0 _ e in
-    let b = stop (tooLarge p) 1 _ (a .1) in
-    (T-true (inRange p) (a .0), T-false (tooLarge p) (b .0))
+plan-right : (p : Plan) (right : Bool) → sizeRefusal p right ≡ 0 → planRefusal p ≡ 0
+unfolding sizeRefusal planRefusal
+plan-right p right e = go (inRange p) (tooLarge p) (cond (not right) 3 0) e
+  where
+    go : (a b : Bool) (n : ℕ) → cond {A = ℕ} (not a) 1 (cond b 2 n) ≡ 0 → cond {A = ℕ} (not a) 1 (cond b 2 0) ≡ 0
+    go true true n z = absurd (omega arith)
+    go true false n z = refl
+    go false b n z = absurd (omega arith)
 
 -- ---- bytes of a table just opened, as bits
 
@@ -115,5 +117,5 @@ module _ (p : Plan) (P R fs : List ℕ) where
     unfolding openPlanes refusal3
     opened-planes gs z ea eP eR eb w =
         let q = plan-right p (sized p P R && eqb (length fs) (functionTotal p)) e in
-        let o = opened p (cellsOf p P R) fs ds gs (refuse-0 p (cellsOf p P R) fs (q .0) (q .1) (length-bytes (cellTotal p) P R) (sizes .1)) refl refl ds-written refl (rw eb at w) in
+        let o = opened p (cellsOf p P R) fs ds gs (refuse-0 p (cellsOf p P R) fs q (length-bytes (cellTotal p) P R) (sizes .1)) refl refl ds-written refl (rw eb at w) in
         rw (e, z, eP, eR, ea, present-ds, refined-ds, o .1 .0, o .1 .1, o .0)

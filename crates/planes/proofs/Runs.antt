@@ -14,7 +14,7 @@ use Rattle.mesh.specs.Mesh.{check}
 use Rattle.mesh.proofs.Bridge.{Good, check-good, check-passed, byte-at-most, chain, pass, stop}
 use Rattle.outcomes.specs.Calls.{By, outcome}
 use Rattle.outcomes.specs.Calls as calls
-use Rattle.outcomes.specs.Runs.{Tables, LentLists, Call, Entry, result, after, entry, final, log, backwards, undo, LongEnough, Undone, covered, RefinesByFunctions}
+use Rattle.outcomes.specs.Runs.{Tables, LentLists, Call, Entry, finalOf, logOf, result, after, entry, final, log, backwards, undo, LongEnough, Undone, covered, RefinesByFunctions}
 use Rattle.outcomes.proofs.Results.{call-accepted, call-refused}
 use Rattle.outcomes.proofs.UndoByCells.{undone-by-cells}
 use Rattle.outcomes.proofs.UndoByFunctions.{undone-by-functions}
@@ -53,7 +53,7 @@ module _ (p : Plan) where
       ap₂ (check p) (r .cells) (r .functions) ∙ k)
 
   pub passes-final : (run : List Call) (u : Tables) → Passes u → Passes (final p u run)
-  unfolding final
+  unfolding finalOf
   passes-final [] u k = k
   passes-final (a ∷ rest) u k = passes-final rest (after p u a) (passes-after u a k)
 
@@ -90,12 +90,12 @@ module _ (p : Plan) where
     entry-on a = rw (result-on a)
 
   pub final-on : (run : List Call) (u : Tables) → Passes u → finalOnPlanes p (planesOf u) run ≡ planesOf (final p u run)
-  unfolding finalOnPlanes final
+  unfolding finalOf
   final-on [] u k = refl
   final-on (a ∷ rest) u k = ap (λ (t : PlaneTables). finalOnPlanes p t rest) (after-on u k a) ∙ final-on rest (after p u a) (passes-after u a k)
 
   pub log-on : (run : List Call) (u : Tables) → Passes u → logOnPlanes p (planesOf u) run ≡ log p u run
-  unfolding logOnPlanes log
+  unfolding logOf
   log-on [] u k = refl
   log-on (a ∷ rest) u k =
       ap₂ (λ (e : Entry) (es : List Entry). e ∷ es) (entry-on u k a) (ap (λ (t : PlaneTables). logOnPlanes p t rest) (after-on u k a) ∙ log-on rest (after p u a) (passes-after u a k))

@@ -6,7 +6,7 @@ use Prim.Native.Nat.{ℕ}
 use lib.ListN.{take}
 use Rattle.grid.specs.declared.Plan.{Plan}
 use Rattle.outcomes.specs.Calls.{By, outcome}
-use Rattle.outcomes.specs.Runs.{LentLists, Call, Entry, backwards, undo, allTaken}
+use Rattle.outcomes.specs.Runs.{LentLists, Call, Entry, finalOf, logOf, backwards, undo, allTaken}
 use Rattle.planes.specs.Planes.{PlanesOutcome, onPlanes}
 
 -- both planes and the functions, as a call finds or leaves them
@@ -30,13 +30,11 @@ module _ (p : Plan) where
     functions = take (resultOnPlanes t a .answer .functions) (resultOnPlanes t a .functionList);
   }
 
-  unfoldable pub finalOnPlanes : PlaneTables → List Call → PlaneTables
-  finalOnPlanes t [] = t
-  finalOnPlanes t (a ∷ rest) = finalOnPlanes (afterOnPlanes t a) rest
+  abbrev pub finalOnPlanes : PlaneTables → List Call → PlaneTables
+  finalOnPlanes = finalOf afterOnPlanes
 
-  unfoldable pub logOnPlanes : PlaneTables → List Call → List Entry
-  logOnPlanes t [] = []
-  logOnPlanes t (a ∷ rest) = entryOnPlanes t a ∷ logOnPlanes (afterOnPlanes t a) rest
+  abbrev pub logOnPlanes : PlaneTables → List Call → List Entry
+  logOnPlanes = logOf afterOnPlanes (λ t a. entryOnPlanes t a ∷ [])
 
 pub record UndoneOnPlanes (by : By) (p : Plan) (t : PlaneTables) (run : List Call) (rooms : List LentLists) : Type 0 where
   pub named : logOnPlanes p (finalOnPlanes p t run) (undo by (backwards (logOnPlanes p t run)) rooms) ≡ allTaken (backwards (logOnPlanes p t run))
