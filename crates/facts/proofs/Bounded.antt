@@ -1,8 +1,9 @@
 -- Bounded tests: to show one and to use one. Assumes nothing.
 use mathlib.Core.Path.{_≡_, refl, subst}
-use mathlib.Core.Bool.{Bool}
-use Prim.Native.Nat.{ℕ, zero, suc, _<_}
+use mathlib.Core.Bool.{Bool, _&&_}
+use Prim.Native.Nat.{ℕ, zero, suc, _+_, _<_}
 use native.Mathlib.Nat.{not-suc-le-zero, le-refl}
+use native.Mathlib.Numerals.{add-one}
 use native.Mathlib.Omega.{arith}
 use lib.Dec.{T, eqb, eqb→eq}
 use Rattle.facts.specs.Bounded.{some, every}
@@ -36,6 +37,11 @@ pub some-same : (n : ℕ) (p q : ℕ → Bool) → ((k : ℕ) → k < n → p k 
 unfolding some
 some-same zero p q h = refl
 some-same (suc n) p q h = rw (h n (le-refl (suc n)), some-same n p q (λ k l. h k (omega arith)))
+
+-- one number more; the loops that test have it before the others
+pub every-next : (n : ℕ) (p : ℕ → Bool) {a ok : Bool} → a ≡ p n → ok ≡ every n p → a && ok ≡ every (n + 1) p
+unfolding every
+every-next n p e f = rw (add-one n, e, f)
 
 pub every-same : (n : ℕ) (p q : ℕ → Bool) → ((k : ℕ) → k < n → p k ≡ q k) → every n p ≡ every n q
 unfolding every

@@ -1,122 +1,102 @@
--- Cells copied into a room of zeros, and out of a room. Assumes nothing.
-use mathlib.Core.Path.{_≡_, refl, sym, ap, _∙_}
+-- From cells to planes and back, and from planes to cells and back. Assumes nothing.
+use mathlib.Core.Path.{_≡_, refl, sym, ap, ap₂, _∙_}
 use mathlib.Core.Logic.{_≢_}
-use mathlib.Core.Bool.{true, false}
-use mathlib.Core.List.{List, _++_}
-use Prim.Native.Nat.{ℕ, zero, suc, _+_, _-_, _*_, _≤_}
+use mathlib.Core.Bool.{Bool, true, false, cond}
+use mathlib.Core.List.{List}
+use Prim.Native.Nat.{ℕ}
 use native.Mathlib.Omega.{arith}
-use lib.Dec.{ltb, ltb→lt, nltb→le, leb→le}
-use lib.ListN.{length, getD, take, drop, replicate, length-append, length-drop, List·getD-append, List·getD-eq-default}
-use lib.Seq.{getD-append-add, getD-drop}
-use borrow.Author.Tests.{ne-eqb}
-use Rattle.facts.proofs.Tests.{cases, true-T}
-use Rattle.facts.proofs.Bounded.{every-e}
+use lib.Dec.{T, eqb, eqb→eq}
+use lib.ListN.{length}
+use borrow.Author.Tests.{eq-eqb, ne-eqb}
+use Rattle.facts.proofs.Tests.{cases, differ, T-true}
 use Rattle.grid.specs.declared.Plan.{Plan}
-use Rattle.grid.specs.Plan.{cellTotal}
-use Rattle.mesh.specs.Mesh.{absent, refined}
-use Rattle.planes.specs.Bits.{wordsFor, bytesOf, planeOf, isPresent, presentOf, refinedOf}
-use Rattle.planes.specs.Steps.{Within, Small, Clear}
-use Rattle.planes.specs.Planes.{cellsRefusal, smallAt, areSmall, packRefusal, packed, unpackRefusal, unpacked, orderRefusal}
-use Rattle.planes.proofs.Laws.{words-enough}
-use Rattle.planes.proofs.Order.{ordered-within}
-use Rattle.planes.proofs.Refusals.{Sized, both-of, order-of}
-use Rattle.planes.proofs.Rooms.{room-enough}
-use Rattle.planes.proofs.Changes.{plane-same}
+use Rattle.grid.specs.Plan.{planRefusal, cellTotal}
+use Rattle.mesh.proofs.Bridge.{chain}
+use Rattle.planes.specs.Bits.{wordsFor, Words, bytesOf, presentOf, refinedOf, areSmall, inOrder, Holding}
+use Rattle.planes.specs.Planes.{cellsOf, sized, cellsRefusal, orderRefusal, packRefusal, packed, unpackRefusal, unpacked}
+use Rattle.planes.specs.Demands.{Cells}
+use Rattle.planes.proofs.Laws.{length-bytes, present-back, refined-back}
+use Rattle.planes.proofs.Refusals.{Sized, size-0, both-of, both-sized, order-of, order-right}
+use Rattle.planes.proofs.Same.{held-cells, holds, right-sizes, right-order}
 
-pub clear : (m n : ℕ) → Clear (take n (replicate m 0))
-clear zero zero i = refl
-clear zero (suc n) i = refl
-clear (suc m) zero i = refl
-clear (suc m) (suc n) zero = refl
-clear (suc m) (suc n) (suc i) = clear m n i
+-- refusals 1 to 3 of planes and cells leave the right lengths
+pub both-right : (p : Plan) (P R cs : List ℕ) → cellsRefusal p P R cs ≡ 0 → Sized p P R × (length cs ≡ cellTotal p)
+unfolding cellsRefusal
+both-right p P R cs e = both-of p P R cs (cellTotal p) e
 
--- a table in front of zeros
-module _ (cells bytes : List ℕ) (fits : length cells ≤ length bytes) (zeros : Clear bytes) where
-  abbrev whole : List ℕ
-  whole = cells ++ drop (length cells) bytes
+pub right-both : (p : Plan) (P R cs : List ℕ) → planRefusal p ≡ 0 → sized p P R ≡ true → length cs ≡ cellTotal p → cellsRefusal p P R cs ≡ 0
+unfolding cellsRefusal
+right-both p P R cs e s l = sym (size-0 p _ e (rw (s, eq-eqb (length cs) (cellTotal p) l) refl))
 
-  pub whole-length : length whole ≡ length bytes
-  whole-length = omega (arith, length-append cells (drop (length cells) bytes), length-drop (length cells) bytes)
+four : (b : Bool) → _≡_ {A = ℕ} (cond b 0 4) 0 → T b
+four true e = tt
+four false e = absurd (omega arith)
 
-  pub whole-byte : (c : ℕ) → getD whole c 0 ≡ getD cells c 0
-  whole-byte c = cases (ltb c (length cells))
-      (λ t. List·getD-append cells (drop (length cells) bytes) 0 c (ltb→lt c (length cells) t))
-      (λ t.
-      let l = nltb→le c (length cells) t in
-      let e : length cells + (c - length cells) ≡ c = omega arith in
-      ap (λ (i : ℕ). getD whole i 0) (sym e) ∙ getD-append-add cells (drop (length cells) bytes) (c - length cells) 0
-      ∙ getD-drop (length cells) bytes (c - length cells) 0 ∙ zeros (length cells + (c - length cells)) ∙ sym (List·getD-eq-default cells 0 l))
-
-  pub whole-small : Small cells → Small whole
-  whole-small small c = rw (whole-byte c) (small c)
-
-  pub whole-present : (words : ℕ) → planeOf words (isPresent whole) ≡ planeOf words (isPresent cells)
-  unfolding isPresent absent
-  whole-present words = plane-same words _ _ (λ c l. rw (whole-byte c))
-
-  pub whole-refined : (words : ℕ) → planeOf words (refined whole) ≡ planeOf words (refined cells)
-  unfolding refined
-  whole-refined words = plane-same words _ _ (λ c l. rw (whole-byte c))
-
-pub small-of : (cs : List ℕ) → areSmall cs ≡ true → Small cs
-unfolding areSmall smallAt
-small-of cs e c = cases (ltb c (length cs))
-    (λ t. leb→le (getD cs c 0) 2 (every-e (length cs) (smallAt cs) (true-T _ e) c (ltb→lt c (length cs) t)))
-    (λ t. rw (List·getD-eq-default cs 0 (nltb→le c (length cs) t)) (omega arith))
-
--- ---- the lengths
-
-module _ (p : Plan) (P R cs : List ℕ) (e : cellsRefusal p P R cs ≡ 0) where
-  pub both : Sized p P R × (length cs ≡ cellTotal p)
-  unfolding cellsRefusal
-  both = both-of p P R cs (cellTotal p) e
-
-  pub both-words : length R ≡ length P
-  both-words = both .0 .refined ∙ sym (both .0 .present)
-
-  pub both-room : 64 * length P ≤ 21888
-  both-room = rw (both .0 .present) (room-enough (cellTotal p) (both .0 .small))
-
-  pub cells-fit : length cs ≤ 64 * length P
-  cells-fit = omega (arith, both .1, ap (λ (w : ℕ). 64 * w) (both .0 .present), words-enough (cellTotal p))
-
--- ---- from cells
+-- what an accepted call says
+pub pack-of : (p : Plan) (cs P R : List ℕ) → packRefusal p cs P R ≡ 0 → (cellsRefusal p P R cs ≡ 0) × T (areSmall cs)
+unfolding packRefusal
+pack-of p cs P R e = let k = chain (cellsRefusal p P R cs) (cond (areSmall cs) 0 4) e in (k .0, four (areSmall cs) (k .1))
 
 module _ (p : Plan) (cs P R : List ℕ) where
-  pub pack-early : {n : ℕ} → n ≡ cellsRefusal p P R cs → n ≢ 0 → record { number = n; present = P; refined = R } ≡ packed p cs P R
-  unfolding packed packRefusal
-  pack-early e z = rw (ne-eqb (cellsRefusal p P R cs) 0 (λ q. z (e ∙ q)), ne-eqb (cellsRefusal p P R cs) 0 (λ q. z (e ∙ q)), e)
+  pub pack-taken : packRefusal p cs P R ≡ 0 → packed p cs P R ≡ record { number = 0; present = presentOf cs; refined = refinedOf cs }
+  unfolding packed
+  pack-taken e = rw e refl
 
-  pub pack-4 : cellsRefusal p P R cs ≡ 0 → areSmall cs ≡ false → record { number = 4; present = P; refined = R } ≡ packed p cs P R
-  unfolding packed packRefusal
-  pack-4 e f = rw (e, f)
+  pub pack-refused : packRefusal p cs P R ≢ 0 → packed p cs P R ≡ record { number = packRefusal p cs P R; present = P; refined = R }
+  unfolding packed
+  pack-refused z = rw (ne-eqb (packRefusal p cs P R) 0 z) refl
 
-  pub pack-made : cellsRefusal p P R cs ≡ 0 → areSmall cs ≡ true → {P′ R′ : List ℕ} → P′ ≡ planeOf (length P) (isPresent cs) → R′ ≡ planeOf (length P) (refined cs)
-      → record { number = 0; present = P′; refined = R′ } ≡ packed p cs P R
-  unfolding packed packRefusal presentOf refinedOf
-  pack-made e f a b =
-      let q : length P ≡ wordsFor (length cs) = both p P R cs e .0 .present ∙ ap wordsFor (sym (both p P R cs e .1)) in
-      rw (e, f, a, b, q)
-
--- ---- to cells
+  pub pack-number : packed p cs P R .number ≡ 0 → packRefusal p cs P R ≡ 0
+  pack-number e = cases (eqb (packRefusal p cs P R) 0) (λ t. eqb→eq (packRefusal p cs P R) 0 t) (λ t.
+      let z = differ (packRefusal p cs P R) 0 t in
+      rw (pack-refused z) at e)
 
 module _ (p : Plan) (P R cs : List ℕ) where
-  pub unpack-early : {n m : ℕ} → m ≡ cellsRefusal p P R cs → n ≡ orderRefusal p P R m → n ≢ 0 → record { number = n; cells = cs } ≡ unpacked p P R cs
-  unfolding unpacked unpackRefusal
-  unpack-early f e z =
-      let q = e ∙ ap (orderRefusal p P R) f in
-      rw (ne-eqb (orderRefusal p P R (cellsRefusal p P R cs)) 0 (λ x. z (q ∙ x)), q)
+  pub unpack-taken : unpackRefusal p P R cs ≡ 0 → unpacked p P R cs ≡ record { number = 0; cells = cellsOf p P R }
+  unfolding unpacked
+  unpack-taken e = rw e refl
 
-  module _ {n m : ℕ} (f : m ≡ cellsRefusal p P R cs) (e : n ≡ orderRefusal p P R m) (z : n ≡ 0) where
-    order-0 : orderRefusal p P R (cellsRefusal p P R cs) ≡ 0
-    order-0 = sym (e ∙ ap (orderRefusal p P R) f) ∙ z
+  pub unpack-refused : unpackRefusal p P R cs ≢ 0 → unpacked p P R cs ≡ record { number = unpackRefusal p P R cs; cells = cs }
+  unfolding unpacked
+  unpack-refused z = rw (ne-eqb (unpackRefusal p P R cs) 0 z) refl
 
-    pub sizes-0 : cellsRefusal p P R cs ≡ 0
-    sizes-0 = order-of p P R (cellsRefusal p P R cs) order-0 .0
+  pub unpack-number : unpacked p P R cs .number ≡ 0 → unpackRefusal p P R cs ≡ 0
+  unpack-number e = cases (eqb (unpackRefusal p P R cs) 0) (λ t. eqb→eq (unpackRefusal p P R cs) 0 t) (λ t.
+      let z = differ (unpackRefusal p P R cs) 0 t in
+      rw (unpack-refused z) at e)
 
-    pub within-0 : Within P R
-    within-0 = ordered-within P R (cellTotal p) (both p P R cs sizes-0 .0 .present) (both p P R cs sizes-0 .0 .refined) (order-of p P R (cellsRefusal p P R cs) order-0 .1)
+  pub unpack-of : unpackRefusal p P R cs ≡ 0 → (cellsRefusal p P R cs ≡ 0) × T (inOrder (cellTotal p) P R)
+  unfolding unpackRefusal
+  unpack-of e = order-of p P R (cellsRefusal p P R cs) e
 
-    pub unpack-made : {cs′ : List ℕ} → cs′ ≡ bytesOf (length cs) P R → record { number = 0; cells = cs′ } ≡ unpacked p P R cs
-    unfolding unpacked unpackRefusal
-    unpack-made a = rw (order-0, a, both p P R cs sizes-0 .1)
+-- ---- there and back
+
+pub packed-back : (p : Plan) (cs P R cs′ : List ℕ) → packed p cs P R .number ≡ 0 → length cs′ ≡ cellTotal p
+    → unpacked p (packed p cs P R .present) (packed p cs P R .refined) cs′ ≡ record { number = 0; cells = cs }
+packed-back p cs P R cs′ e l =
+    let n = pack-number p cs P R e in
+    let k = pack-of p cs P R n in
+    let b = both-right p P R cs (k .0) in
+    let c : Cells p cs = record { size = b .1; small = k .1 } in
+    let z = right-both p (presentOf cs) (refinedOf cs) cs′ (b .0 .plan) (right-sizes p cs cs c) l in
+    rw (pack-taken p cs P R n)
+    (unpack-taken p (presentOf cs) (refinedOf cs) cs′ (ordered (presentOf cs) (refinedOf cs) z (right-order p cs cs c))
+    ∙ ap (λ (x : List ℕ). record { number = 0; cells = x }) (holds p cs cs c))
+  where
+    ordered : (P′ R′ : List ℕ) → cellsRefusal p P′ R′ cs′ ≡ 0 → inOrder (cellTotal p) P′ R′ ≡ true → unpackRefusal p P′ R′ cs′ ≡ 0
+    ordered P′ R′ z o = unfold unpackRefusal in sym (order-right p P′ R′ (cellsRefusal p P′ R′ cs′) z o)
+
+pub unpacked-back : (p : Plan) (P R cs P′ R′ : List ℕ) → Words P → Words R → unpacked p P R cs .number ≡ 0 → length P′ ≡ length P → length R′ ≡ length R
+    → packed p (unpacked p P R cs .cells) P′ R′ ≡ record { number = 0; present = P; refined = R }
+unpacked-back p P R cs P′ R′ u v e l m =
+    let n = unpack-number p P R cs e in
+    let k = unpack-of p P R cs n in
+    let b = both-right p P R cs (k .0) .0 in
+    let h : Holding (cellTotal p) P R = record { presentWords = u; refinedWords = v; presentLength = b .present; refinedLength = b .refined; order = k .1 } in
+    let z = right-both p P′ R′ (cellsOf p P R) (b .plan) (both-sized p P′ R′ (l ∙ b .present) (m ∙ b .refined)) (length-bytes (cellTotal p) P R) in
+    rw (unpack-taken p P R cs n)
+    (pack-taken p (cellsOf p P R) P′ R′ (small z (held-cells p P R .small))
+    ∙ ap₂ (λ (x y : List ℕ). record { number = 0; present = x; refined = y }) (present-back (cellTotal p) P R h) (refined-back (cellTotal p) P R h))
+  where
+    small : cellsRefusal p P′ R′ (cellsOf p P R) ≡ 0 → T (areSmall (cellsOf p P R)) → packRefusal p (cellsOf p P R) P′ R′ ≡ 0
+    small z t = unfold packRefusal in rw (z, T-true (areSmall (cellsOf p P R)) t) refl

@@ -1,6 +1,5 @@
 -- Cells counted by ones in whole words are those that the byte table has. Assumes nothing.
 use mathlib.Core.Path.{_≡_, refl, sym, ap, ap₂, _∙_}
-use mathlib.Core.Logic.{_≢_}
 use mathlib.Core.Bool.{Bool, true, false, not, _&&_, cond}
 use mathlib.Core.List.{List}
 use Prim.Native.Nat.{ℕ, min, _+_, _-_, _*_, _^_, _≤_, _<_}
@@ -8,25 +7,15 @@ use native.Mathlib.Nat.{mul-comm, lt-of-le-of-lt}
 use native.Mathlib.Omega.{arith}
 use lib.Bits.{bitAnd, and-le-l}
 use lib.Count.{ones}
-use lib.Dec.{eqb, eqb→eq}
+use lib.Dec.{eqb}
 use lib.ListN.{length, getD}
-use borrow.Author.Tests.{ne-eqb}
 use Rattle.facts.specs.Bounded.{sum}
 use Rattle.facts.proofs.Sums.{sum-same, sum-zero, sum-split, sum-rows}
-use Rattle.facts.proofs.Tests.{not-e, T-false, cases, differ}
-use Rattle.grid.specs.declared.Plan.{Plan}
-use Rattle.grid.specs.Plan.{cellTotal, rowsAt, columnsAt}
-use Rattle.mesh.specs.Mesh.{check, tally, refined}
-use Rattle.mesh.proofs.Bridge.{chain}
-use Rattle.tables.specs.Entries.{byteIs}
-use Rattle.tables.proofs.Calls.{counted, uncounted}
-use Rattle.planes.specs.Bits.{bit, isSet, wordsFor, byteOf, bytesOf}
-use Rattle.planes.specs.Steps.{activeOnes, onesAt}
-use Rattle.planes.specs.Planes.{cellsOf, refusal4, checkPlanes, countPlanes}
+use Rattle.facts.proofs.Tests.{not-e, T-false}
+use Rattle.mesh.specs.Mesh.{tally, active, refined}
+use Rattle.planes.specs.Bits.{bit, isSet, byteOf, bytesOf, Holding, activeOnes, onesAt}
 use Rattle.planes.proofs.Bits.{ones-bits, and-bit, not-bit}
-use Rattle.planes.proofs.Laws.{words-enough, set-bit, Words, Ordered, ordered, length-bytes, byte-at, refined-bytes}
-use Rattle.planes.proofs.Refusals.{held-of}
-use Rattle.planes.proofs.Rooms.{check-early, check-held}
+use Rattle.planes.proofs.Laws.{words-enough, set-bit, Ordered, ordered, byte-at, refined-bytes}
 
 -- words whose digits are tests, of which none passes from n on
 module _ (n words : ℕ) (f : ℕ → ℕ) (test : ℕ → Bool) (small : (w : ℕ) → f w < 2 ^ 64)
@@ -53,60 +42,35 @@ two-digits true false = refl
 two-digits false true = refl
 two-digits false false = refl
 
-module _ (n : ℕ) (P R : List ℕ) (lP : length P ≡ wordsFor n) (smallP : Words P) (smallR : Words R) (o : Ordered n P R) where
+module _ (n : ℕ) (P R : List ℕ) (h : Holding n P R) where
+  o : Ordered n P R
+  o = ordered n P R (h .order)
+
   abbrev isActive : ℕ → Bool
   isActive c = isSet P c && not (isSet R c)
 
   active-digits : (w k : ℕ) → k < 64 → bit (bitAnd (getD P w 0) ((2 ^ 64 - 1) - getD R w 0)) k ≡ cond (isActive (64 * w + k)) 1 0
   active-digits w k l =
       and-bit (getD P w 0) ((2 ^ 64 - 1) - getD R w 0) k
-      ∙ (ap₂ (λ (x y : ℕ). min x y) (sym (set-bit P w k l)) (not-bit 64 (getD R w 0) k (smallR w) l ∙ ap (λ (x : ℕ). 1 - x) (sym (set-bit R w k l)))
+      ∙ (ap₂ (λ (x y : ℕ). min x y) (sym (set-bit P w k l)) (not-bit 64 (getD R w 0) k (h .refinedWords w) l ∙ ap (λ (x : ℕ). 1 - x) (sym (set-bit R w k l)))
       ∙ two-digits (isSet P (64 * w + k)) (isSet R (64 * w + k)))
 
-  active-at : (c : ℕ) → c < n → isActive c ≡ byteIs (bytesOf n P R) 1 c
-  unfolding byteIs byteOf
+  active-at : (c : ℕ) → c < n → isActive c ≡ active (bytesOf n P R) c
+  unfolding active byteOf
   active-at c l = rw (byte-at n P R c l) (active-byte (isSet P c) (isSet R c))
 
   -- "proved equal to the byte table's active count"
-  pub active-tally : sum (length P) (activeOnes P R) ≡ tally (length (bytesOf n P R)) (byteIs (bytesOf n P R) 1)
+  pub active-tally : sum (length P) (activeOnes P R) ≡ tally n (active (bytesOf n P R))
   unfolding activeOnes tally
   active-tally =
       ones-tally n (length P) (λ w. bitAnd (getD P w 0) ((2 ^ 64 - 1) - getD R w 0)) isActive
-      (λ w. lt-of-le-of-lt (and-le-l (getD P w 0) ((2 ^ 64 - 1) - getD R w 0)) (smallP w)) active-digits (rw lP (words-enough n))
-      (λ c l m. ap (λ (b : Bool). b && not (isSet R c)) (T-false (isSet P c) (not-e (isSet P c) (o .noPresent c l (rw lP at m)))))
-      ∙ rw (length-bytes n P R)
-      (sum-same n _ _ (λ c l. ap (λ (b : Bool). cond b 1 0) (active-at c l)))
+      (λ w. lt-of-le-of-lt (and-le-l (getD P w 0) ((2 ^ 64 - 1) - getD R w 0)) (h .presentWords w)) active-digits (rw (h .presentLength) (words-enough n))
+      (λ c l m. ap (λ (b : Bool). b && not (isSet R c)) (T-false (isSet P c) (not-e (isSet P c) (o .noPresent c l (rw (h .presentLength) at m)))))
+      ∙ sum-same n _ _ (λ c l. ap (λ (b : Bool). cond b 1 0) (active-at c l))
 
-  pub refined-tally : length R ≡ wordsFor n → sum (length R) (onesAt R) ≡ tally (length (bytesOf n P R)) (byteIs (bytesOf n P R) 2)
-  unfolding onesAt byteIs tally refined
-  refined-tally lR =
-      ones-tally n (length R) (λ w. getD R w 0) (isSet R) smallR (λ w k l. sym (set-bit R w k l)) (rw lR (words-enough n))
-      (λ c l m. T-false (isSet R c) (not-e (isSet R c) (o .noRefined c l (rw lR at m))))
-      ∙ rw (length-bytes n P R)
-      (sum-same n _ _ (λ c l. ap (λ (b : Bool). cond b 1 0) (sym (refined-bytes n P R o c (omega (arith, words-enough n))))))
-
--- ---- count
-
-module _ (p : Plan) (P R fs : List ℕ) where
-  -- what check 0 says
-  pub check-of : checkPlanes p P R fs ≡ 0 → (refusal4 p P R fs ≡ 0) × (check p (cellsOf p P R) fs ≡ 0)
-  unfolding checkPlanes
-  check-of e = chain (refusal4 p P R fs) (check p (cellsOf p P R) fs) e
-
-  module _ {n : ℕ} (e : n ≡ checkPlanes p P R fs) where
-    pub counted-planes : n ≡ 0 → Words P → Words R → {a r f x : ℕ} → a ≡ sum (length P) (activeOnes P R) → r ≡ sum (length R) (onesAt R) → f ≡ tally (length fs) (byteIs fs 1)
-        → x ≡ rowsAt p (p .levels - 1) * columnsAt p (p .levels - 1) → record { number = n; active = a; refined = r; functions = f; area = x } ≡ countPlanes p P R fs
-    unfolding countPlanes
-    counted-planes z sP sR ea er ef ex =
-        let k = check-of (sym e ∙ z) in
-        let h = held-of p P R fs (k .0) in
-        let o = ordered (cellTotal p) P R (h .order) in
-        rw (k .0) (counted p (cellsOf p P R) fs (z ∙ sym (k .1)) z
-        (ea ∙ active-tally (cellTotal p) P R (h .sizes .present) sP sR o)
-        (er ∙ refined-tally (cellTotal p) P R (h .sizes .present) sP sR o (h .sizes .refined)) ef ex)
-
-    pub uncounted-planes : n ≢ 0 → record { number = n; active = 0; refined = 0; functions = 0; area = 0 } ≡ countPlanes p P R fs
-    unfolding countPlanes
-    uncounted-planes z = cases (eqb (refusal4 p P R fs) 0)
-        (λ t. let k = eqb→eq (refusal4 p P R fs) 0 t in rw k (uncounted p (cellsOf p P R) fs (e ∙ sym (check-held p P R fs k)) z))
-        (λ t. let k = differ (refusal4 p P R fs) 0 t in rw (ne-eqb (refusal4 p P R fs) 0 k, e ∙ sym (check-early p P R fs refl k)))
+  pub refined-tally : sum (length R) (onesAt R) ≡ tally n (refined (bytesOf n P R))
+  unfolding onesAt tally
+  refined-tally =
+      ones-tally n (length R) (λ w. getD R w 0) (isSet R) (h .refinedWords) (λ w k l. sym (set-bit R w k l)) (rw (h .refinedLength) (words-enough n))
+      (λ c l m. T-false (isSet R c) (not-e (isSet R c) (o .noRefined c l (rw (h .refinedLength) at m))))
+      ∙ sum-same n _ _ (λ c l. ap (λ (b : Bool). cond b 1 0) (sym (refined-bytes n P R o c (omega (arith, words-enough n)))))

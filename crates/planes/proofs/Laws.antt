@@ -4,16 +4,17 @@ use mathlib.Core.Bool.{Bool, true, false, not, _&&_, cond}
 use mathlib.Core.List.{List}
 use Prim.Native.Nat.{ℕ, zero, suc, _+_, _-_, _*_, _/_, _%_, _^_, _≤_, _<_}
 use native.Mathlib.Omega.{arith}
-use lib.Dec.{T, eqb, ltb, ltb→lt, nltb→le, eqb→eq}
+use lib.Dec.{T, eqb, ltb, ltb→lt, nltb→le, eqb→eq, leb→le}
 use lib.ListN.{length, getD, List·getD-eq-default}
 use Rattle.facts.proofs.Tests.{and-i, and-l, and-r, not-e, cases, implies-i, implies-e, T-true, T-false}
 use Rattle.facts.proofs.Bounded.{every-i, every-e}
 use Rattle.facts.proofs.Ranges.{from-i, from-e}
-use Rattle.facts.proofs.Numbers.{bit, length-tabulate, getD-tabulate, tabulate-is}
+use Rattle.facts.proofs.Numbers.{bit, length-tabulate, getD-tabulate, tabulate-is, tabulate-same}
+use Rattle.facts.specs.Numbers.{tabulate}
 use Rattle.mesh.specs.Mesh.{absent, refined}
-use Rattle.planes.specs.Bits.{isSet, wordsFor, byteOf, bytesOf, wordAt, planeOf, isPresent, presentOf, refinedOf, noSpare, within, inOrder}
+use Rattle.planes.specs.Bits.{isSet, wordsFor, Words, byteOf, bytesOf, wordAt, planeOf, isPresent, presentOf, refinedOf, smallAt, areSmall, noSpare, within, Within, inOrder, Holding}
 use Rattle.planes.specs.Bits as planes
-use Rattle.planes.proofs.Bits.{bit-lt, bit-is, word-bit, word-is}
+use Rattle.planes.proofs.Bits.{bit-lt, bit-of-zero, bit-is, word-bit, word-is, word-lt, word-same}
 
 -- as many bits as cells, at least
 pub words-enough : (n : ℕ) → n ≤ 64 * wordsFor n
@@ -36,9 +37,13 @@ plane-set words test c l =
     rw (getD-tabulate words (wordAt test) (c / 64) 0 (omega arith), word-bit test 64 (64 * (c / 64)) (c % 64) (omega arith), e)
     (bit (test c))
 
--- the numbers of a plane are 64-bit words
-abbrev pub Words : List ℕ → Type 0
-Words plane = (w : ℕ) → getD plane w 0 < 2 ^ 64
+pub plane-words : (words : ℕ) (test : ℕ → Bool) → Words (planeOf words test)
+unfolding planeOf wordAt
+plane-words words test w = cases (ltb w words)
+    (λ t. rw (getD-tabulate words (wordAt test) w 0 (ltb→lt w words t)) (word-lt test 64 (64 * w)))
+    (λ t.
+    let l : length (tabulate words (wordAt test)) ≤ w = rw (length-tabulate words (wordAt test)) (nltb→le w words t) in
+    rw (List·getD-eq-default (tabulate words (wordAt test)) 0 l) (omega arith))
 
 -- a plane is made of the tests that its bits are
 pub plane-is : (words : ℕ) (test : ℕ → Bool) (plane : List ℕ) → length plane ≡ words → Words plane
@@ -47,6 +52,10 @@ unfolding planeOf wordAt
 plane-is words test plane e small h = sym (tabulate-is words (wordAt test) plane e (λ w l.
     sym (word-is test 64 (64 * w) (getD plane w 0) (small w) (λ k i.
     ap (λ (b : Bool). cond b 1 0) (h (64 * w + k) (omega arith)) ∙ set-bit plane w k i))))
+
+pub plane-same : (words : ℕ) (f g : ℕ → Bool) → ((c : ℕ) → c < 64 * words → f c ≡ g c) → planeOf words f ≡ planeOf words g
+unfolding planeOf wordAt
+plane-same words f g h = tabulate-same words (wordAt f) (wordAt g) (λ w l. word-same 64 (64 * w) f g (λ k i. h (64 * w + k) (omega arith)))
 
 -- ---- in order, as facts
 
@@ -73,6 +82,22 @@ module _ (n : ℕ) (P R : List ℕ) where
       (from-i n (64 * wordsFor n - n) _ (λ c l m. o .noPresent c l (omega (arith, words-enough n))))
       (from-i n (64 * wordsFor n - n) _ (λ c l m. o .noRefined c l (omega (arith, words-enough n)))))
       (every-i n _ (λ c l. implies-i (isSet R c) (isSet P c) (o .inside c l)))
+
+-- a bit past the end is not set
+pub past-end : (plane : List ℕ) (c : ℕ) → length plane ≤ c / 64 → T (isSet plane c) → ⊥
+past-end plane c l t = unset (getD plane (c / 64) 0) (c % 64) (List·getD-eq-default plane 0 l) (unfold isSet in t)
+  where
+    unset : (x k : ℕ) → x ≡ 0 → T (eqb (planes.bit x k) 1) → ⊥
+    unset x k e t = rw (e, bit-of-zero k) at t
+
+-- in order, nothing refined is absent anywhere
+module _ (n : ℕ) (P R : List ℕ) (lP : length P ≡ wordsFor n) (lR : length R ≡ wordsFor n) where
+  pub ordered-within : T (inOrder n P R) → Within P R
+  ordered-within t c u =
+      let o = ordered n P R t in
+      cases (ltb c n) (λ v. o .inside c (ltb→lt c n v) u) (λ v. cases (ltb c (64 * wordsFor n))
+      (λ w. absurd (not-e (isSet R c) (o .noRefined c (nltb→le c n v) (ltb→lt c (64 * wordsFor n) w)) u))
+      (λ w. absurd (past-end R c (omega (arith, nltb→le c (64 * wordsFor n) w)) u)))
 
 -- ---- bytes of planes
 
@@ -123,15 +148,15 @@ module _ (n : ℕ) (P R : List ℕ) (o : Ordered n P R) (c : ℕ) (l : c < 64 * 
       (λ t. rw (byte-at n P R c (ltb→lt c n t)) (byte-refined (isSet P c) (isSet R c) (o .inside c (ltb→lt c n t))))
       (λ t. rw (byte-past n P R c (nltb→le c n t)) (sym (T-false (isSet R c) (not-e (isSet R c) (o .noRefined c (nltb→le c n t) l)))))
 
--- planes in order are the planes of their bytes
-module _ (n : ℕ) (P R : List ℕ) (o : T (inOrder n P R)) where
-  pub present-back : length P ≡ wordsFor n → Words P → presentOf (bytesOf n P R) ≡ P
+-- planes that hold cells are the planes of their bytes
+module _ (n : ℕ) (P R : List ℕ) (h : Holding n P R) where
+  pub present-back : presentOf (bytesOf n P R) ≡ P
   unfolding presentOf
-  present-back e small = rw (length-bytes n P R) (plane-is (wordsFor n) _ P e small (present-bytes n P R (ordered n P R o)))
+  present-back = rw (length-bytes n P R) (plane-is (wordsFor n) _ P (h .presentLength) (h .presentWords) (present-bytes n P R (ordered n P R (h .order))))
 
-  pub refined-back : length R ≡ wordsFor n → Words R → refinedOf (bytesOf n P R) ≡ R
+  pub refined-back : refinedOf (bytesOf n P R) ≡ R
   unfolding refinedOf
-  refined-back e small = rw (length-bytes n P R) (plane-is (wordsFor n) _ R e small (refined-bytes n P R (ordered n P R o)))
+  refined-back = rw (length-bytes n P R) (plane-is (wordsFor n) _ R (h .refinedLength) (h .refinedWords) (refined-bytes n P R (ordered n P R (h .order))))
 
 -- ---- planes of bytes
 
@@ -149,6 +174,14 @@ module _ (cs : List ℕ) where
   pub length-refined : length (refinedOf cs) ≡ wordsFor (length cs)
   unfolding refinedOf planeOf
   length-refined = length-tabulate _ _
+
+  pub present-words : Words (presentOf cs)
+  unfolding presentOf
+  present-words = plane-words (wordsFor (length cs)) (isPresent cs)
+
+  pub refined-words : Words (refinedOf cs)
+  unfolding refinedOf
+  refined-words = plane-words (wordsFor (length cs)) (refined cs)
 
   module _ (c : ℕ) (l : c < 64 * wordsFor (length cs)) where
     pub present-set : isSet (presentOf cs) c ≡ isPresent cs c
@@ -173,12 +206,15 @@ module _ (cs : List ℕ) where
       inner : (c : ℕ) → T (eqb (getD cs c 0) 2) → c < 64 * wordsFor (length cs) → T (isSet (presentOf cs) c)
       inner c t m = rw (present-set c m, eqb→eq (getD cs c 0) 2 t) tt
 
-  pub planes-in-order : inOrder (length cs) (presentOf cs) (refinedOf cs) ≡ true
-  planes-in-order = T-true _ (order-i (length cs) (presentOf cs) (refinedOf cs) planes-ordered)
+  pub planes-in-order : T (inOrder (length cs) (presentOf cs) (refinedOf cs))
+  planes-in-order = order-i (length cs) (presentOf cs) (refinedOf cs) planes-ordered
+
+  pub planes-hold : Holding (length cs) (presentOf cs) (refinedOf cs)
+  planes-hold = record { presentWords = present-words; refinedWords = refined-words; presentLength = length-present; refinedLength = length-refined; order = planes-in-order }
 
   -- the bytes of a table's planes are the table
-  pub bytes-back : ((c : ℕ) → c < length cs → getD cs c 0 ≤ 2) → bytesOf (length cs) (presentOf cs) (refinedOf cs) ≡ cs
-  unfolding bytesOf byteOf
+  pub bytes-back : T (areSmall cs) → bytesOf (length cs) (presentOf cs) (refinedOf cs) ≡ cs
+  unfolding bytesOf byteOf areSmall smallAt
   bytes-back small = sym (tabulate-is (length cs) _ cs refl (λ c l.
       let m : c < 64 * wordsFor (length cs) = omega (arith, words-enough (length cs)) in
-      rw (present-set c m, refined-set c m) (unfold isPresent absent refined in byte-of (getD cs c 0) (small c l))))
+      rw (present-set c m, refined-set c m) (unfold isPresent absent refined in byte-of (getD cs c 0) (leb→le (getD cs c 0) 2 (every-e (length cs) (smallAt cs) small c l)))))

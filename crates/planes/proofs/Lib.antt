@@ -1,14 +1,10 @@
 pub mod Bits
 pub mod Laws
-pub mod Loops
-pub mod Order
 pub mod Refusals
-pub mod Rooms
 pub mod Counts
-pub mod Fresh
-pub mod Changes
-pub mod Opened
+pub mod Same
+pub mod Kept
 pub mod Copies
 pub mod Runs
+pub mod Results
 pub mod Computed
-pub mod Spread

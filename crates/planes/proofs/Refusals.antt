@@ -8,48 +8,45 @@ use native.Mathlib.Omega.{arith}
 use lib.Dec.{T, eqb, eqb→eq, ltb, nltb→le}
 use lib.ListN.{length}
 use borrow.Author.Tests.{eq-eqb, ne-eqb}
-use Rattle.facts.proofs.Tests.{and-l, and-r, not-i}
+use Rattle.facts.proofs.Tests.{and-l, and-r, not-i, T-true, T-false}
 use Rattle.grid.specs.Bounds.{mostCells}
 use Rattle.grid.specs.declared.Plan.{Plan}
-use Rattle.grid.specs.Plan.{inRange, tooLarge, cellTotal, functionTotal}
+use Rattle.grid.specs.Plan.{planRefusal, inRange, tooLarge, cellTotal, functionTotal}
 use Rattle.grid.specs.Range.{InRange}
-use Rattle.grid.proofs.Laws.{in-range}
+use Rattle.grid.proofs.Laws.{taken-range, taken, refused}
+use Rattle.mesh.specs.Mesh.{check}
 use Rattle.mesh.proofs.Bridge.{chain, pass, stop}
-use Rattle.planes.specs.Bits.{wordsFor, inOrder}
-use Rattle.planes.specs.Planes.{sized, sizeRefusal, refusal3, orderRefusal, refusal4}
+use Rattle.planes.specs.Bits.{wordsFor, Words, inOrder, Holding}
+use Rattle.planes.specs.Planes.{cellsOf, sized, sizeRefusal, refusal3, orderRefusal, refusal4, checkPlanes}
 
 -- ---- 1 to 3
 
 module _ (p : Plan) (right : Bool) where
-  pub refuse-1 : inRange p ≡ false → 1 ≡ sizeRefusal p right
+  pub size-plan : {n : ℕ} → n ≡ planRefusal p → n ≢ 0 → n ≡ sizeRefusal p right
   unfolding sizeRefusal
-  refuse-1 e = rw e
+  size-plan e z = e ∙ sym (refused p _ (λ q. z (e ∙ q)))
 
-  pub refuse-2 : inRange p ≡ true → tooLarge p ≡ true → 2 ≡ sizeRefusal p right
+  pub size-3 : planRefusal p ≡ 0 → right ≡ false → 3 ≡ sizeRefusal p right
   unfolding sizeRefusal
-  refuse-2 e f = rw (e, f)
+  size-3 e f = sym (taken p _ e ∙ rw f)
 
-  pub refuse-3 : inRange p ≡ true → tooLarge p ≡ false → right ≡ false → 3 ≡ sizeRefusal p right
+  pub size-0 : planRefusal p ≡ 0 → right ≡ true → 0 ≡ sizeRefusal p right
   unfolding sizeRefusal
-  refuse-3 e f g = rw (e, f, g)
-
-  pub refuse-0 : inRange p ≡ true → tooLarge p ≡ false → right ≡ true → 0 ≡ sizeRefusal p right
-  unfolding sizeRefusal
-  refuse-0 e f g = rw (e, f, g)
+  size-0 e f = sym (taken p _ e ∙ rw f)
 
   -- what 0 says
   pub record Right : Type 0 where
-    pub range : InRange p
+    pub plan : planRefusal p ≡ 0
     pub small : cellTotal p ≤ mostCells
     pub lengths : T right
 
   pub right-of : sizeRefusal p right ≡ 0 → Right
-  unfolding sizeRefusal tooLarge
+  unfolding sizeRefusal planRefusal tooLarge
   right-of e =
       let a = pass (inRange p) 0 _ e in
       let b = stop (tooLarge p) 1 _ (a .1) in
       let d = pass right 2 0 (b .1) in
-      record { range = in-range p (a .0); small = nltb→le mostCells (cellTotal p) (not-i (ltb mostCells (cellTotal p)) (b .0)); lengths = d .0 }
+      record { plan = rw (T-true (inRange p) (a .0), T-false (tooLarge p) (b .0)); small = nltb→le mostCells (cellTotal p) (not-i (ltb mostCells (cellTotal p)) (b .0)); lengths = d .0 }
 
 -- one more length is asked
 abbrev three : Bool → Bool → Bool → ℕ
@@ -115,6 +112,7 @@ module _ (p : Plan) (P R : List ℕ) where
 
   -- what refusals 1 to 3 of planes leave
   pub record Sized : Type 0 where
+    pub plan : planRefusal p ≡ 0
     pub range : InRange p
     pub small : cellTotal p ≤ mostCells
     pub present : length P ≡ wordsFor (cellTotal p)
@@ -124,7 +122,7 @@ module _ (p : Plan) (P R : List ℕ) where
   sized-of e =
       let r = right-of p (sized p P R) e in
       let l = sized-e (r .lengths) in
-      record { range = r .range; small = r .small; present = l .0; refined = l .1 }
+      record { plan = r .plan; range = taken-range p (r .plan); small = r .small; present = l .0; refined = l .1 }
 
   -- ---- and another table
 
@@ -164,7 +162,7 @@ module _ (p : Plan) (P R : List ℕ) where
         let c = chain n (cond (inOrder (cellTotal p) P R) 0 4) e in
         (c .0, order-four (inOrder (cellTotal p) P R) (c .1))
 
--- what refusals 1 to 4 leave
+-- what refusals 1 to 3 and 4 of planes leave
 pub record Held (p : Plan) (P R fs : List ℕ) : Type 0 where
   pub sizes : Sized p P R
   pub functions : length fs ≡ functionTotal p
@@ -176,3 +174,22 @@ held-of p P R fs e =
     let a = order-of p P R (refusal3 p P R fs) e in
     let b = both-of p P R fs (functionTotal p) (a .0) in
     record { sizes = b .0; functions = b .1; order = a .1 }
+
+-- and check, which asks the byte call's questions after them
+
+module _ (p : Plan) (P R fs : List ℕ) where
+  pub check-early : {n : ℕ} → n ≡ refusal4 p P R fs → n ≢ 0 → n ≡ checkPlanes p P R fs
+  unfolding checkPlanes
+  check-early e z = rw (ne-eqb (refusal4 p P R fs) 0 (λ q. z (e ∙ q)), e)
+
+  pub check-held : refusal4 p P R fs ≡ 0 → check p (cellsOf p P R) fs ≡ checkPlanes p P R fs
+  unfolding checkPlanes
+  check-held e = rw e
+
+  -- what its 0 says
+  pub check-of : checkPlanes p P R fs ≡ 0 → (refusal4 p P R fs ≡ 0) × (check p (cellsOf p P R) fs ≡ 0)
+  unfolding checkPlanes
+  check-of e = chain (refusal4 p P R fs) (check p (cellsOf p P R) fs) e
+
+pub holding-of : (p : Plan) (P R fs : List ℕ) → Held p P R fs → Words P → Words R → Holding (cellTotal p) P R
+holding-of p P R fs h u v = record { presentWords = u; refinedWords = v; presentLength = h .sizes .present; refinedLength = h .sizes .refined; order = h .order }

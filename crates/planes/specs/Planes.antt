@@ -1,22 +1,25 @@
 -- Document 02, Req 11: the calls on planes, each made of its byte call on the cells that the planes hold. Everywhere P and R are the planes
--- of present and of refined cells, fs the function table, cl and fl the lent lists. Definitions only.
+-- of present and of refined cells, cs and fs the cell and the function table, cl and fl the lent lists. Definitions only.
 use mathlib.Core.Bool.{Bool, not, _&&_, cond}
 use mathlib.Core.List.{List}
 use Prim.Native.Nat.{ℕ}
-use lib.Dec.{leb, eqb}
-use lib.ListN.{length, getD}
-use Rattle.facts.specs.Bounded.{every}
+use lib.Dec.{eqb}
+use lib.ListN.{length}
 use Rattle.grid.specs.declared.Plan.{Plan}
 use Rattle.grid.specs.Plan.{planRefusalOr, planRefusal, cellTotal, functionTotal}
 use Rattle.mesh.specs.declared.Count.{Count}
 use Rattle.mesh.specs.Mesh.{check, count, openMesh}
 use Rattle.outcomes.specs.declared.Answer.{Answer}
 use Rattle.outcomes.specs.Calls.{Outcome}
-use Rattle.planes.specs.Bits.{wordsFor, bytesOf, presentOf, refinedOf, inOrder}
+use Rattle.planes.specs.Bits.{wordsFor, bytesOf, presentOf, refinedOf, areSmall, inOrder}
+
+-- the cells that the planes hold
+abbrev pub cellsOf : Plan → List ℕ → List ℕ → List ℕ
+cellsOf p P R = bytesOf (cellTotal p) P R
 
 -- ---- refusals
 
--- "T/64 words, rounded up", of each plane; 0 where the plan is refused
+-- how many words each plane has, 0 where the plan is refused
 unfoldable pub planesLength : Plan → ℕ
 planesLength p = cond (eqb (planRefusal p) 0) (wordsFor (cellTotal p)) 0
 
@@ -24,7 +27,7 @@ planesLength p = cond (eqb (planRefusal p) 0) (wordsFor (cellTotal p)) 0
 unfoldable pub sized : Plan → List ℕ → List ℕ → Bool
 sized p P R = eqb (length P) (wordsFor (cellTotal p)) && eqb (length R) (wordsFor (cellTotal p))
 
--- 1 and 2 by the plan; 3 where a length is not what the plan asks
+-- 1 and 2 by the plan; 3 where a length is not right
 unfoldable pub sizeRefusal : Plan → Bool → ℕ
 sizeRefusal p right = planRefusalOr p (cond (not right) 3 0)
 
@@ -36,14 +39,11 @@ refusal3 p P R fs = sizeRefusal p (sized p P R && eqb (length fs) (functionTotal
 unfoldable pub orderRefusal : Plan → List ℕ → List ℕ → ℕ → ℕ
 orderRefusal p P R n = cond (eqb n 0) (cond (inOrder (cellTotal p) P R) 0 4) n
 
+-- what the planes themselves are refused for; the byte call's refusals come after it
 unfoldable pub refusal4 : Plan → List ℕ → List ℕ → List ℕ → ℕ
 refusal4 p P R fs = orderRefusal p P R (refusal3 p P R fs)
 
--- the cells that the planes hold
-abbrev pub cellsOf : Plan → List ℕ → List ℕ → List ℕ
-cellsOf p P R = bytesOf (cellTotal p) P R
-
--- ---- open, check, count
+-- ---- open, which asks nothing of the bits that it finds; check, count
 
 pub record OpenedPlanes : Type 0 where
   pub number : ℕ
@@ -104,23 +104,16 @@ unfoldable pub onPlanes : (Plan → List ℕ → List ℕ → List ℕ → List 
 onPlanes call p P R fs marks cl fl =
     cond (eqb (refusal4 p P R fs) 0) (held (call p (cellsOf p P R) fs marks cl fl)) (refusedPlanes (refusal4 p P R fs) P R fs cl fl)
 
--- ---- from bytes and to bytes
-
-pub record PlanesMade : Type 0 where
-  pub number : ℕ
-  pub present : List ℕ
-  pub refined : List ℕ
+-- ---- from cells and to cells; neither asks whether they are a mesh
 
 -- 1 to 3 of planes and cells
 unfoldable pub cellsRefusal : Plan → List ℕ → List ℕ → List ℕ → ℕ
 cellsRefusal p P R cs = sizeRefusal p (sized p P R && eqb (length cs) (cellTotal p))
 
--- no byte is above 2
-unfoldable pub smallAt : List ℕ → ℕ → Bool
-smallAt cs c = leb (getD cs c 0) 2
-
-unfoldable pub areSmall : List ℕ → Bool
-areSmall cs = every (length cs) (smallAt cs)
+pub record PlanesMade : Type 0 where
+  pub number : ℕ
+  pub present : List ℕ
+  pub refined : List ℕ
 
 -- 1 to 3, and 4 for another byte than 0, 1, 2
 unfoldable pub packRefusal : Plan → List ℕ → List ℕ → List ℕ → ℕ

@@ -565,7 +565,7 @@ pub extern "C" fn wallmirror_read_with_draft(
 pub extern "C" fn wallmirror_planes_len(plan: Plan) -> usize
     ensures { λ r. ⌜ r ≡ planesLength plan ⌝ }
 {
-    planes::len(plan)
+    plane_calls::len(plan)
 }
 
 #[no_mangle]
@@ -577,7 +577,7 @@ pub extern "C" fn wallmirror_planes_open(
 ) -> u32
     ensures { λ r. ⌜ leftByOpen r present refined functions ≡ openPlanes plan (now (present .entry)) (now (refined .entry)) (now (functions .entry)) ⌝ }
 {
-    planes::open(plan, present, refined, functions)
+    plane_calls::open(plan, present, refined, functions)
 }
 
 #[no_mangle]
@@ -589,7 +589,7 @@ pub extern "C" fn wallmirror_planes_check(
 ) -> u32
     ensures { λ r. ⌜ r ≡ checkPlanes plan (now (present .entry)) (now (refined .entry)) (now (functions .entry)) ⌝ }
 {
-    planes::check(plan, present, refined, functions)
+    plane_calls::check(plan, present, refined, functions)
 }
 
 #[no_mangle]
@@ -601,7 +601,7 @@ pub extern "C" fn wallmirror_planes_count(
 ) -> Count
     ensures { λ r. ⌜ r ≡ countPlanes plan (now (present .entry)) (now (refined .entry)) (now (functions .entry)) ⌝ }
 {
-    planes::count(plan, present, refined, functions)
+    plane_calls::count(plan, present, refined, functions)
 }
 
 #[no_mangle]
@@ -616,7 +616,7 @@ pub extern "C" fn wallmirror_planes_refine_cells(
 ) -> Answer
     ensures { λ r. ⌜ MeetsOnPlanes (onPlanes refineCells plan) r present refined functions marks «cell_list» «function_list» ⌝ }
 {
-    planes::change(
+    plane_calls::change(
         Call(Direction::Refine, By::Cells),
         plan,
         present,
@@ -640,7 +640,7 @@ pub extern "C" fn wallmirror_planes_refine_functions(
 ) -> Answer
     ensures { λ r. ⌜ MeetsOnPlanes (onPlanes refineFunctions plan) r present refined functions marks «cell_list» «function_list» ⌝ }
 {
-    planes::change(
+    plane_calls::change(
         Call(Direction::Refine, By::Functions),
         plan,
         present,
@@ -664,7 +664,7 @@ pub extern "C" fn wallmirror_planes_coarsen_cells(
 ) -> Answer
     ensures { λ r. ⌜ MeetsOnPlanes (onPlanes coarsenCells plan) r present refined functions marks «cell_list» «function_list» ⌝ }
 {
-    planes::change(
+    plane_calls::change(
         Call(Direction::Coarsen, By::Cells),
         plan,
         present,
@@ -688,7 +688,7 @@ pub extern "C" fn wallmirror_planes_coarsen_functions(
 ) -> Answer
     ensures { λ r. ⌜ MeetsOnPlanes (onPlanes coarsenFunctions plan) r present refined functions marks «cell_list» «function_list» ⌝ }
 {
-    planes::change(
+    plane_calls::change(
         Call(Direction::Coarsen, By::Functions),
         plan,
         present,
@@ -709,7 +709,7 @@ pub extern "C" fn wallmirror_planes_from_cells(
 ) -> u32
     ensures { λ r. ⌜ leftByPack r present refined ≡ packed plan (now (cells .entry)) (now (present .entry)) (now (refined .entry)) ⌝ }
 {
-    planes::from_cells(plan, cells, present, refined)
+    plane_calls::from_cells(plan, cells, present, refined)
 }
 
 #[no_mangle]
@@ -721,5 +721,5 @@ pub extern "C" fn wallmirror_planes_to_cells(
 ) -> u32
     ensures { λ r. ⌜ leftByUnpack r cells ≡ unpacked plan (now (present .entry)) (now (refined .entry)) (now (cells .entry)) ⌝ }
 {
-    planes::to_cells(plan, present, refined, cells)
+    plane_calls::to_cells(plan, present, refined, cells)
 }

@@ -1,0 +1,5 @@
+pub mod Rooms
+pub mod Changes
+pub mod Opened
+pub mod Counted
+pub mod Copies

@@ -1,0 +1,3 @@
+pub mod Loops
+pub mod Order
+pub mod First
