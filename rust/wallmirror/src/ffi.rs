@@ -18,7 +18,7 @@ pub struct Plan {
     pub corners_up: u32,
 }
 
-/// What [`wallmirror_count`] answers. After a refusal all but the number are 0.
+/// What [`wallmirror_count`] and [`wallmirror_planes_count`] answer. After a refusal all but the number are 0.
 #[repr(C)]
 #[derive(Clone, Copy, Debug, Default, PartialEq, Eq)]
 pub struct Count {
@@ -274,6 +274,33 @@ changes! {
     wallmirror_refine_functions_with_heights_and_draft: refine_functions_with_heights_and_draft
 }
 
+changes! {
+    /// A refining or coarsening call on planes.
+    ///
+    /// # Safety
+    ///
+    /// As [`Change`] says.
+    ChangeOfPlanes(
+        plan: Plan,
+        present: *mut u64,
+        present_len: usize,
+        refined: *mut u64,
+        refined_len: usize,
+        functions: *mut u8,
+        functions_len: usize,
+        marks: *const u32,
+        marks_len: usize,
+        cell_list: *mut u32,
+        cell_list_len: usize,
+        function_list: *mut u32,
+        function_list_len: usize,
+    )
+    wallmirror_planes_refine_cells: planes_refine_cells
+    wallmirror_planes_refine_functions: planes_refine_functions
+    wallmirror_planes_coarsen_cells: planes_coarsen_cells
+    wallmirror_planes_coarsen_functions: planes_coarsen_functions
+}
+
 unsafe extern "C" {
     /// As [`crate::version`].
     pub safe fn wallmirror_version() -> u32;
@@ -286,6 +313,9 @@ unsafe extern "C" {
 
     /// As [`crate::Plan::functions`], or 0.
     pub safe fn wallmirror_functions_len(plan: Plan) -> usize;
+
+    /// As [`crate::Plan::plane_words`], or 0.
+    pub safe fn wallmirror_planes_len(plan: Plan) -> usize;
 
     /// As [`crate::Plan::level`].
     pub safe fn wallmirror_level(plan: Plan, level: u32) -> Level;
@@ -499,4 +529,79 @@ unsafe extern "C" {
         functions_len: usize,
         draft: Draft,
     ) -> ReadWithDraft;
+
+    /// As [`crate::planes_open`].
+    ///
+    /// # Safety
+    ///
+    /// As [`Change`] says, of both planes and the function table.
+    pub fn wallmirror_planes_open(
+        plan: Plan,
+        present: *mut u64,
+        present_len: usize,
+        refined: *mut u64,
+        refined_len: usize,
+        functions: *mut u8,
+        functions_len: usize,
+    ) -> u32;
+
+    /// As [`crate::planes_check`].
+    ///
+    /// # Safety
+    ///
+    /// As [`Change`] says, of both planes and the function table.
+    pub fn wallmirror_planes_check(
+        plan: Plan,
+        present: *const u64,
+        present_len: usize,
+        refined: *const u64,
+        refined_len: usize,
+        functions: *const u8,
+        functions_len: usize,
+    ) -> u32;
+
+    /// As [`crate::planes_count`].
+    ///
+    /// # Safety
+    ///
+    /// As [`Change`] says, of both planes and the function table.
+    pub fn wallmirror_planes_count(
+        plan: Plan,
+        present: *const u64,
+        present_len: usize,
+        refined: *const u64,
+        refined_len: usize,
+        functions: *const u8,
+        functions_len: usize,
+    ) -> Count;
+
+    /// As [`crate::planes_from_cells`].
+    ///
+    /// # Safety
+    ///
+    /// As [`Change`] says, of the cell table and both planes.
+    pub fn wallmirror_planes_from_cells(
+        plan: Plan,
+        cells: *const u8,
+        cells_len: usize,
+        present: *mut u64,
+        present_len: usize,
+        refined: *mut u64,
+        refined_len: usize,
+    ) -> u32;
+
+    /// As [`crate::planes_to_cells`].
+    ///
+    /// # Safety
+    ///
+    /// As [`Change`] says, of both planes and the cell table.
+    pub fn wallmirror_planes_to_cells(
+        plan: Plan,
+        present: *const u64,
+        present_len: usize,
+        refined: *const u64,
+        refined_len: usize,
+        cells: *mut u8,
+        cells_len: usize,
+    ) -> u32;
 }

@@ -417,6 +417,7 @@ pub mod ffi;
 mod heights;
 mod mesh;
 mod places;
+mod planes;
 mod reach;
 mod season;
 
@@ -429,6 +430,10 @@ pub use draft::{
 pub use heights::Heights;
 pub use mesh::{Call, Lists, Mesh};
 pub use places::{Level, Place, Support};
+pub use planes::{
+    planes_check, planes_coarsen_cells, planes_coarsen_functions, planes_count, planes_from_cells,
+    planes_open, planes_refine_cells, planes_refine_functions, planes_to_cells,
+};
 pub use reach::Window;
 pub use season::{Made, Season, Undone};
 
@@ -518,6 +523,9 @@ pub const MAX_CELLS: usize = 21_845;
 
 /// The most functions that a mesh of at most [`MAX_CELLS`] cells has.
 pub const MAX_FUNCTIONS: usize = 54_884;
+
+/// The most words that a plane of a mesh has: one bit for each of [`MAX_CELLS`].
+pub const MAX_PLANE_WORDS: usize = 342;
 
 /// The most bytes that the file of a mesh has.
 pub const MAX_FILE_BYTES: usize = 5_470;
@@ -855,7 +863,7 @@ pub fn check(plan: Plan, cells: &[u8], functions: &[u8]) -> Result<(), Refusal> 
 /// ```
 pub fn count(plan: Plan, cells: &[u8], functions: &[u8]) -> Result<Count, Refusal> {
     // SAFETY: pointers and lengths are those of two slices, which are only read.
-    let count = unsafe {
+    counted(unsafe {
         ffi::wallmirror_count(
             plan.raw(),
             cells.as_ptr(),
@@ -863,7 +871,10 @@ pub fn count(plan: Plan, cells: &[u8], functions: &[u8]) -> Result<Count, Refusa
             functions.as_ptr(),
             functions.len(),
         )
-    };
+    })
+}
+
+fn counted(count: ffi::Count) -> Result<Count, Refusal> {
     accepted(count.number)?;
     Ok(Count {
         active_cells: count.active_cells as usize,
@@ -1292,6 +1303,7 @@ mod tests {
         for (name, number) in [
             ("MAX_CELLS", MAX_CELLS),
             ("MAX_FUNCTIONS", MAX_FUNCTIONS),
+            ("MAX_PLANE_WORDS", MAX_PLANE_WORDS),
             ("MAX_FILE_BYTES", MAX_FILE_BYTES),
             ("MAX_HEIGHT_MM", MAX_HEIGHT_MM as usize),
             ("MAX_PROJECTED_CELLS", MAX_PROJECTED_CELLS),

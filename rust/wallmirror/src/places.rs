@@ -72,6 +72,21 @@ impl Plan {
         Some(ffi::wallmirror_functions_len(self.raw())).filter(|&length| length > 0)
     }
 
+    /// The words of a plane: one bit for each cell, in words of 64, rounded up. `None` for a plan
+    /// that is refused.
+    ///
+    /// ```
+    /// # use wallmirror::Plan;
+    /// let plan = Plan { columns: 3, levels: 3, ..Plan::default() };
+    /// assert_eq!((plan.cells(), plan.plane_words()), (Some(63), Some(1)));
+    /// let plan = Plan { columns: 13, levels: 2, ..plan };
+    /// assert_eq!((plan.cells(), plan.plane_words()), (Some(65), Some(2)));
+    /// assert_eq!(Plan { columns: 17, ..plan }.plane_words(), None);
+    /// ```
+    pub fn plane_words(self) -> Option<usize> {
+        Some(ffi::wallmirror_planes_len(self.raw())).filter(|&words| words > 0)
+    }
+
     /// The cells and functions of a level. `None` for a plan that is refused, and for a level that
     /// it does not have.
     ///
