@@ -412,6 +412,7 @@
 
 use std::fmt;
 
+mod any_mesh;
 mod draft;
 pub mod ffi;
 mod heights;
@@ -421,6 +422,7 @@ mod planes;
 mod reach;
 mod season;
 
+pub use any_mesh::AnyMesh;
 pub use draft::{
     coarsen_cells_with_draft, coarsen_functions_with_draft, draft_add, draft_close, draft_drop,
     draft_open, open_with_draft, read_with_draft, refine_cells_with_draft,
@@ -432,7 +434,7 @@ pub use mesh::{Call, Lists, Mesh};
 pub use places::{Level, Place, Support};
 pub use planes::{
     planes_check, planes_coarsen_cells, planes_coarsen_functions, planes_count, planes_from_cells,
-    planes_open, planes_refine_cells, planes_refine_functions, planes_to_cells,
+    planes_open, planes_refine_cells, planes_refine_functions, planes_to_cells, Planes,
 };
 pub use reach::Window;
 pub use season::{Made, Season, Undone};

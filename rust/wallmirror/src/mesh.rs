@@ -1,12 +1,13 @@
 //! A mesh that owns its tables, and the calls on it.
 
+use crate::any_mesh::sealed::{self, Sealed as _};
 use crate::{
     check, coarsen_cells, coarsen_cells_with_draft, coarsen_functions,
     coarsen_functions_with_draft, corners, count, doubles, draft_add, draft_close, draft_drop,
     draft_open, height, open, read, refine_cells, refine_cells_with_draft,
     refine_cells_with_heights_and_draft, refine_functions, refine_functions_with_draft,
-    refine_functions_with_heights_and_draft, write, Cell, Changed, Corner, Count, Draft, Function,
-    Plan, ReadRefusal, Refusal, MAX_CELLS, MAX_FILE_BYTES, MAX_FUNCTIONS, MAX_PROJECTED_CELLS,
+    refine_functions_with_heights_and_draft, write, AnyMesh, Cell, Changed, Corner, Count, Draft,
+    Function, Plan, ReadRefusal, Refusal, MAX_FILE_BYTES, MAX_PROJECTED_CELLS,
 };
 
 /// A plan with tables that it owns, and the draft that is open on it. Anything may stand in the
@@ -40,6 +41,12 @@ pub struct Mesh {
 /// Both tables, as they are lent.
 type Tables<'a> = (&'a mut [u8], &'a mut [u8]);
 
+/// A table of a length that a plan gives. A plan that has none is refused before the table is looked
+/// at.
+pub(crate) fn table<T: Clone + Default>(length: Option<usize>) -> Vec<T> {
+    vec![T::default(); length.unwrap_or(0)]
+}
+
 /// The two lists of a call, in rising order.
 #[derive(Clone, Debug, Default, PartialEq, Eq, Hash)]
 pub struct Lists {
@@ -47,6 +54,22 @@ pub struct Lists {
     pub cells: Vec<Cell>,
     /// The functions that became deactivated, or ceased to be.
     pub functions: Vec<Function>,
+}
+
+impl Lists {
+    /// Lends a call lists of the lengths that the plan gives, so that none is too short, and keeps
+    /// what it wrote.
+    pub(crate) fn of(
+        plan: Plan,
+        call: impl FnOnce((&mut [Cell], &mut [Function])) -> Result<Changed, Refusal>,
+    ) -> Result<Lists, Refusal> {
+        let (mut cells, mut functions) = (table(plan.cells()), table(plan.functions()));
+        let changed = call((&mut cells, &mut functions))?;
+        Ok(Lists {
+            cells: cells[..changed.cells].to_vec(),
+            functions: functions[..changed.functions].to_vec(),
+        })
+    }
 }
 
 /// A call that changes a mesh, with its marks.
@@ -106,8 +129,6 @@ impl Mesh {
     /// # Ok::<(), Refusal>(())
     /// ```
     pub fn open(plan: Plan) -> Result<Mesh, Refusal> {
-        // A plan that has no lengths is refused before they are looked at.
-        let table = |length: Option<usize>| vec![0; length.unwrap_or(0)];
         let (mut cells, mut functions) = (table(plan.cells()), table(plan.functions()));
         open(plan, &mut cells, &mut functions)?;
         Ok(Mesh::from_tables(plan, cells, functions))
@@ -129,7 +150,6 @@ impl Mesh {
             Ok(plan) | Err(ReadRefusal { plan: Some(plan), .. }) => plan,
             Err(unread) => return Err(unread.refusal),
         };
-        let table = |length: Option<usize>| vec![0; length.expect("a plan that is in range")];
         let (mut cells, mut functions) = (table(plan.cells()), table(plan.functions()));
         read(file, &mut cells, &mut functions)?;
         Ok(Mesh::from_tables(plan, cells, functions))
@@ -219,12 +239,7 @@ impl Mesh {
 
     /// The one of the four calls above that `call` is.
     pub fn make(&mut self, call: &Call) -> Result<Lists, Refusal> {
-        match call {
-            Call::RefineCells(marks) => self.refine_cells(marks),
-            Call::RefineFunctions(marks) => self.refine_functions(marks),
-            Call::CoarsenCells(marks) => self.coarsen_cells(marks),
-            Call::CoarsenFunctions(marks) => self.coarsen_functions(marks),
-        }
+        AnyMesh::make(self, call)
     }
 
     /// The first mark for which a call is refused with 7, 8 or 9: its index in the list of marks.
@@ -245,7 +260,7 @@ impl Mesh {
     pub fn first_fault(&self, call: &Call) -> Option<usize> {
         // The marks are tried in list order, so it is the last of the shortest part of the list that
         // is refused, and every longer part is refused too: halving finds it.
-        let mut mesh = Mesh::from_tables(self.plan, self.cells.clone(), self.functions.clone());
+        let mut mesh = self.without_draft();
         let lengths: Vec<usize> = (0..=call.marks()).collect();
         let faultless = lengths.partition_point(|&many| !mesh.finds_fault(call, many));
         (faultless <= call.marks()).then(|| faultless - 1)
@@ -351,7 +366,7 @@ impl Mesh {
         })
     }
 
-    /// Lends a call lists as long as the tables, so that none is too short, and keeps what it wrote.
+    /// Lends a call the tables, the draft and two lists, and keeps what it wrote.
     fn change(
         &mut self,
         call: impl FnOnce(
@@ -361,15 +376,10 @@ impl Mesh {
             (&mut [Cell], &mut [Function]),
         ) -> Result<Changed, Refusal>,
     ) -> Result<Lists, Refusal> {
-        // Longer tables are refused, so that none asks for much memory.
-        let mut cell_list = vec![Cell(0); self.cells.len().min(MAX_CELLS)];
-        let mut function_list = vec![Function(0); self.functions.len().min(MAX_FUNCTIONS)];
-        let changed = self.beside_draft(0, |plan, tables, (draft, list)| {
-            call(plan, tables, (draft, list), (&mut cell_list, &mut function_list))
-        })?;
-        Ok(Lists {
-            cells: cell_list[..changed.cells].to_vec(),
-            functions: function_list[..changed.functions].to_vec(),
+        Lists::of(self.plan, |lists| {
+            self.beside_draft(0, |plan, tables, (draft, list)| {
+                call(plan, tables, (draft, list), lists)
+            })
         })
     }
 
@@ -406,5 +416,15 @@ impl Mesh {
             corners(self.plan, &self.cells, &self.functions, heights, doubles(&mut filled))?;
         filled.truncate(written);
         Ok(filled)
+    }
+}
+
+impl sealed::Sealed for Mesh {
+    fn without_draft(&self) -> Mesh {
+        Mesh::from_tables(self.plan, self.cells.clone(), self.functions.clone())
+    }
+
+    fn has_draft(&self) -> bool {
+        self.draft.is_some()
     }
 }

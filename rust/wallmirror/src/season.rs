@@ -1,12 +1,15 @@
 //! A mesh together with the calls made on it, to be taken back.
 
-use crate::{Call, Cell, Function, Lists, Mesh, Refusal};
+use crate::{AnyMesh, Call, Cell, Function, Lists, Mesh, Refusal};
 
 /// A mesh and the calls that were made on it, each with its lists. The calls can be taken back, the
 /// last first: every opposite call is accepted and names the same cells and functions as the call it
 /// takes back, and after all of them both tables are what they were first, byte for byte. That is
 /// proved of the library, for every run of calls on a mesh that passes [`check`](crate::check),
 /// where nothing else writes the tables; nothing else can, since the season owns them.
+///
+/// The mesh is a [`Mesh`], or [`Planes`](crate::Planes), of which the same is proved: a
+/// `Season<Planes>` has the calls that planes have.
 ///
 /// A [draft](crate#drafts) that was closed is one refinement by cells with all its marks, and one
 /// that was dropped leaves nothing to take back. While one is open no call is taken back.
@@ -29,9 +32,9 @@ use crate::{Call, Cell, Function, Lists, Mesh, Refusal};
 /// # Ok::<(), Refusal>(())
 /// ```
 #[derive(Clone, Debug, PartialEq, Eq)]
-pub struct Season {
-    first: Mesh,
-    mesh: Mesh,
+pub struct Season<M = Mesh> {
+    first: M,
+    mesh: M,
     calls: Vec<Made>,
 }
 
@@ -53,21 +56,20 @@ pub struct Undone {
     pub lists: Lists,
 }
 
-impl Season {
+impl<M: AnyMesh> Season<M> {
     /// Begins with this mesh, and with its draft where one is open. Refuses 1 to 6.
-    pub fn new(mesh: Mesh) -> Result<Season, Refusal> {
+    pub fn new(mesh: M) -> Result<Season<M>, Refusal> {
         mesh.check()?;
-        let first = Mesh::from_tables(mesh.plan, mesh.cells.clone(), mesh.functions.clone());
-        Ok(Season { first, mesh, calls: vec![] })
+        Ok(Season { first: mesh.without_draft(), mesh, calls: vec![] })
     }
 
     /// The mesh as it is.
-    pub fn mesh(&self) -> &Mesh {
+    pub fn mesh(&self) -> &M {
         &self.mesh
     }
 
     /// The mesh that the season began with, without a draft.
-    pub fn first(&self) -> &Mesh {
+    pub fn first(&self) -> &M {
         &self.first
     }
 
@@ -77,7 +79,7 @@ impl Season {
     }
 
     /// The mesh as it is, without its season.
-    pub fn into_mesh(self) -> Mesh {
+    pub fn into_mesh(self) -> M {
         self.mesh
     }
 
@@ -107,6 +109,33 @@ impl Season {
         Ok(self.keep(call, lists))
     }
 
+    fn keep(&mut self, call: Call, lists: Lists) -> &Lists {
+        self.calls.push(Made { call, lists });
+        &self.calls[self.calls.len() - 1].lists
+    }
+
+    /// Takes the last call back, if there is one. Refuses 18 while a draft is open, and then nothing
+    /// changes: its marks are not lost. The opposite call is never refused, as is proved; if it were,
+    /// this would panic.
+    pub fn undo(&mut self) -> Result<Option<Undone>, Refusal> {
+        if self.mesh.has_draft() {
+            return Err(Refusal::DraftOpen);
+        }
+        let Some(made) = self.calls.pop() else { return Ok(None) };
+        let opposite = made.call.opposite(&made.lists.cells);
+        let lists = self.mesh.make(&opposite).expect("an opposite call is accepted");
+        Ok(Some(Undone { made, opposite, lists }))
+    }
+
+    /// Takes all calls back, the last one first, as they come in the answer. Refuses 18 as
+    /// [`Season::undo`] does.
+    pub fn undo_all(&mut self) -> Result<Vec<Undone>, Refusal> {
+        std::iter::from_fn(|| self.undo().transpose()).collect()
+    }
+}
+
+/// With heights and drafts, which planes do not have.
+impl Season {
     /// Refines by cells and carries the heights, as [`Mesh::refine_cells_with_heights`] does. It is
     /// taken back like the call without heights. The heights are not; to have them back, keep them.
     pub fn refine_cells_with_heights(
@@ -150,29 +179,5 @@ impl Season {
     /// Drops the open draft, as [`Mesh::drop_draft`] does. Nothing is kept of it.
     pub fn drop_draft(&mut self) -> Result<(), Refusal> {
         self.mesh.drop_draft()
-    }
-
-    fn keep(&mut self, call: Call, lists: Lists) -> &Lists {
-        self.calls.push(Made { call, lists });
-        &self.calls[self.calls.len() - 1].lists
-    }
-
-    /// Takes the last call back, if there is one. Refuses 18 while a draft is open, and then nothing
-    /// changes: its marks are not lost. The opposite call is never refused, as is proved; if it were,
-    /// this would panic.
-    pub fn undo(&mut self) -> Result<Option<Undone>, Refusal> {
-        if self.mesh.draft.is_some() {
-            return Err(Refusal::DraftOpen);
-        }
-        let Some(made) = self.calls.pop() else { return Ok(None) };
-        let opposite = made.call.opposite(&made.lists.cells);
-        let lists = self.mesh.make(&opposite).expect("an opposite call is accepted");
-        Ok(Some(Undone { made, opposite, lists }))
-    }
-
-    /// Takes all calls back, the last one first, as they come in the answer. Refuses 18 as
-    /// [`Season::undo`] does.
-    pub fn undo_all(&mut self) -> Result<Vec<Undone>, Refusal> {
-        std::iter::from_fn(|| self.undo().transpose()).collect()
     }
 }
