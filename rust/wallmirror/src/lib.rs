@@ -3,9 +3,9 @@
 //! A mesh is a plan and two tables of bytes: one byte for each cell of each level (0 absent, 1
 //! active, 2 refined) and one for each function of each level (0 passive, 1 active, 2 deactivated).
 //! A [`Mesh`] owns its tables and has the calls; a [`Season`] keeps the calls that were made on a
-//! mesh and takes them back. Every call takes any plan, tables, marks, draft, file, heights and
-//! point; what it cannot serve it refuses with a [`Refusal`], and then everything holds what it held
-//! before.
+//! mesh and takes them back. [`Planes`] are a mesh whose cells are [two bits each](#two-bits-a-cell).
+//! Every call takes any plan, tables, planes, marks, draft, file, heights and point; what it cannot
+//! serve it refuses with a [`Refusal`], and then everything holds what it held before.
 //!
 //! In the words of the scope document a mesh is a wall, refining and coarsening are splitting and
 //! joining, admissible of class m is graded, and reactivable is joinable.
@@ -251,6 +251,51 @@
 //! [`open_with_draft`] and [`read_with_draft`], when accepted, drop the draft. What only reads the
 //! tables takes no draft. A [`Mesh`] takes the forms with its own.
 //!
+//! # Two bits a cell
+//!
+//! A program that keeps many meshes may hold the cells in less memory: as two planes of bits,
+//! `present` and `refined`, in words of 64. The number of a cell is that of its bit: cell i has bit
+//! i mod 64 of word ⌊i/64⌋, where bit 0 is the lowest. A plane has [`Plan::plane_words`] words, as
+//! many as the cells need, and the bits of the last word that no cell has are spare. A cell with
+//! neither bit set is absent, one with that of `present` alone is active, and one with both is
+//! refined. Planes are in order where every spare bit is 0 and no bit of `refined` is set without
+//! that of `present`. The function table stays in bytes.
+//!
+//! [`Planes`] own two planes and a function table, and have the calls that a [`Mesh`] has but for
+//! files, drafts and heights. Each call does what that of the [`Mesh`] does with the same cells: its
+//! answer, lists and function table are the same, and the planes are then those of its cells. It
+//! refuses 3 where a plane does not have the length that the plan gives it, 4 for planes that are
+//! not in order, and otherwise as the other does, in the same order. What is said of the undo holds
+//! too, and a [`Season`] may have planes. [`planes_refine_cells`] and the others outside of
+//! [`Planes`] are the same with lent slices.
+//!
+//! ```
+//! # use wallmirror::{Cell, Mesh, Plan, Planes, Refusal, Season};
+//! # let plan = Plan { columns: 3, levels: 3, admissibility_class: 2, ..Plan::default() };
+//! let mut planes = Planes::open(plan)?;
+//! // 63 cells have room in one word, and one bit is spare.
+//! assert_eq!((plan.cells(), plan.plane_words()), (Some(63), Some(1)));
+//! planes.refine_cells(&[Cell(0)])?;
+//! // Cell 0 is refined. Cells 1 and 2 are active, and so are its children 3, 4, 9 and 10.
+//! assert_eq!(planes.present, [0b110_0001_1111]);
+//! assert_eq!(planes.refined, [0b000_0000_0001]);
+//! assert_eq!(planes.count()?.active_cells, 6);
+//!
+//! let mut season = Season::new(planes.clone())?;
+//! assert_eq!(season.refine_cells(&[Cell(3)])?.cells, [Cell(1), Cell(3)]);
+//! season.undo_all()?;
+//! assert_eq!(season.mesh(), &planes);
+//!
+//! // A mesh in bytes has a file, and heights.
+//! let mesh = planes.to_mesh()?;
+//! assert_eq!(mesh.to_file()?, [3, 1, 3, 1, 1, 2, 1, 0]);
+//! assert_eq!(Planes::from_mesh(&mesh)?, planes);
+//!
+//! planes.present[0] |= 1 << 63;
+//! assert_eq!(planes.check(), Err(Refusal::NotAMesh));
+//! # Ok::<(), Refusal>(())
+//! ```
+//!
 //! # Files
 //!
 //! [`Mesh::to_file`] makes bytes of a mesh, to be kept where one likes, and [`Mesh::from_file`]
@@ -402,6 +447,7 @@
 //! | corners across, corners up | bits 1 to columns - 1, bits 1 to rows - 1 |
 //! | cells on all levels together | at most [`MAX_CELLS`] |
 //! | functions of such a plan | at most [`MAX_FUNCTIONS`] |
+//! | words of a plane | at most [`MAX_PLANE_WORDS`] |
 //! | marks of a call | any number |
 //! | marks of a draft | as many as its list has entries |
 //! | file of a mesh | at most [`MAX_FILE_BYTES`] |
@@ -600,13 +646,14 @@ pub enum Refusal {
     PlanOutOfRange = 1,
     /// All levels together have more than [`MAX_CELLS`] cells.
     TooManyCells = 2,
-    /// The cell table does not have [`Plan::cells`] bytes, or the function table does not have
-    /// [`Plan::functions`]. Of the calls with heights also, after 6: the heights are not as many as
-    /// the functions.
+    /// The cell table does not have [`Plan::cells`] bytes, a plane does not have
+    /// [`Plan::plane_words`] words, or the function table does not have [`Plan::functions`] bytes. Of
+    /// the calls with heights also, after 6: the heights are not as many as the functions.
     TableLength = 3,
     /// The cell bytes are not a mesh: another byte than 0, 1, 2, an absent cell of level 0, a
     /// refined cell with an absent child, any other cell with a child that is not absent, or a
-    /// refined cell of the last level.
+    /// refined cell of the last level. Of the calls on planes also: a spare bit is set, or a bit of
+    /// `refined` without that of `present`.
     NotAMesh = 4,
     /// A refined cell has a cell in its neighbourhood that is not refined.
     NotAdmissible = 5,
@@ -707,9 +754,9 @@ impl Refusal {
             }
             Refusal::TooManyCells => "all levels together have more than 21845 cells",
             Refusal::TableLength => {
-                "a table does not have the length that the plan gives it, or the heights are not as many as the functions"
+                "a table or a plane does not have the length that the plan gives it, or the heights are not as many as the functions"
             }
-            Refusal::NotAMesh => "the cell table is not a mesh",
+            Refusal::NotAMesh => "the cell table is not a mesh, or the planes are not in order",
             Refusal::NotAdmissible => "the mesh is not admissible for the class of the plan",
             Refusal::WrongFunctionByte => {
                 "a byte of the function table is not the one that the cells fix"
@@ -1389,6 +1436,7 @@ mod tests {
         }
         // Without corners.
         assert_eq!((most_cells, most_functions), (MAX_CELLS, 26_220));
+        assert_eq!(most_cells.div_ceil(64), MAX_PLANE_WORDS);
     }
 
     #[test]
@@ -1428,10 +1476,17 @@ mod tests {
         let (Some(t), Some(f)) = (plan.cells(), plan.functions()) else {
             let refusal = open(plan, &mut [], &mut []).unwrap_err();
             assert!(matches!(refusal, Refusal::PlanOutOfRange | Refusal::TooManyCells), "{plan:?}");
+            assert_eq!(planes_open(plan, &mut [], &mut [], &mut []), Err(refusal), "{plan:?}");
+            assert_eq!(plan.plane_words(), None, "{plan:?}");
             return (0, 0);
         };
         let (mut cells, mut functions) = (vec![9; t], vec![9; f]);
         assert_eq!(open(plan, &mut cells, &mut functions), Ok(()), "{plan:?}");
+        let words = t.div_ceil(64);
+        assert_eq!(plan.plane_words(), Some(words), "{plan:?}");
+        let (mut present, mut refined) = (vec![9; words], vec![9; words]);
+        let opened = planes_open(plan, &mut present, &mut refined, &mut functions);
+        assert_eq!(opened, Ok(()), "{plan:?}");
         (t, f)
     }
 }
