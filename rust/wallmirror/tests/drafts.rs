@@ -1,27 +1,10 @@
 //! Drafts as the wrapper has them: of lent slices, of a [`Mesh`] and of a [`Season`].
 
+mod common;
+
+use common::{cells, with_draft, worked, PLAN};
 use std::mem::{offset_of, size_of};
 use wallmirror::*;
-
-const PLAN: Plan = Plan { columns: 3, levels: 3, admissibility_class: 2, ..Plan::SMALLEST };
-
-/// Cells 0, 1 and 3 are refined. Cell 2 and function 10 can be refined, cell 3 and function 8 can be
-/// coarsened. Cell 10 can be refined too, with another outcome than function 10.
-fn worked() -> Mesh {
-    let mut mesh = Mesh::open(PLAN).expect("a plan");
-    for mark in [0, 3] {
-        mesh.refine_cells(&[Cell(mark)]).expect("a cell to refine");
-    }
-    mesh
-}
-
-fn with_draft(marks: &[u32]) -> Mesh {
-    Mesh { draft: Some(cells(marks)), ..worked() }
-}
-
-fn cells(numbers: &[u32]) -> Vec<Cell> {
-    numbers.iter().copied().map(Cell).collect()
-}
 
 /// All calls of a mesh that refuse 18 while a draft is open.
 fn changes(mesh: &mut Mesh, heights: &mut [i32]) -> [Result<Lists, Refusal>; 7] {
