@@ -2,15 +2,16 @@
  * wallmirror: refining and coarsening hierarchical spline meshes.
  *
  * A mesh is held by the caller as two tables of bytes, one byte for each cell of each level and one
- * for each function of each level. The library allocates nothing, keeps nothing between calls and
- * may be called from several threads on different meshes.
+ * for each function of each level. The cells may also be held as two planes of bits, beside the
+ * same table of functions. The library allocates nothing, keeps nothing between calls and may be
+ * called from several threads on different meshes.
  *
  * In the words of the scope document a mesh is a wall, refining and coarsening are splitting and
  * joining, admissible of class m is graded, and reactivable is joinable.
  *
- * Every call takes any plan, tables, marks, draft, file, heights and point whatever and returns.
- * What it cannot serve it refuses with a number (WallmirrorRefusal), and then all that was lent
- * holds the bytes it held before. wallmirror_refusal_text says in words what a number means.
+ * Every call takes any plan, tables, planes, marks, draft, file, heights and point whatever and
+ * returns. What it cannot serve it refuses with a number (WallmirrorRefusal), and then all that was
+ * lent holds the bytes it held before. wallmirror_refusal_text says in words what a number means.
  *
  * Cells. Level k has columns * 2^k columns and rows * 2^k rows of cells. They are numbered from 0,
  * level by level, row by row. The cell at column c, row r has four children one level down, at
@@ -112,14 +113,14 @@
  * after 6 and before anything of the heights. While it is not, adding, closing and dropping refuse
  * 19, after 6. Adding refuses 10, after 7 to 9, where the list does not have room for all marks.
  *
- * Each call that changes the tables has a form with a draft, with _with_draft or _and_draft at the
- * end of its name. A program that never keeps a draft takes the forms without: they do what the
- * forms with a draft do where none is open. A program that keeps one takes the forms with it
- * everywhere, so that nothing changes the mesh under an open draft: refining and coarsening are
- * refused, and wallmirror_open_with_draft and wallmirror_read_with_draft, when accepted, drop the
- * draft. What only reads the tables takes no draft. In the example above, with three levels, class
- * 2 and cell 0 refined, let a draft have the marks 3, 4 and 3. Closed, it lists cells 1, 3 and 4
- * and functions 1, 5, 8 and 9.
+ * The calls on bytes that open, read, refine or coarsen a mesh have a form with a draft, with
+ * _with_draft or _and_draft at the end of the name. A program that never keeps a draft takes the
+ * forms without: they do what the forms with a draft do where none is open. A program that keeps
+ * one takes the forms with it everywhere, so that nothing changes the mesh under an open draft:
+ * refining and coarsening are refused, and wallmirror_open_with_draft and
+ * wallmirror_read_with_draft, when accepted, drop the draft. What only reads the tables takes no
+ * draft. In the example above, with three levels, class 2 and cell 0 refined, let a draft have the
+ * marks 3, 4 and 3. Closed, it lists cells 1, 3 and 4 and functions 1, 5, 8 and 9.
  *
  * Files. The file of a mesh is bytes that the caller keeps where it likes: wallmirror_write makes
  * them of a mesh, wallmirror_read makes the mesh of them. They are a list of numbers: the first six
@@ -136,6 +137,34 @@
  * A file of unknown plan is read twice, the first time with empty tables (NULL, 0). That is
  * refused: with 3 and the plan, or with 12, 1 or 2, where no tables will do. Then make the tables
  * of the lengths that wallmirror_cells_len and wallmirror_functions_len give, and read again.
+ *
+ * Planes. A program that keeps many meshes may hold their cells as bits: in two planes, present and
+ * refined, of words of 64 bits. The number of a cell is the number of its bit, the lowest first:
+ * cell i has bit i % 64 of word i / 64. It is set in present where the cell is active or refined,
+ * and in refined where it is refined. So an absent cell is set in neither, and an active one in
+ * present alone. Each plane has wallmirror_planes_len words: the number of cells divided by 64,
+ * rounded up. The bits past the last cell are spare, and 0. The function table is the one that
+ * stands beside a cell table. The largest plan has 21845 cells and planes of 342 words, which are
+ * 5472 bytes together. In the example above, with three levels, there are 63 cells and each plane
+ * is one word. Just opened, present is 7 and refined is 0. With cell 0 refined, present has bits 0
+ * to 4, 9 and 10 set and is 0x61f, and refined is 1.
+ *
+ * Opening, checking and counting, both refining calls and both coarsening ones have a form on
+ * planes, which has planes_ after wallmirror_ in its name. It takes both planes in place of the
+ * cell table, and its answer, functions and lists are those of the call on bytes with the same
+ * cells; the planes become those of the cells that the call on bytes leaves. It refuses what that
+ * call refuses, in the same order. There 3 is also for a plane that does not have its length, and
+ * 4, before all that is said of a mesh, for planes that are not in order: a spare bit is set, or a
+ * bit of refined where that of present is not. Opening looks at nothing that was there and never
+ * refuses 4. A run of these calls is undone as on bytes, by the opposite calls on planes, where the
+ * first mesh passes wallmirror_planes_check.
+ *
+ * There are no forms on planes with heights, with a draft or for files: such a call takes bytes.
+ * wallmirror_planes_to_cells makes the cell table that planes hold, and
+ * wallmirror_planes_from_cells the planes of a cell table; neither asks whether it is a mesh. To
+ * keep a mesh of a file so, read it into two tables with wallmirror_read, make planes of its cells
+ * with wallmirror_planes_from_cells, and keep these and the function table; the cell table is free
+ * for the next mesh then. The bytes 3 1 3 1 1 2 1 0 give the planes 0x61f and 1.
  *
  * Heights. The active functions carry a surface: its height at a point is the sum, over all active
  * functions, of the function's height times its value there. The value is that of a B-spline across
@@ -206,12 +235,12 @@
  * heights alone, since no corner of a cell lies beyond the mesh; and last 10, where the output is
  * shorter than all corners. Its length is what wallmirror_corners_len says, or more.
  *
- * Pointers. Each table, file, list of heights, mark list, list of a draft, output list and output
- * of doubles is a pointer and its number of entries. A null pointer with length 0 is taken as an
- * empty slice. With any other length the pointer must be aligned for its type and lead to that many
- * entries, readable, and writable where it is not const. The tables, heights, lists, file and
- * output of one call must not overlap each other. So the cell list of an earlier call may serve as
- * marks, but not as the cell list of the same call too.
+ * Pointers. Each table, plane, file, list of heights, mark list, list of a draft, output list and
+ * output of doubles is a pointer and its number of entries. A null pointer with length 0 is taken
+ * as an empty slice. With any other length the pointer must be aligned for its type and lead to
+ * that many entries, readable, and writable where it is not const. The tables, planes, heights,
+ * lists, file and output of one call must not overlap each other. So the cell list of an earlier
+ * call may serve as marks, but not as the cell list of the same call too.
  *
  * Limits.
  *   columns, rows                 1 to 16
@@ -221,6 +250,7 @@
  *   corners_across, corners_up    bits 1 to columns - 1, bits 1 to rows - 1
  *   cells on all levels together  at most WALLMIRROR_MAX_CELLS
  *   functions of such a plan      at most WALLMIRROR_MAX_FUNCTIONS
+ *   words of a plane              at most WALLMIRROR_MAX_PLANE_WORDS
  *   marks of a call               any number; their values are 32 bits
  *   marks of a draft              as many as its list has entries
  *   file of a mesh                at most WALLMIRROR_MAX_FILE_BYTES bytes
@@ -243,9 +273,9 @@ extern "C" {
 /* The version of this header, and the same as one number: major * 1000000 + minor * 1000 + patch.
  * The library answers its own with wallmirror_version. */
 #define WALLMIRROR_VERSION_MAJOR 0
-#define WALLMIRROR_VERSION_MINOR 10
+#define WALLMIRROR_VERSION_MINOR 11
 #define WALLMIRROR_VERSION_PATCH 0
-#define WALLMIRROR_VERSION "0.10.0"
+#define WALLMIRROR_VERSION "0.11.0"
 #define WALLMIRROR_VERSION_NUMBER \
     (WALLMIRROR_VERSION_MAJOR * 1000000 + WALLMIRROR_VERSION_MINOR * 1000 + \
      WALLMIRROR_VERSION_PATCH)
@@ -254,6 +284,9 @@ extern "C" {
  * buffers of these sizes serve every plan. */
 #define WALLMIRROR_MAX_CELLS 21845
 #define WALLMIRROR_MAX_FUNCTIONS 54884
+
+/* The most words that each plane of a mesh has: a buffer of this size serves every plan. */
+#define WALLMIRROR_MAX_PLANE_WORDS 342
 
 /* The most bytes that the file of a mesh has: a buffer of this size serves every mesh. */
 #define WALLMIRROR_MAX_FILE_BYTES 5470
@@ -267,7 +300,8 @@ extern "C" {
 #define WALLMIRROR_MAX_PROJECTED_CELLS 1024
 #define WALLMIRROR_MAX_CORNER_DOUBLES 12288
 
-/* The most stack that any call takes, in bytes: what a thread must have left when it calls. */
+/* The most stack that any call takes, in bytes: what a thread must have left when it calls. The
+ * calls on planes make the bytes of the cells there, within it. */
 #define WALLMIRROR_STACK_BYTES 262144
 
 /* The plan of a mesh, passed by value. It is the same in every call on that mesh. Make it with
@@ -324,12 +358,13 @@ enum WallmirrorRefusal {
     WALLMIRROR_PLAN_OUT_OF_RANGE = 1,
     /* all levels together have more than WALLMIRROR_MAX_CELLS cells */
     WALLMIRROR_TOO_MANY_CELLS = 2,
-    /* a table does not have the length that the plan gives it; of the calls with heights also,
-     * after 6: the heights are not as many as the functions */
+    /* a table or a plane does not have the length that the plan gives it; of the calls with heights
+     * also, after 6: the heights are not as many as the functions */
     WALLMIRROR_TABLE_LENGTH = 3,
     /* the cell bytes are not a mesh: another byte than 0, 1, 2, an absent cell of level 0, a refined
      * cell with an absent child, any other cell with a child that is not absent, or a refined cell
-     * of the last level */
+     * of the last level; of the calls on planes also, and first: a spare bit is set, or a bit of
+     * refined where that of present is not */
     WALLMIRROR_NOT_A_MESH = 4,
     /* the mesh is not admissible for the class of the plan */
     WALLMIRROR_NOT_ADMISSIBLE = 5,
@@ -382,10 +417,10 @@ static inline const char *wallmirror_refusal_text(uint32_t number)
     case WALLMIRROR_TOO_MANY_CELLS:
         return "all levels together have more than 21845 cells";
     case WALLMIRROR_TABLE_LENGTH:
-        return "a table does not have the length that the plan gives it, or the heights are not as "
-               "many as the functions";
+        return "a table or a plane does not have the length that the plan gives it, or the heights "
+               "are not as many as the functions";
     case WALLMIRROR_NOT_A_MESH:
-        return "the cell table is not a mesh";
+        return "the cell table is not a mesh, or the planes are not in order";
     case WALLMIRROR_NOT_ADMISSIBLE:
         return "the mesh is not admissible for the class of the plan";
     case WALLMIRROR_WRONG_FUNCTION_BYTE:
@@ -425,7 +460,8 @@ static inline const char *wallmirror_refusal_text(uint32_t number)
     }
 }
 
-/* What wallmirror_count answers. After a refusal all but the number are 0. */
+/* What wallmirror_count and wallmirror_planes_count answer. After a refusal all but the number are
+ * 0. */
 typedef struct WallmirrorCount {
     uint32_t number;           /* a WallmirrorRefusal */
     uint32_t active_cells;
@@ -543,6 +579,9 @@ static inline int wallmirror_plan_is_valid(WallmirrorPlan plan)
  * function table and a function list. 0 for a plan that is refused. */
 size_t wallmirror_cells_len(WallmirrorPlan plan);
 size_t wallmirror_functions_len(WallmirrorPlan plan);
+
+/* The number of words of each plane. 0 for a plan that is refused. */
+size_t wallmirror_planes_len(WallmirrorPlan plan);
 
 /* The cells and functions of a level. The cell in row r, column c has the number
  * first_cell + r * columns + c; the function in row j, column i has the number
@@ -839,6 +878,91 @@ WallmirrorReadWithDraft wallmirror_read_with_draft(const uint8_t *file, size_t f
                                                    uint8_t *cells, size_t cells_len,
                                                    uint8_t *functions, size_t functions_len,
                                                    WallmirrorDraft draft);
+
+/*
+ * The calls on planes; what planes are is said at the top. Refusal 3 is for either plane and for
+ * the table that is lent beside them, and 4 comes first for planes that are not in order.
+ */
+
+/* As wallmirror_open: every cell and function of level 0 active, the rest absent and passive, spare
+ * bits 0. Refuses 1 to 3; what planes and functions held does not matter. */
+uint32_t wallmirror_planes_open(WallmirrorPlan plan,
+                                uint64_t *present, size_t present_len,
+                                uint64_t *refined, size_t refined_len,
+                                uint8_t *functions, size_t functions_len);
+
+/* As wallmirror_check: 0, or the first of refusals 1 to 6. */
+uint32_t wallmirror_planes_check(WallmirrorPlan plan,
+                                 const uint64_t *present, size_t present_len,
+                                 const uint64_t *refined, size_t refined_len,
+                                 const uint8_t *functions, size_t functions_len);
+
+/* As wallmirror_count, with the cells counted by whole words. Refuses 1 to 6. */
+WallmirrorCount wallmirror_planes_count(WallmirrorPlan plan,
+                                        const uint64_t *present, size_t present_len,
+                                        const uint64_t *refined, size_t refined_len,
+                                        const uint8_t *functions, size_t functions_len);
+
+/*
+ * The refining and coarsening calls on planes. Marks, lists and answer are those of the call that
+ * each is named after, and so is the effect. They refuse 1 to 11 (coarsening never 9). Nothing is
+ * said of the order in which an accepted call writes planes, functions and lists. Lists of
+ * wallmirror_cells_len and wallmirror_functions_len entries are never too short.
+ */
+
+/* As wallmirror_refine_cells. */
+WallmirrorAnswer wallmirror_planes_refine_cells(
+    WallmirrorPlan plan,
+    uint64_t *present, size_t present_len,
+    uint64_t *refined, size_t refined_len,
+    uint8_t *functions, size_t functions_len,
+    const uint32_t *marks, size_t marks_len,
+    uint32_t *cell_list, size_t cell_list_len,
+    uint32_t *function_list, size_t function_list_len);
+
+/* As wallmirror_refine_functions. */
+WallmirrorAnswer wallmirror_planes_refine_functions(
+    WallmirrorPlan plan,
+    uint64_t *present, size_t present_len,
+    uint64_t *refined, size_t refined_len,
+    uint8_t *functions, size_t functions_len,
+    const uint32_t *marks, size_t marks_len,
+    uint32_t *cell_list, size_t cell_list_len,
+    uint32_t *function_list, size_t function_list_len);
+
+/* As wallmirror_coarsen_cells. */
+WallmirrorAnswer wallmirror_planes_coarsen_cells(
+    WallmirrorPlan plan,
+    uint64_t *present, size_t present_len,
+    uint64_t *refined, size_t refined_len,
+    uint8_t *functions, size_t functions_len,
+    const uint32_t *marks, size_t marks_len,
+    uint32_t *cell_list, size_t cell_list_len,
+    uint32_t *function_list, size_t function_list_len);
+
+/* As wallmirror_coarsen_functions. */
+WallmirrorAnswer wallmirror_planes_coarsen_functions(
+    WallmirrorPlan plan,
+    uint64_t *present, size_t present_len,
+    uint64_t *refined, size_t refined_len,
+    uint8_t *functions, size_t functions_len,
+    const uint32_t *marks, size_t marks_len,
+    uint32_t *cell_list, size_t cell_list_len,
+    uint32_t *function_list, size_t function_list_len);
+
+/* Makes the planes of a cell table; what they held does not matter. Refuses 1 to 3, and 4
+ * only for a byte above 2: cells that are no mesh are taken too. */
+uint32_t wallmirror_planes_from_cells(WallmirrorPlan plan,
+                                      const uint8_t *cells, size_t cells_len,
+                                      uint64_t *present, size_t present_len,
+                                      uint64_t *refined, size_t refined_len);
+
+/* Makes the cell table that planes hold, and so undoes wallmirror_planes_from_cells; what it held
+ * does not matter. Refuses 1 to 3, and 4 only for planes that are not in order. */
+uint32_t wallmirror_planes_to_cells(WallmirrorPlan plan,
+                                    const uint64_t *present, size_t present_len,
+                                    const uint64_t *refined, size_t refined_len,
+                                    uint8_t *cells, size_t cells_len);
 
 #ifdef __cplusplus
 }
