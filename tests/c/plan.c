@@ -108,7 +108,9 @@ static void try_example(void)
 {
     WallmirrorPlan plan = outside;
     expect(wallmirror_plan_refusal(plan) == 0, "the example is taken");
-    expect(wallmirror_cells_len(plan) == 63 && wallmirror_functions_len(plan) == 94, "lengths");
+    expect(wallmirror_cells_len(plan) == 63 && wallmirror_functions_len(plan) == 94 &&
+               wallmirror_planes_len(plan) == 1,
+           "lengths");
     expect(is_level(wallmirror_level(plan, 0), 0, 3, 1, 0, 4, 2), "level 0");
     expect(is_level(wallmirror_level(plan, 1), 3, 6, 2, 8, 7, 3), "level 1");
     expect(is_level(wallmirror_level(plan, 3), 0, 0, 0, 0, 0, 0), "no level 3");
@@ -137,7 +139,8 @@ static void try_corner(void)
 static void expect_nothing(WallmirrorPlan plan)
 {
     expect(!wallmirror_plan_is_valid(plan) && wallmirror_cells_len(plan) == 0 &&
-               wallmirror_functions_len(plan) == 0 && wallmirror_functions_across(plan, 0) == 0 &&
+               wallmirror_functions_len(plan) == 0 && wallmirror_planes_len(plan) == 0 &&
+               wallmirror_functions_across(plan, 0) == 0 &&
                wallmirror_functions_up(plan, 0) == 0 &&
                is_level(wallmirror_level(plan, 0), 0, 0, 0, 0, 0, 0) &&
                is_place(wallmirror_place(plan, 0), 0, 0, 0, 0) &&

@@ -1,9 +1,9 @@
 /*
- * The lengths that the library answers are those that it takes, for every plan in range and for the
- * numbers just outside, with corners and without; the header's macros agree with each other and
- * with the library's version, its structs are laid out as the library has them, the longest file is
- * as long as it says, the greatest height is taken and no greater one, and so are the most cells
- * for the projector. The output is to be that of sizes.expected.
+ * The lengths that the library answers are those that it takes, of tables and of planes, for every
+ * plan in range and for the numbers just outside, with corners and without; the header's macros
+ * agree with each other and with the library's version, its structs are laid out as the library has
+ * them, the longest file is as long as it says, the greatest height is taken and no greater one,
+ * and so are the most cells for the projector. The output is to be that of sizes.expected.
  */
 #include <stddef.h>
 #include <stdio.h>
@@ -12,8 +12,9 @@
 #include "wallmirror.h"
 
 static uint8_t cells[WALLMIRROR_MAX_CELLS + 1], functions[WALLMIRROR_MAX_FUNCTIONS + 1];
+static uint64_t present[WALLMIRROR_MAX_PLANE_WORDS + 1], refined[WALLMIRROR_MAX_PLANE_WORDS + 1];
 static unsigned long taken, refused, wrong;
-static size_t most_cells, most_functions, most_projected;
+static size_t most_cells, most_functions, most_words, most_projected;
 
 /* Of the projector the plan alone is tried, with nothing lent: it is refused as by open, with 16
  * where it has too many cells, or with 3 for the empty tables. */
@@ -31,11 +32,30 @@ static void try_projected(WallmirrorPlan plan, size_t t, uint32_t opened)
         most_projected = t;
 }
 
+/* A plane has a bit for each cell, in whole words. One word more or fewer is refused. */
+static void try_planes(WallmirrorPlan plan, size_t t, size_t f, uint32_t opened)
+{
+    size_t words = wallmirror_planes_len(plan);
+    if (words != (t + 63) / 64 ||
+        wallmirror_planes_open(plan, present, words, refined, words, functions, f) != opened)
+        wrong++;
+    if (words > most_words)
+        most_words = words;
+    if (opened != WALLMIRROR_ACCEPTED)
+        return;
+    if (wallmirror_planes_open(plan, present, words + 1, refined, words, functions, f) !=
+            WALLMIRROR_TABLE_LENGTH ||
+        wallmirror_planes_open(plan, present, words, refined, words - 1, functions, f) !=
+            WALLMIRROR_TABLE_LENGTH)
+        wrong++;
+}
+
 static void try_plan(WallmirrorPlan plan)
 {
     size_t t = wallmirror_cells_len(plan), f = wallmirror_functions_len(plan);
     uint32_t number = wallmirror_open(plan, cells, t, functions, f);
     try_projected(plan, t, number);
+    try_planes(plan, t, f, number);
     if (wallmirror_plan_refusal(plan) != number ||
         wallmirror_plan_is_valid(plan) != (number == WALLMIRROR_ACCEPTED))
         wrong++;
@@ -322,9 +342,10 @@ int main(void)
     try_corners();
     try_bits();
     printf("%lu plans taken, %lu refused, %lu wrong\n", taken, refused, wrong);
-    printf("at most %lu cells and %lu functions\n", (unsigned long)most_cells,
-           (unsigned long)most_functions);
-    if (most_cells != WALLMIRROR_MAX_CELLS || most_functions != WALLMIRROR_MAX_FUNCTIONS)
+    printf("at most %lu cells and %lu functions, and planes of at most %lu words\n",
+           (unsigned long)most_cells, (unsigned long)most_functions, (unsigned long)most_words);
+    if (most_cells != WALLMIRROR_MAX_CELLS || most_functions != WALLMIRROR_MAX_FUNCTIONS ||
+        most_words != WALLMIRROR_MAX_PLANE_WORDS)
         wrong++;
     printf("version %s, %lu of header and library\n", WALLMIRROR_VERSION,
            (unsigned long)wallmirror_version());
