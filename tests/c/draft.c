@@ -9,38 +9,18 @@
 #ifndef _GNU_SOURCE
 #define _GNU_SOURCE
 #endif
-#include <signal.h>
-#include <stdio.h>
-#include <string.h>
-#include <sys/mman.h>
-#include <unistd.h>
-
-#include "wallmirror.h"
+#include "watched.h"
 
 /* the calls; CHANGE and the three after it are without heights, CARRY and the one after it with */
 enum { OPEN, ADD, CLOSE, DROP, CHANGE, CARRY = 8, OPEN_MESH = 10, READ_MESH, KINDS };
 
-/* where a slice lies: on pages of its own, before one that may not be touched */
-enum { CELLS, FUNCTIONS, HEIGHTS, FILE_BYTES, LIST, MARKS, CELL_LIST, FUNCTION_LIST, SLICES };
-enum { SLICE_BYTES = 1 << 15, MOST_MARKS = 3, ROOM = 2, VARIANTS = 3 };
-
-struct lent {
-    WallmirrorPlan plan;
-    WallmirrorDraft draft;
-    uint8_t *cells, *functions, *file;
-    int32_t *heights;
-    uint32_t *list, *marks, *cell_list, *function_list;
-    size_t cells_len, functions_len, file_len, heights_len;
-    size_t list_len, marks_len, cell_list_len, function_list_len;
-};
+enum { MOST_MARKS = 3, ROOM = 2, VARIANTS = 3 };
 
 typedef WallmirrorAnswer (*Change)(WallmirrorPlan, uint8_t *, size_t, uint8_t *, size_t,
                                    WallmirrorDraft, const uint32_t *, size_t, const uint32_t *,
                                    size_t, uint32_t *, size_t, uint32_t *, size_t);
 typedef WallmirrorAnswer (*Carry)(WallmirrorPlan, uint8_t *, size_t, uint8_t *, size_t, int32_t *,
                                   size_t, WallmirrorDraft, const uint32_t *, size_t,
-                                  const uint32_t *, size_t, uint32_t *, size_t, uint32_t *, size_t);
-typedef WallmirrorAnswer (*Plain)(WallmirrorPlan, uint8_t *, size_t, uint8_t *, size_t,
                                   const uint32_t *, size_t, uint32_t *, size_t, uint32_t *, size_t);
 typedef WallmirrorAnswer (*PlainCarry)(WallmirrorPlan, uint8_t *, size_t, uint8_t *, size_t,
                                        int32_t *, size_t, const uint32_t *, size_t, uint32_t *,
@@ -52,59 +32,13 @@ static const Change changes[4] = {
     wallmirror_coarsen_cells_with_draft, wallmirror_coarsen_functions_with_draft};
 static const Carry carrying[2] = {wallmirror_refine_cells_with_heights_and_draft,
                                   wallmirror_refine_functions_with_heights_and_draft};
-static const Plain plain[4] = {wallmirror_refine_cells, wallmirror_refine_functions,
-                               wallmirror_coarsen_cells, wallmirror_coarsen_functions};
 static const PlainCarry plain_carrying[2] = {wallmirror_refine_cells_with_heights,
                                              wallmirror_refine_functions_with_heights};
 
-/* With cells 0, 1 and 3 refined. Cell 2 and function 10 can be refined, cell 3 and function 8 can
- * be coarsened, cell 7 is absent and function 0 deactivated, and cell 15 and function 29 are active
- * and of the last level. Cell 10 can be refined too, with another outcome than function 10. The
- * same mesh with five levels cannot have heights. */
-static const WallmirrorPlan shallow = WALLMIRROR_PLAN(3, 1, 3, 1, 1, 2),
-                            deep = WALLMIRROR_PLAN(3, 1, 5, 1, 1, 2);
+/* The mesh of watched.h with five levels cannot have heights. */
+static const WallmirrorPlan deep = WALLMIRROR_PLAN(3, 1, 5, 1, 1, 2);
 
-static uint8_t *pages[SLICES];
-static unsigned long accepted[KINDS], refused[WALLMIRROR_NO_DRAFT + 1], wrong;
-
-static void on_touch(int number)
-{
-    static const char said[] = "draft: what may only be read was written, or more than was lent\n";
-    (void)number;
-    if (write(2, said, sizeof said - 1) < 0)
-        _exit(4);
-    _exit(1);
-}
-
-static int make_pages(void)
-{
-    size_t page = (size_t)sysconf(_SC_PAGESIZE);
-    int slice;
-    if (SLICE_BYTES % page != 0)
-        return 0;
-    for (slice = 0; slice < SLICES; slice++) {
-        void *at = mmap(NULL, SLICE_BYTES + page, PROT_READ | PROT_WRITE,
-                        MAP_PRIVATE | MAP_ANONYMOUS, -1, 0);
-        if (at == MAP_FAILED)
-            return 0;
-        pages[slice] = (uint8_t *)at;
-        if (mprotect(pages[slice] + SLICE_BYTES, page, PROT_NONE) != 0)
-            return 0;
-    }
-    return 1;
-}
-
-static void allow(int slice, int access)
-{
-    if (mprotect(pages[slice], SLICE_BYTES, access) != 0)
-        _exit(3);
-}
-
-/* Where a slice of so many bytes begins that ends with its pages. */
-static void *end_of(int slice, size_t bytes)
-{
-    return pages[slice] + SLICE_BYTES - bytes;
-}
+static unsigned long accepted[KINDS];
 
 static int by_functions(int kind)
 {
@@ -299,27 +233,18 @@ static void try_refused(int kind, const struct lent *lent, uint32_t number)
     refused[number]++;
 }
 
-/* The pages before the call are kept. The call without a draft is made first, and then, with the
- * pages as they were, the one that is watched: both leave the same. */
+/* The call without a draft is made first, and then the one that is watched: both leave the same. */
 static void try_accepted(int kind, const struct lent *lent)
 {
-    static uint8_t before[SLICES][SLICE_BYTES], after[SLICES][SLICE_BYTES];
     WallmirrorClosed answer, expected;
     int slice;
-    for (slice = 0; slice < SLICES; slice++)
-        memcpy(before[slice], pages[slice], SLICE_BYTES);
+    keep_pages();
     expected = run_without(kind, lent);
-    for (slice = 0; slice < SLICES; slice++) {
-        memcpy(after[slice], pages[slice], SLICE_BYTES);
-        memcpy(pages[slice], before[slice], SLICE_BYTES);
+    take_back_pages();
+    for (slice = 0; slice < SLICES; slice++)
         allow(slice, writes(kind, slice) ? PROT_READ | PROT_WRITE : PROT_READ);
-    }
     answer = run(kind, lent);
-    for (slice = 0; slice < SLICES; slice++) {
-        allow(slice, PROT_READ | PROT_WRITE);
-        if (memcmp(pages[slice], after[slice], SLICE_BYTES) != 0)
-            wrong++;
-    }
+    expect_pages();
     if (answer.answer.number != WALLMIRROR_ACCEPTED || !same(answer, expected))
         wrong++;
     accepted[kind]++;
@@ -352,59 +277,27 @@ static void lend_mesh(struct lent *lent, WallmirrorPlan plan)
 /* A list of so many entries, all of them cell 2. */
 static void lend_list(struct lent *lent, size_t entries)
 {
-    size_t i;
     lent->list_len = entries;
-    lent->list = (uint32_t *)end_of(LIST, entries * sizeof *lent->list);
-    for (i = 0; i < entries; i++)
-        lent->list[i] = 2;
+    lent->list = lend_entries(LIST, 2, entries);
 }
 
-/* So many marks, all of them the one. */
-static void lend_marks(struct lent *lent, uint32_t mark, size_t many)
+static void lend_file(struct lent *lent, const uint8_t *file, size_t length)
 {
-    size_t i;
-    lent->marks_len = many;
-    lent->marks = (uint32_t *)end_of(MARKS, many * sizeof *lent->marks);
-    for (i = 0; i < many; i++)
-        lent->marks[i] = mark;
-}
-
-/* The mesh with cells 0, 1 and 3 refined. */
-static void lend_file(struct lent *lent)
-{
-    static const uint8_t file[10] = {3, 1, 3, 1, 1, 2, 3, 0, 1, 2};
-    lent->file_len = sizeof file;
-    lent->file = (uint8_t *)end_of(FILE_BYTES, sizeof file);
-    memcpy(lent->file, file, sizeof file);
+    lent->file_len = length;
+    lent->file = (uint8_t *)end_of(FILE_BYTES, length);
+    memcpy(lent->file, file, length);
 }
 
 /* What a call is to accept. The entries of the list past the marks of the draft are none. */
 static void lend(int kind, struct lent *lent, WallmirrorPlan plan, int variant)
 {
-    uint32_t refine = by_functions(kind) ? 10 : 2, coarsen = by_functions(kind) ? 8 : 3;
     lend_mesh(lent, plan);
     lend_list(lent, MOST_MARKS + ROOM);
     memset(lent->list + MOST_MARKS, 0xff, ROOM * sizeof *lent->list);
-    lend_marks(lent, coarsens(kind) ? coarsen : refine, ROOM);
-    lend_file(lent);
+    lend_marks(lent, good_mark(by_functions(kind), coarsens(kind)), ROOM);
+    lend_file(lent, shallow_file, sizeof shallow_file);
     lent->draft = takes_open(kind) ? open_draft(variant, MOST_MARKS)
                                    : no_draft(variant, lent->list_len);
-}
-
-/* The faults of an input. They are made from the last to the first, and none mends another. */
-static void bad_plan(int kind, struct lent *lent, int variant)
-{
-    (void)kind;
-    (void)variant;
-    lent->plan.columns = 17;
-}
-
-static void large_plan(int kind, struct lent *lent, int variant)
-{
-    (void)kind;
-    (void)variant;
-    lent->plan.columns = lent->plan.rows = 16;
-    lent->plan.levels = 8;
 }
 
 static void short_table(int kind, struct lent *lent, int variant)
@@ -433,13 +326,6 @@ static void not_admissible(int kind, struct lent *lent, int variant)
     lent->cells[1] = WALLMIRROR_CELL_ACTIVE;
     for (i = 0; i < 4; i++)
         lent->cells[children[i]] = WALLMIRROR_CELL_ABSENT;
-}
-
-static void wrong_function(int kind, struct lent *lent, int variant)
-{
-    (void)kind;
-    (void)variant;
-    lent->functions[0] = 3;
 }
 
 /* 18, or 19. */
@@ -477,10 +363,8 @@ static void great_height(int kind, struct lent *lent, int variant)
  * the last level. */
 static void bad_mark(int kind, struct lent *lent, int variant)
 {
-    static const uint32_t marks[2][VARIANTS] = {{UINT32_MAX, 7, 15}, {UINT32_MAX, 0, 29}};
-    uint32_t mark = marks[by_functions(kind)][variant];
-    if (coarsens(kind) && variant == 1)
-        mark = by_functions(kind) ? 2 : 0; /* active, or with a refined child */
+    uint32_t mark = bad_mark_of(by_functions(kind), coarsens(kind),
+                                WALLMIRROR_MARK_OUT_OF_RANGE + (uint32_t)variant);
     if (kind == CLOSE)
         lent->list[MOST_MARKS - 1] = mark;
     else
@@ -497,13 +381,6 @@ static void short_cell_list(int kind, struct lent *lent, int variant)
         lent->cell_list_len = 0;
 }
 
-static void short_function_list(int kind, struct lent *lent, int variant)
-{
-    (void)kind;
-    (void)variant;
-    lent->function_list_len = 0;
-}
-
 /* Function 2, which becomes deactivated, passes half of its height to a function of level 1 that is
  * as high as it may be. */
 static void great_carried(int kind, struct lent *lent, int variant)
@@ -516,20 +393,7 @@ static void great_carried(int kind, struct lent *lent, int variant)
         lent->heights[i] = WALLMIRROR_MAX_HEIGHT_MM << 4;
 }
 
-struct fault {
-    uint32_t number;
-    void (*make)(int kind, struct lent *lent, int variant);
-};
-
 enum { FAULTS = 14 };
-
-static size_t put(struct fault *faults, size_t n, uint32_t number,
-                  void (*make)(int, struct lent *, int))
-{
-    faults[n].number = number;
-    faults[n].make = make;
-    return n + 1;
-}
 
 /* The faults that a call refuses, in the order of the header. Which mark is bad is the variant. */
 static size_t faults_of(int kind, int variant, struct fault *faults)
@@ -607,9 +471,7 @@ static void try_read(WallmirrorDraft draft)
     for (i = 0; i < FILES; i++) {
         lend(READ_MESH, &lent, shallow, 0);
         lent.draft = draft;
-        lent.file_len = lengths[i];
-        lent.file = (uint8_t *)end_of(FILE_BYTES, lengths[i]);
-        memcpy(lent.file, files[i], lengths[i]);
+        lend_file(&lent, files[i], lengths[i]);
         if (numbers[i] != WALLMIRROR_ACCEPTED) {
             try_refused(READ_MESH, &lent, numbers[i]);
             continue;
@@ -774,14 +636,7 @@ int main(void)
         "wallmirror_coarsen_functions_with_draft", "wallmirror_refine_cells_with_heights_and_draft",
         "wallmirror_refine_functions_with_heights_and_draft", "wallmirror_open_with_draft",
         "wallmirror_read_with_draft"};
-    struct sigaction action;
-    size_t number;
     int kind, variant;
-    memset(&action, 0, sizeof action);
-    action.sa_handler = on_touch;
-    sigemptyset(&action.sa_mask);
-    if (sigaction(SIGSEGV, &action, NULL) != 0 || sigaction(SIGBUS, &action, NULL) != 0)
-        return 2;
     if (!make_pages()) {
         fprintf(stderr, "draft: no pages\n");
         return 2;
@@ -803,10 +658,5 @@ int main(void)
     try_nothing();
     for (kind = 0; kind < KINDS; kind++)
         printf("%s: %lu accepted\n", names[kind], accepted[kind]);
-    for (number = 1; number < sizeof refused / sizeof *refused; number++)
-        if (refused[number] != 0)
-            printf("%lu calls refused with %lu, and not a byte written\n", refused[number],
-                   (unsigned long)number);
-    printf("%lu wrong\n", wrong);
-    return wrong != 0;
+    return print_refused();
 }
