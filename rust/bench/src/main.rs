@@ -3,19 +3,21 @@
 //! calls follow on meshes with corners, for which there are no goals, and on meshes with heights
 //! the height at a point, and refining with heights and without. Then, for the smallest meshes,
 //! what the height at one point takes, and for the largest that the projector takes, what the
-//! corners of their cells take. Last, without goals, what calls with a draft take beside calls
-//! without one, on the first meshes again. Run it in release mode:
-//! `cargo run --release --offline -p bench`.
+//! corners of their cells take. Last, on the first meshes again, what calls with a draft take beside
+//! calls without one, without goals, and what calls on planes take beside calls on bytes. Run it in
+//! release mode: `cargo run --release --offline -p bench`.
 //!
 //! The times are the least of many rounds. Library, C and reading take turns, so that a ratio
 //! compares what ran under the same conditions.
 
 mod drafts;
+mod planes;
 mod versions;
 
 use differential::scenario::{self, Scenario};
 use differential::{has_corners, plan, Kind, Tables};
 use model::{projector::Corner, shape::refine_with_heights, Plan};
+use planes::Ratio;
 use std::hint::black_box;
 use std::time::{Duration, Instant};
 use versions::{agree, Buffers, Call, LIBRARY, TUNED};
@@ -126,12 +128,7 @@ impl Row {
     }
 
     fn said(&self) -> String {
-        let marks = match self.marks {
-            0 => String::new(),
-            1 => " with one mark".to_string(),
-            many => format!(" with {many} marks"),
-        };
-        format!("{}{marks}: {}", self.call.name(), self.place)
+        said(self.call, self.marks, &self.place)
     }
 
     fn print(&self) {
@@ -153,6 +150,16 @@ impl Row {
     }
 }
 
+/// A call with so many marks on a mesh, in words.
+fn said(call: Call, marks: usize, place: &str) -> String {
+    let marks = match marks {
+        0 => String::new(),
+        1 => " with one mark".to_string(),
+        many => format!(" with {many} marks"),
+    };
+    format!("{}{marks}: {place}", call.name())
+}
+
 fn main() {
     if cfg!(debug_assertions) {
         eprintln!("bench: these are times of a debug build; use cargo run --release");
@@ -171,7 +178,9 @@ fn main() {
     let points = measure_points();
     let projected = measure_projected(&points);
     drafts::measure(&scenarios);
-    print_summary(&rows, &points.map(|[.., four]| four.to_tuned()), &projected);
+    let on_planes = planes::measure(&scenarios);
+    print_summary(&rows, &points.map(|[.., four]| four.to_tuned()), &projected, &on_planes);
+    planes::print_summary(&on_planes);
     print_summary_of_corners(&cornered);
 }
 
@@ -508,7 +517,7 @@ fn measure_projected(points: &[[Point; 4]; 2]) -> Vec<Projected> {
     all
 }
 
-fn print_summary(rows: &[Row], points: &[f64], projected: &[Projected]) {
+fn print_summary(rows: &[Row], points: &[f64], projected: &[Projected], on_planes: &[Ratio]) {
     for row in rows.iter().filter(|row| row.misses()) {
         let most = row.goal().map_or(0.0, Goal::most);
         println!("missed: {:.1} times reading, not {most:.0}, {}", row.to_read(), row.said());
@@ -522,9 +531,14 @@ fn print_summary(rows: &[Row], points: &[f64], projected: &[Projected]) {
         let (ratio, place) = (row.to_height(), &row.place);
         println!("missed: {ratio:.1} heights of C, not {:.0}, corners: {place}", Projected::MOST);
     }
-    let missed = rows.iter().filter(|row| row.misses()).count() + slow.len() + slowest.count();
+    let over = on_planes.iter().filter(|ratio| ratio.misses());
+    for ratio in over.clone() {
+        println!("missed: {}", ratio.said());
+    }
+    let missed = rows.iter().filter(|row| row.misses()).count() + slow.len();
+    let missed = missed + slowest.count() + over.count();
     let with_goal = rows.iter().filter(|row| row.goal().is_some()).count();
-    let goals = with_goal + points.len() + projected.len();
+    let goals = with_goal + points.len() + projected.len() + on_planes.len();
     println!("{missed} of {goals} goals missed");
     for goal in Goal::ALL {
         let of_goal: Vec<&Row> = rows.iter().filter(|row| row.goal() == Some(goal)).collect();
