@@ -26,7 +26,7 @@ use Rattle.packing.specs.Packing.{Small}
 use Rattle.plane_calls.specs.Steps.{InRoom}
 use Rattle.plane_calls.proofs.Rooms.{small-of, same-words, held-cells, cells-are}
 
--- ---- a room: the cells, and behind them the bytes of spare bits
+-- ---- a room: the cells, and after them the bytes of spare bits
 
 module _ {p : Plan} {P R fs : List ℕ} (h : Held p P R fs) (cs : List ℕ) (size : length cs ≡ cellTotal p) where
   abbrev room : List ℕ
@@ -35,7 +35,7 @@ module _ {p : Plan} {P R fs : List ℕ} (h : Held p P R fs) (cs : List ℕ) (siz
   pub room-length : length room ≡ 64 * length P
   room-length = omega (arith, length-append cs (drop (cellTotal p) (bytesOf (64 * length P) P R)), length-drop (cellTotal p) (bytesOf (64 * length P) P R), length-bytes (64 * length P) P R, held-cells h)
 
-  -- a byte of the room is one of the table, which has none behind its end
+  -- a byte of the room is one of the table, which has none after its end
   spare-byte : (c : ℕ) → cellTotal p ≤ c → c < 64 * length P → byteOf P R c ≡ 0
   unfolding byteOf
   spare-byte c l m =

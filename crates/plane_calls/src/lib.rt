@@ -183,7 +183,7 @@ pub fn open(plan: Plan, present: &mut [u64], refined: &mut [u64], functions: &mu
     number
 }
 
-// A call on the cells that a room begins with. What stands behind them stays.
+// A call on the cells that a room begins with. What stands after them stays.
 fn change_bytes(
     checked: u32,
     call: Call,

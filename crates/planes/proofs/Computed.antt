@@ -109,6 +109,10 @@ full = 0xffff_ffff_ffff_ffff
 abbrev B : Plan
 B = plan 4 4 2 1 1 0
 
+-- 65 cells on two levels: 13, and 26 by 2 from 13 on
+abbrev E : Plan
+E = plan 13 1 2 1 1 0
+
 -- 10 cells on two levels: two, and 4 by 2 from 2 on
 abbrev S : Plan
 S = plan 2 1 2 1 1 0
@@ -179,6 +183,8 @@ table =
     ∷ changes coarsen functions (found W0 (0x1e7f ∷ []) (3 ∷ []) (refining W0 (0 ∷ 1 ∷ []) .functions)) (0 ∷ 1 ∷ 4 ∷ 5 ∷ []) 2 4 (0 ∷ 1 ∷ []) (0 ∷ 1 ∷ 4 ∷ 5 ∷ []) (7 ∷ []) (0 ∷ []) []
     -- planes of two words
     ∷ changes refine cells (found B (0xffff ∷ 0 ∷ []) (0 ∷ 0 ∷ []) (fresh B .functions)) (15 ∷ 0 ∷ []) 3 3 (0 ∷ 15 ∷ []) (0 ∷ 24 ∷ []) (0x303_ffff ∷ 0xc0c0 ∷ []) (0x8001 ∷ 0 ∷ []) (0 ∷ 24 ∷ [])
+    -- at a word's edge: of the children of 12, which are 37, 38, 63 and 64, the last is the first bit of the second word
+    ∷ changes refine cells (found E (0x1fff ∷ 0 ∷ []) (0 ∷ 0 ∷ []) (fresh E .functions)) (12 ∷ []) 2 3 (12 ∷ []) (13 ∷ 27 ∷ []) (0x8000_0060_0000_1fff ∷ 1 ∷ []) (0x1000 ∷ 0 ∷ []) (13 ∷ 27 ∷ [])
     -- refused for the planes, for what they hold, for a mark, for the lists
     ∷ refuses refine cells (found W0 (7 ∷ []) (8 ∷ []) (replicate 93 1)) (63 ∷ []) 0 0 3
     ∷ refuses refine cells (found W0 (0x8000_0000_0000_0007 ∷ []) (0 ∷ []) (fresh W0 .functions)) (63 ∷ []) 0 0 4

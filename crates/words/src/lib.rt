@@ -20,7 +20,7 @@ fn is_within(present: &[u64], refined: &[u64]) -> bool
     ok
 }
 
-// Whether the bits behind the last cell are 0.
+// Whether the bits after the last cell are 0.
 fn has_no_spare(plane: &[u64], total: usize) -> bool
     requires { ⌜ length (now plane) ≡ wordsFor total ⌝ }
     ensures { λ r. ⌜ r ≡ noSpare total (now (plane .entry)) ⌝ }
@@ -32,7 +32,7 @@ fn has_no_spare(plane: &[u64], total: usize) -> bool
     plane[total / 64] >> over == 0
 }
 
-// Whether planes of so many cells are in order. No cell is refined behind the last one if none is present there.
+// Whether planes of so many cells are in order. No bit after the last cell is refined if none is present there.
 pub fn in_order(present: &[u64], refined: &[u64], total: usize) -> bool
     requires { ⌜ (length (now present) ≡ wordsFor total) × (length (now refined) ≡ wordsFor total) ⌝ }
     ensures { λ r. ⌜ r ≡ inOrder total (now (present .entry)) (now (refined .entry)) ⌝ }
