@@ -19,6 +19,7 @@ pub mod draft;
 pub mod file;
 pub mod height;
 pub mod knots;
+pub mod planes;
 pub mod projector;
 pub mod session;
 pub mod shape;
