@@ -1,7 +1,7 @@
 //! Refining and coarsening calls: plain, with heights, with a draft, or with both.
 
 use crate::draft::{lent_list, raw_draft};
-use crate::{accepted, overwritten, raw, refused, Kind, Lent, Outcome, Slice, Tables};
+use crate::{accepted, overwritten, raw, refused, Changing, Kind, Lent, Outcome, Slice, Tables};
 use model::draft::Draft;
 use model::shape::refine_with_heights;
 use model::Plan;
@@ -131,6 +131,34 @@ impl Lending {
     }
 }
 
+impl Changing for Tables {
+    fn call(
+        &mut self,
+        kind: Kind,
+        marks: &[u32],
+        cell_list: &[u32],
+        function_list: &[u32],
+    ) -> Outcome {
+        self.call(kind, marks, cell_list, function_list)
+    }
+}
+
+/// The answer is the expected one.
+pub(crate) fn expect_answer(
+    answer: ffi::Answer,
+    expected: Result<&model::Change, u32>,
+    said: &dyn Fn() -> String,
+) -> Outcome {
+    let outcome = match expected {
+        Err(number) => refused(number),
+        Ok(change) => accepted(&change.cell_list, &change.function_list),
+    };
+    let lengths = (outcome.cells.len() as u32, outcome.functions.len() as u32);
+    let (number, cells, functions) = (outcome.number, lengths.0, lengths.1);
+    assert_eq!(answer, ffi::Answer { number, cells, functions }, "{}", said());
+    outcome
+}
+
 impl Tables {
     /// Runs one of the four calls with the lists as lent. The tables are then as it left them.
     pub fn call(
@@ -230,13 +258,7 @@ impl Tables {
         expected: Result<model::Change, u32>,
         said: &dyn Fn() -> String,
     ) -> Outcome {
-        let outcome = match &expected {
-            Err(number) => refused(*number),
-            Ok(change) => accepted(&change.cell_list, &change.function_list),
-        };
-        let lengths = (outcome.cells.len() as u32, outcome.functions.len() as u32);
-        let (number, cells, functions) = (outcome.number, lengths.0, lengths.1);
-        assert_eq!(answer, ffi::Answer { number, cells, functions }, "{}", said());
+        let outcome = expect_answer(answer, expected.as_ref().map_err(|&number| number), said);
         if let Ok(change) = expected {
             if kind.refines() {
                 self.expect_cost(kind, marks, &change.cell_list, said);

@@ -7,8 +7,11 @@ use wallmirror::{ffi, Refusal, MAX_FILE_BYTES};
 
 pub mod change;
 pub mod draft;
+pub mod order;
 pub mod pages;
+pub mod planes;
 pub mod scenario;
+pub mod seen;
 mod slices;
 pub mod surface;
 
@@ -133,6 +136,16 @@ impl Kind {
         }
     }
 
+    /// The call on planes.
+    pub fn of_planes(self) -> ffi::ChangeOfPlanes {
+        match self {
+            RefineCells => ffi::wallmirror_planes_refine_cells,
+            RefineFunctions => ffi::wallmirror_planes_refine_functions,
+            CoarsenCells => ffi::wallmirror_planes_coarsen_cells,
+            CoarsenFunctions => ffi::wallmirror_planes_coarsen_functions,
+        }
+    }
+
     pub fn of_model(self) -> model::Call {
         match self {
             RefineCells => model::refine_cells,
@@ -190,6 +203,20 @@ pub fn raw(plan: Plan) -> ffi::Plan {
         admissibility_class: plan.class,
         corners_across: plan.corners_across,
         corners_up: plan.corners_up,
+    }
+}
+
+/// What the library answers where the model counts so.
+fn raw_count(counted: Result<model::Count, u32>) -> ffi::Count {
+    match counted {
+        Err(number) => ffi::Count { number, ..ffi::Count::default() },
+        Ok(count) => ffi::Count {
+            number: 0,
+            active_cells: count.active_cells,
+            refined_cells: count.refined_cells,
+            active_functions: count.active_functions,
+            area: count.area,
+        },
     }
 }
 
@@ -384,17 +411,8 @@ impl Tables {
                 functions.len(),
             )
         };
-        let expected = match model::count(self.plan, &self.cells, &self.functions) {
-            Err(number) => ffi::Count { number, ..ffi::Count::default() },
-            Ok(count) => ffi::Count {
-                number: 0,
-                active_cells: count.active_cells,
-                refined_cells: count.refined_cells,
-                active_functions: count.active_functions,
-                area: count.area,
-            },
-        };
-        assert_eq!(count, expected, "{}", said());
+        let expected = model::count(self.plan, &self.cells, &self.functions);
+        assert_eq!(count, raw_count(expected), "{}", said());
         cells.expect(&self.cells, "cell table", &said);
         functions.expect(&self.functions, "function table", &said);
         count
@@ -649,27 +667,39 @@ fn overwritten<T: Copy>(list: &[T], first: &[T]) -> Vec<T> {
     list
 }
 
+/// A mesh that refining and coarsening calls change, however its cells are held.
+pub trait Changing {
+    /// Runs one of the four calls with the lists as lent.
+    fn call(
+        &mut self,
+        kind: Kind,
+        marks: &[u32],
+        cell_list: &[u32],
+        function_list: &[u32],
+    ) -> Outcome;
+}
+
 /// A call of a run with what it answered.
 pub type Log = Vec<(Kind, Outcome)>;
 
 /// Takes a run back by its cell lists, each lent list longer than needed by `spare` entries of
 /// garbage, and sees that every call is accepted and names what the call it takes back named.
-pub fn undo_by_cells(tables: &mut Tables, log: &Log, spare: usize, random: &mut Random) {
+pub fn undo_by_cells(mesh: &mut impl Changing, log: &Log, spare: usize, random: &mut Random) {
     for (kind, outcome) in log.iter().rev() {
         let cell_list = random.numbers(outcome.cells.len() + spare);
         let function_list = random.numbers(outcome.functions.len() + spare);
-        let undone = tables.call(kind.opposite(), &outcome.cells, &cell_list, &function_list);
+        let undone = mesh.call(kind.opposite(), &outcome.cells, &cell_list, &function_list);
         assert_eq!(undone, Outcome { number: 0, ..outcome.clone() });
     }
 }
 
 /// The same by function lists, for a run of refinements by functions in class 0.
-pub fn undo_by_functions(tables: &mut Tables, log: &Log, spare: usize, random: &mut Random) {
+pub fn undo_by_functions(mesh: &mut impl Changing, log: &Log, spare: usize, random: &mut Random) {
     for (kind, outcome) in log.iter().rev() {
         assert_eq!(*kind, RefineFunctions);
         let cell_list = random.numbers(outcome.cells.len() + spare);
         let function_list = random.numbers(outcome.functions.len() + spare);
-        let undone = tables.call(CoarsenFunctions, &outcome.functions, &cell_list, &function_list);
+        let undone = mesh.call(CoarsenFunctions, &outcome.functions, &cell_list, &function_list);
         assert_eq!(undone, Outcome { number: 0, ..outcome.clone() });
     }
 }

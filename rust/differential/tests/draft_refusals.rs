@@ -2,13 +2,15 @@
 //! held to them; the order of all refusals of each call; and the largest drafts.
 
 use differential::draft::{Call, Input};
+use differential::order::{
+    expect_each_two, expect_in_order, good_marks, of_lists, of_marks, refine_alone, REFINED_CELLS,
+    W2,
+};
 use differential::surface::{heights_with, mesh};
 use differential::{accepted, all_corners, plan, refused, scenario, Kind, Tables};
 use model::draft::Draft;
-use model::{Cell, Plan, ACTIVE, REFINED};
+use model::{Plan, ACTIVE};
 use Kind::*;
-
-const W2: [u32; 6] = [3, 1, 3, 1, 1, 2];
 
 fn draft(open: u32, marks: usize, list: &[u32]) -> Draft {
     Draft { open, marks, list: list.to_vec() }
@@ -255,8 +257,7 @@ fn a_draft_after_the_tables() {
 
 // ---- The order of all refusals ----
 
-/// Something that is put wrong, so that a call gives this refusal where nothing else is.
-type Fault = (u32, fn(&mut Input));
+type Fault = differential::order::Fault<Input>;
 
 /// Those of every call on tables, in the order in which they are tried.
 const OF_TABLES: [Fault; 6] = [
@@ -270,19 +271,6 @@ const OF_TABLES: [Fault; 6] = [
     (5, |input| refine_alone(&mut input.tables)),
     (6, |input| input.tables.functions[0] ^= 3),
 ];
-
-/// Refines a cell whose neighbourhood is not, and nothing else.
-fn refine_alone(tables: &mut Tables) {
-    let plan = tables.plan;
-    let byte = |cell: Cell| tables.cells[plan.cell_number(cell)];
-    let lacks = |cell| plan.neighbourhood(cell).into_iter().any(|near| byte(near) != REFINED);
-    let refinable = |cell: Cell| byte(cell) == ACTIVE && cell.level + 1 < plan.levels;
-    let cell = plan.cells().find(|&cell| refinable(cell) && lacks(cell)).expect("a cell");
-    tables.cells[plan.cell_number(cell)] = REFINED;
-    for child in plan.children(cell) {
-        tables.cells[plan.cell_number(child)] = ACTIVE;
-    }
-}
 
 const DRAFT_OPEN: Fault = (18, |input| input.draft = full(&[3]));
 const NONE_OPEN: Fault = (19, |input| input.draft.open = 0);
@@ -311,64 +299,43 @@ const CARRIED_TOO_HIGH: Fault = (17, |input| {
     input.heights = labels.map(height).collect();
 });
 
-const OF_LISTS: [Fault; 2] =
-    [(10, |input| input.cell_list.clear()), (11, |input| input.function_list.clear())];
-
-/// Marks at fault, each before those that are there: the first one decides.
-fn marked(input: &mut Input, mark: u32) {
-    input.marks.insert(0, mark);
-}
-
-/// The same in the list of the draft.
+/// Marks at fault in the list of the draft, as those of a refinement.
 fn collected(input: &mut Input, mark: u32) {
     input.draft.list.insert(0, mark);
     input.draft.marks += 1;
 }
 
-/// Of the mesh below: cell 15 is of the last level and active, 17 of the last level and absent.
-const OF_MARKS: [Fault; 3] =
-    [(7, |i| marked(i, 63)), (8, |i| marked(i, 17)), (9, |i| marked(i, 15))];
 const OF_COLLECTED: [Fault; 3] =
     [(7, |i| collected(i, 63)), (8, |i| collected(i, 17)), (9, |i| collected(i, 15))];
-
-/// Function 29 lies over cell 15 alone and is active, 93 is passive.
-const OF_FUNCTIONS: [Fault; 3] =
-    [(7, |i| marked(i, 94)), (8, |i| marked(i, 93)), (9, |i| marked(i, 29))];
-
-/// Cell 4 is active, function 93 passive.
-const OF_REFINED: [Fault; 2] = [(7, |i| marked(i, u32::MAX)), (8, |i| marked(i, 4))];
-const OF_DEACTIVATED: [Fault; 2] = [(7, |i| marked(i, u32::MAX)), (8, |i| marked(i, 93))];
 
 /// All faults of a call, in the order in which they are to be found, and marks that it takes on the
 /// mesh below.
 fn faults(call: Call) -> (Vec<Fault>, Vec<u32>) {
-    let (of_tables, of_heights, of_lists) = (&OF_TABLES[..], &OF_HEIGHTS[..], &OF_LISTS[..]);
-    let (after, marks): (&[&[Fault]], _) = match call {
-        Call::Open => (&[&[DRAFT_OPEN]], vec![]),
-        Call::Drop => (&[&[NONE_OPEN]], vec![]),
+    let (after, marks): (Vec<Fault>, _) = match call {
+        Call::Open => (vec![DRAFT_OPEN], vec![]),
+        Call::Drop => (vec![NONE_OPEN], vec![]),
         Call::Add => {
             let too_short: Fault = (10, |input| input.draft.list.truncate(input.draft.marks + 1));
-            (&[&[NONE_OPEN], &OF_MARKS, &[too_short]], vec![2, 4])
+            ([vec![NONE_OPEN], of_marks(RefineCells), vec![too_short]].concat(), vec![2, 4])
         }
-        Call::Close => (&[&[NONE_OPEN], &OF_COLLECTED, of_lists], vec![]),
-        Call::Change(RefineCells) => (&[&[DRAFT_OPEN], &OF_MARKS, of_lists], vec![2]),
-        Call::Change(RefineFunctions) => (&[&[DRAFT_OPEN], &OF_FUNCTIONS, of_lists], vec![2]),
-        Call::Change(CoarsenCells) => (&[&[DRAFT_OPEN], &OF_REFINED, of_lists], vec![3]),
-        Call::Change(CoarsenFunctions) => (&[&[DRAFT_OPEN], &OF_DEACTIVATED, of_lists], vec![8]),
+        Call::Close => ([vec![NONE_OPEN], OF_COLLECTED.to_vec(), of_lists()].concat(), vec![]),
+        Call::Change(kind) => {
+            ([vec![DRAFT_OPEN], of_marks(kind), of_lists()].concat(), good_marks(kind))
+        }
         Call::WithHeights(kind) => {
-            let of_marks = if kind == RefineCells { &OF_MARKS } else { &OF_FUNCTIONS };
-            let after = [&[DRAFT_OPEN], of_heights, of_marks, of_lists, &[CARRIED_TOO_HIGH]];
-            return ([of_tables, &after.concat()].concat(), vec![2]);
+            let of_heights = [&[DRAFT_OPEN][..], &OF_HEIGHTS].concat();
+            let after = [of_heights, of_marks(kind), of_lists(), vec![CARRIED_TOO_HIGH]];
+            (after.concat(), good_marks(kind))
         }
         Call::OpenMesh => return (OF_TABLES[..3].to_vec(), vec![]),
         Call::ReadMesh => panic!("reading has an order of its own"),
     };
-    ([of_tables, &after.concat()].concat(), marks)
+    ([OF_TABLES.to_vec(), after].concat(), marks)
 }
 
 /// W2 with cells 0, 1 and 3 refined, and a draft with a mark where the call needs or ends one.
 fn good_input(call: Call, marks: Vec<u32>) -> Input {
-    let mut input = Input::new(mesh(W2, &[0, 1, 3]));
+    let mut input = Input::new(mesh(W2, &REFINED_CELLS));
     input.marks = marks;
     input.draft = match call {
         Call::Add | Call::Close | Call::Drop | Call::OpenMesh => draft(1, 1, &[2, 9, 9]),
@@ -377,35 +344,13 @@ fn good_input(call: Call, marks: Vec<u32>) -> Input {
     input
 }
 
-/// With all faults, then without the first, then without the first two, until there is none.
-fn expect_in_order(call: Call, good: &Input, faults: &[Fault]) {
-    for mended in 0..=faults.len() {
-        let mut input = good.clone();
-        for (_, fault) in faults[mended..].iter().rev() {
-            fault(&mut input);
-        }
-        let before = input.clone();
-        let number = faults.get(mended).map_or(0, |fault| fault.0);
-        let outcome = input.make(call);
-        assert_eq!(outcome.number, number, "{call:?} with {mended} mended");
-        before.expect_on_pages(call, &outcome, &input);
-        assert!(number == 0 || input == before, "{call:?} refused with {number}");
-    }
-}
-
 #[test]
 fn every_call_in_its_order() {
     for call in Call::ALL.into_iter().filter(|&call| call != Call::ReadMesh) {
         let (faults, marks) = faults(call);
         let good = good_input(call, marks);
         expect_in_order(call, &good, &faults);
-        // Each fault alone, and any two of them: the earlier one is found.
-        for (i, &first) in faults.iter().enumerate() {
-            expect_in_order(call, &good, &[first]);
-            for &second in &faults[i + 1..] {
-                expect_in_order(call, &good, &[first, second]);
-            }
-        }
+        expect_each_two(call, &good, &faults);
     }
 }
 

@@ -3,6 +3,7 @@
 
 use differential::draft::{Call, Input};
 use differential::scenario;
+use differential::seen::Seen;
 use differential::surface::{damage, random_heights, with_heights, Fill, DAMAGES, DEGREES};
 use differential::{
     all_admissible, has_corners, plan, random_marks, random_plan, random_refined, random_start,
@@ -11,35 +12,6 @@ use differential::{
 use model::draft::Draft;
 use model::Plan;
 use Kind::*;
-
-/// How often each call answered each number.
-struct Seen([[u32; 20]; Call::ALL.len()]);
-
-impl Seen {
-    fn new() -> Seen {
-        Seen([[0; 20]; Call::ALL.len()])
-    }
-
-    fn of(&mut self, call: Call) -> &mut [u32; 20] {
-        let row = Call::ALL.iter().position(|&other| other == call).expect("a call");
-        &mut self.0[row]
-    }
-
-    fn count(&mut self, call: Call, number: u32) {
-        self.of(call)[number as usize] += 1;
-    }
-
-    /// Every call was accepted, gave each refusal that it can give, and no other.
-    fn expect_all(&self) {
-        for (call, seen) in Call::ALL.into_iter().zip(self.0) {
-            let numbers = refusals(call);
-            for (number, often) in (0..).zip(seen) {
-                let can = number == 0 || numbers.contains(&number);
-                assert_eq!(often > 0, can, "{call:?}: {number} of {seen:?}");
-            }
-        }
-    }
-}
 
 /// The refusals that a call can give.
 fn refusals(call: Call) -> Vec<u32> {
@@ -171,7 +143,7 @@ impl Run {
     }
 
     /// One call of the run, which is held to the model in all that it answers and leaves.
-    fn turn(&mut self, random: &mut Random, seen: &mut Seen) {
+    fn turn(&mut self, random: &mut Random, seen: &mut Seen<Call>) {
         if random.once_in(12) {
             self.disturb(random);
         }
@@ -244,7 +216,7 @@ fn random_file(random: &mut Random, plan: Plan) -> Vec<u8> {
 /// A run on the plan. One without other meshes is taken back: the opposite calls by cells, without
 /// a draft, are each accepted with the same lists, and the first tables are there again. Answers how
 /// many cells were listed.
-fn run(random: &mut Random, plan: Plan, other_meshes: bool, seen: &mut Seen) -> usize {
+fn run(random: &mut Random, plan: Plan, other_meshes: bool, seen: &mut Seen<Call>) -> usize {
     let first = random_start(random, plan);
     let mut run = Run::new(random, first.clone(), other_meshes);
     for _ in 0..random.below(40) + 20 {
@@ -262,7 +234,7 @@ fn run(random: &mut Random, plan: Plan, other_meshes: bool, seen: &mut Seen) -> 
 
 /// Runs on plans of all degrees and this class; the surface of every other one has heights. Answers
 /// how many cells were listed in those that were taken back, and how many plans had corners.
-fn runs(random: &mut Random, class: u32, seen: &mut Seen) -> (usize, usize) {
+fn runs(random: &mut Random, class: u32, seen: &mut Seen<Call>) -> (usize, usize) {
     let (mut taken_back, mut cornered) = (0, 0);
     for degrees in (1..=4).flat_map(|across| (1..=4).map(move |up| (across, up))).cycle().take(96) {
         let most = random.pick(&[30, 100, 400, 1500]);
@@ -280,12 +252,12 @@ fn runs(random: &mut Random, class: u32, seen: &mut Seen) -> (usize, usize) {
 #[test]
 fn calls_in_every_order() {
     let mut random = Random::new(1000);
-    let mut seen = Seen::new();
+    let mut seen = Seen::new(&Call::ALL);
     for class in [0, 2, 3, 4, 5, 6, 7, 8] {
         let (taken_back, cornered) = runs(&mut random, class, &mut seen);
         assert!(taken_back > 1000 && cornered > 20, "{class}: {taken_back} {cornered}");
     }
-    seen.expect_all();
+    seen.expect_all(refusals);
 }
 
 /// All lists of at most so many entries below n.
@@ -307,7 +279,7 @@ fn all_lists(most: usize, n: u32) -> Vec<Vec<u32>> {
 /// few marks, in range or just beyond it.
 #[test]
 fn every_small_draft() {
-    let mut seen = Seen::new();
+    let mut seen = Seen::new(&Call::ALL);
     for (numbers, entries) in [([1, 1, 2, 2, 1, 2], 2), ([2, 1, 2, 1, 1, 0], 1)] {
         for tables in all_admissible(plan(numbers)) {
             let beyond = tables.cells.len() as u32 + 1;
@@ -336,9 +308,7 @@ fn every_small_draft() {
         (Call::Close, &[0, 7, 8, 9, 19]),
         (Call::Drop, &[0, 19]),
     ] {
-        for (number, &often) in (0..).zip(seen.of(call).iter()) {
-            assert_eq!(often > 0, numbers.contains(&number), "{call:?}: {number}");
-        }
+        seen.expect(call, numbers);
     }
 }
 
@@ -549,7 +519,7 @@ fn make_without_draft(input: &mut Input, call: Call) -> Outcome {
 #[test]
 fn with_none_open_as_without_a_draft() {
     let mut random = Random::new(1005);
-    let mut seen = Seen::new();
+    let mut seen = Seen::new(&Call::ALL);
     for turn in 0..2000 {
         let class = [0, 2, 3][turn % 3];
         let degrees = random.pick(&[(1, 1), (2, 1), (1, 2), (2, 2), (3, 1), (4, 4)]);

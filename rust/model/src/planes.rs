@@ -57,10 +57,10 @@ impl Planes {
     /// Whether no bit after those of so many cells is set, and every refined cell is present. For
     /// planes of the same length.
     pub fn are_in_order(&self, cells: usize) -> bool {
-        (0..self.present.len() * BITS).all(|bit| {
-            let (present, refined) = (has(&self.present, bit), has(&self.refined, bit));
-            (bit < cells || !present && !refined) && (present || !refined)
-        })
+        let end = self.present.len() * BITS;
+        let (present, refined) = (|bit| has(&self.present, bit), |bit| has(&self.refined, bit));
+        (cells..end).all(|spare| !present(spare) && !refined(spare))
+            && (0..end).filter(|&bit| refined(bit)).all(present)
     }
 
     /// How many words each has.
