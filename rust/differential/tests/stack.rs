@@ -3,6 +3,7 @@
 
 use differential::change::{Change, Lending};
 use differential::pages::{Access, Pages, PAGE};
+use differential::planes::{self, OnPlanes};
 use differential::scenario::{self, Scenario};
 use differential::{raw, Kind, Tables};
 use model::draft::Draft;
@@ -23,6 +24,7 @@ fn each_call(scenarios: &[Scenario], mut visit: impl FnMut(&str, &str, Ready)) {
     for scenario in scenarios {
         for tables in [&scenario.to_refine, &scenario.to_coarsen] {
             each_call_without_marks(tables, &scenario.to_string(), &mut visit);
+            each_call_on_planes(tables, &scenario.to_string(), &mut visit);
         }
         each_call_on_a_plan(&scenario.to_refine, &scenario.to_string(), &mut visit);
         for kind in Kind::ALL {
@@ -38,6 +40,11 @@ fn each_call(scenarios: &[Scenario], mut visit: impl FnMut(&str, &str, Ready)) {
                         change(kind, tables, marks, form, |ready| visit(&name, &place, ready));
                     }
                 }
+                let (cell_list, function_list) = tables.lists_with_room();
+                let (mesh, lists) = (OnPlanes::of(tables), (&cell_list[..], &function_list[..]));
+                let mut lending = planes::Lending::new(&mesh, kind, marks, lists);
+                let name = format!("{} on planes", kind.name());
+                visit(&name, &place, &mut || lending.run().number);
                 if kind == Kind::RefineCells {
                     each_call_on_a_draft(tables, marks, &place, &mut visit);
                 }
@@ -59,6 +66,9 @@ fn each_call_on_a_plan(tables: &Tables, place: &str, visit: &mut impl FnMut(&str
     visit("length of the cells", place, &mut || (ffi::wallmirror_cells_len(raw) != t).into());
     visit("length of the functions", place, &mut || {
         (ffi::wallmirror_functions_len(raw) != f).into()
+    });
+    visit("length of the planes", place, &mut || {
+        (ffi::wallmirror_planes_len(raw) != t.div_ceil(64)).into()
     });
     for beyond in [0, 1] {
         visit("level", place, &mut || {
@@ -134,6 +144,35 @@ fn each_call_without_marks(
     visit("open with a draft", place, &mut || unsafe {
         let (cells, functions) = (cells.as_mut_ptr(), functions.as_mut_ptr());
         ffi::wallmirror_open_with_draft(raw(plan), cells, t, functions, f, draft).number
+    });
+}
+
+/// Those on planes without marks. The last one opens the mesh anew.
+fn each_call_on_planes(tables: &Tables, place: &str, visit: &mut impl FnMut(&str, &str, Ready)) {
+    let OnPlanes { plan, planes, mut functions } = OnPlanes::of(tables);
+    let (plan, mut cells) = (raw(plan), tables.cells.clone());
+    let (mut present, mut refined) = (planes.present, planes.refined);
+    let (w, t, f) = (present.len(), cells.len(), functions.len());
+    // SAFETY: separate vectors of these lengths, here and below.
+    visit("check planes", place, &mut || unsafe {
+        let (present, refined) = (present.as_ptr(), refined.as_ptr());
+        ffi::wallmirror_planes_check(plan, present, w, refined, w, functions.as_ptr(), f)
+    });
+    visit("count on planes", place, &mut || unsafe {
+        let (present, refined) = (present.as_ptr(), refined.as_ptr());
+        ffi::wallmirror_planes_count(plan, present, w, refined, w, functions.as_ptr(), f).number
+    });
+    visit("planes to cells", place, &mut || unsafe {
+        let (present, refined) = (present.as_ptr(), refined.as_ptr());
+        ffi::wallmirror_planes_to_cells(plan, present, w, refined, w, cells.as_mut_ptr(), t)
+    });
+    visit("planes from cells", place, &mut || unsafe {
+        let (present, refined) = (present.as_mut_ptr(), refined.as_mut_ptr());
+        ffi::wallmirror_planes_from_cells(plan, cells.as_ptr(), t, present, w, refined, w)
+    });
+    visit("open on planes", place, &mut || unsafe {
+        let (present, refined) = (present.as_mut_ptr(), refined.as_mut_ptr());
+        ffi::wallmirror_planes_open(plan, present, w, refined, w, functions.as_mut_ptr(), f)
     });
 }
 
