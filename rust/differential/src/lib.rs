@@ -70,6 +70,10 @@ use Kind::*;
 impl Kind {
     pub const ALL: [Kind; 4] = [RefineCells, RefineFunctions, CoarsenCells, CoarsenFunctions];
 
+    /// For runs: more refining than coarsening, so that there is something to coarsen.
+    pub const MOSTLY_REFINING: [Kind; 5] =
+        [RefineCells, RefineCells, RefineFunctions, CoarsenCells, CoarsenFunctions];
+
     /// Those that there are with heights too.
     pub const REFINING: [Kind; 2] = [RefineCells, RefineFunctions];
 
@@ -823,6 +827,17 @@ pub fn random_marks(random: &mut Random, tables: &Tables, kind: Kind) -> Vec<u32
         marks.insert(random.below(marks.len() + 1), random.below(total + 2) as u32);
     }
     marks
+}
+
+/// Lists of garbage for a call: with room enough most often, and then sometimes with more.
+pub fn random_lists(random: &mut Random, tables: &Tables) -> (Vec<u32>, Vec<u32>) {
+    let mut room = |total: usize| match random.below(6) {
+        0 => random.below(total / 4 + 2),
+        1 => total + random.below(9),
+        _ => total,
+    };
+    let (cell_room, function_room) = (room(tables.cells.len()), room(tables.functions.len()));
+    (random.numbers(cell_room), random.numbers(function_room))
 }
 
 /// A call that refines more often than not, with marks that it takes.

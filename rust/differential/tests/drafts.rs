@@ -63,13 +63,7 @@ impl Run {
             return random.pick(&[Call::OpenMesh, Call::ReadMesh]);
         }
         let open = self.input.draft.collected().is_some();
-        let kind = random.pick(&[
-            RefineCells,
-            RefineCells,
-            RefineFunctions,
-            CoarsenCells,
-            CoarsenFunctions,
-        ]);
+        let kind = random.pick(&Kind::MOSTLY_REFINING);
         let change = match random.once_in(3) && kind.refines() {
             true => Call::WithHeights(kind),
             false => Call::Change(kind),

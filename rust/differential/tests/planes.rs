@@ -7,8 +7,8 @@ use differential::scenario::{towards_the_first_cell, wholly};
 use differential::seen::Seen;
 use differential::{
     all_corners, all_meshes, has_corners, out_of_range, plan, random_corners, random_covered,
-    random_marks, random_plan, random_refined, random_start, undo_by_cells, undo_by_functions,
-    Changing, Kind, Log, Random, Tables,
+    random_lists, random_marks, random_plan, random_refined, random_start, undo_by_cells,
+    undo_by_functions, Changing, Kind, Log, Random, Tables,
 };
 use model::planes::{Planes, BITS};
 use model::Plan;
@@ -39,13 +39,7 @@ fn garbage(random: &mut Random, plan: Plan) -> OnPlanes {
 /// One call of a run, with lists of any length.
 fn step(random: &mut Random, mesh: &mut Both, kind: Kind, log: &mut Log) {
     let marks = random_marks(random, &mesh.bytes, kind);
-    let mut room = |total: usize| match random.below(6) {
-        0 => random.below(total / 4 + 2),
-        1 => total + random.below(9),
-        _ => total,
-    };
-    let rooms = (room(mesh.bytes.cells.len()), room(mesh.bytes.functions.len()));
-    let (cell_list, function_list) = (random.numbers(rooms.0), random.numbers(rooms.1));
+    let (cell_list, function_list) = random_lists(random, &mesh.bytes);
     log.push((kind, mesh.call(kind, &marks, &cell_list, &function_list)));
 }
 
@@ -96,14 +90,7 @@ fn runs_undone_by_cells(class: u32) {
             let mut mesh = first.clone();
             let mut log = Log::new();
             for _ in 0..random.below(25) + 10 {
-                // More refining than coarsening, so that there is something to coarsen.
-                let kind = random.pick(&[
-                    RefineCells,
-                    RefineCells,
-                    RefineFunctions,
-                    CoarsenCells,
-                    CoarsenFunctions,
-                ]);
+                let kind = random.pick(&Kind::MOSTLY_REFINING);
                 step(&mut random, &mut mesh, kind, &mut log);
                 if random.once_in(8) {
                     assert_eq!(mesh.look(), 0);

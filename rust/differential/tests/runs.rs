@@ -1,21 +1,15 @@
 //! Runs of dozens of calls, refused ones among them, and each run undone as a whole.
 
 use differential::{
-    has_corners, random_covered, random_marks, random_plan, random_refined, undo_by_cells,
-    undo_by_functions, Kind, Log, Random, Tables,
+    has_corners, random_covered, random_lists, random_marks, random_plan, random_refined,
+    undo_by_cells, undo_by_functions, Kind, Log, Random, Tables,
 };
 use Kind::*;
 
 /// One call of a run, with lists of any length.
 fn step(random: &mut Random, tables: &mut Tables, kind: Kind, log: &mut Log) {
     let marks = random_marks(random, tables, kind);
-    let mut room = |total: usize| match random.below(6) {
-        0 => random.below(total / 4 + 2),
-        1 => total + random.below(9),
-        _ => total,
-    };
-    let (cell_room, function_room) = (room(tables.cells.len()), room(tables.functions.len()));
-    let (cell_list, function_list) = (random.numbers(cell_room), random.numbers(function_room));
+    let (cell_list, function_list) = random_lists(random, tables);
     log.push((kind, tables.call(kind, &marks, &cell_list, &function_list)));
 }
 
@@ -39,14 +33,7 @@ fn runs_undone_by_cells(class: u32, seed: u64) {
                 let mut tables = first.clone();
                 let mut log = Log::new();
                 for _ in 0..random.below(50) + 10 {
-                    // More refining than coarsening, so that there is something to coarsen.
-                    let kind = random.pick(&[
-                        RefineCells,
-                        RefineCells,
-                        RefineFunctions,
-                        CoarsenCells,
-                        CoarsenFunctions,
-                    ]);
+                    let kind = random.pick(&Kind::MOSTLY_REFINING);
                     step(&mut random, &mut tables, kind, &mut log);
                     if random.once_in(8) {
                         assert_eq!(tables.check(), 0);
