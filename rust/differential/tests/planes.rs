@@ -193,7 +193,7 @@ fn by_turns() {
 
 // ---- Any words ----
 
-/// Opening in garbage leaves a mesh that passes check, with no spare bit set.
+/// Opening in garbage leaves what opening in bytes does, with no spare bit set.
 #[test]
 fn opened_in_garbage() {
     let mut random = Random::new(1120);
@@ -308,8 +308,8 @@ fn refusals(call: Call) -> Vec<u32> {
     }
 }
 
-/// Any plan, for a call on planes that are in order the number is that of the call on bytes, and
-/// whatever is damaged, nothing is changed by a refusal.
+/// Every call on planes, plans, functions, marks and lists with up to two things wrong: a refusal
+/// changes nothing, and where the planes are in order the number is that of the call on their bytes.
 #[test]
 fn damaged_planes() {
     let mut random = Random::new(1121);

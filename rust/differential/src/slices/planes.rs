@@ -5,7 +5,7 @@ use crate::order::Lendable;
 use crate::pages::{Access, Guarded};
 use crate::planes::{Call, Input};
 use crate::{of_wrapper, Kind, Outcome};
-use wallmirror::{Changed, Plan, Refusal};
+use wallmirror::{Changed, Count, Plan, Refusal};
 
 struct OnPages {
     present: Guarded<u64>,
@@ -13,6 +13,8 @@ struct OnPages {
     functions: Guarded<u8>,
     cells: Guarded<u8>,
     lists: MarksAndLists,
+    /// What count answered.
+    counted: Option<Count>,
 }
 
 impl OnPages {
@@ -24,6 +26,7 @@ impl OnPages {
             functions: Guarded::new(&input.mesh.functions, at_end),
             cells: Guarded::new(&input.cells, at_end),
             lists: MarksAndLists::new(&input.marks, lists, at_end),
+            counted: None,
         }
     }
 
@@ -53,7 +56,11 @@ impl OnPages {
         let made = match call {
             Call::Open => wallmirror::planes_open(plan, present, refined, functions),
             Call::Check => wallmirror::planes_check(plan, present, refined, functions),
-            Call::Count => wallmirror::planes_count(plan, present, refined, functions).map(drop),
+            Call::Count => {
+                let counted = wallmirror::planes_count(plan, present, refined, functions);
+                self.counted = counted.ok();
+                counted.map(drop)
+            }
             Call::FromCells => wallmirror::planes_from_cells(plan, cells, present, refined),
             Call::ToCells => wallmirror::planes_to_cells(plan, present, refined, cells),
             Call::Change(kind) => return self.change(kind, plan),
@@ -103,6 +110,14 @@ impl Lendable for Input {
             let made = pages.make(call, of_wrapper(self.mesh.plan));
             let said = format!("{call:?} {:?}", self.mesh.plan);
             expect_made(made, outcome, &said);
+            let counts = call == Call::Count && outcome.number == 0;
+            let counted = counts.then(|| self.mesh.count()).map(|count| Count {
+                active_cells: count.active_cells as usize,
+                refined_cells: count.refined_cells as usize,
+                active_functions: count.active_functions as usize,
+                area: count.area as usize,
+            });
+            assert_eq!(pages.counted, counted, "{said}");
             // What a call is not lent is read again here.
             pages.functions.allow(Access::Read);
             pages.cells.allow(Access::Read);
