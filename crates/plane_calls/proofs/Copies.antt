@@ -16,7 +16,7 @@ use Rattle.mesh.specs.Mesh.{absent, refined}
 use Rattle.planes.specs.Bits.{wordsFor, bytesOf, Within, planeOf, isPresent, presentOf, refinedOf, areSmall}
 use Rattle.planes.specs.Planes.{cellsRefusal, packRefusal, packed, unpackRefusal, unpacked, orderRefusal}
 use Rattle.planes.proofs.Laws.{words-enough, plane-same, ordered-within}
-use Rattle.planes.proofs.Copies.{both-right, pack-taken, pack-refused, unpack-taken, unpack-refused, unpack-of}
+use Rattle.planes.proofs.Copies.{both-right, pack-refused, unpack-taken, unpack-refused, unpack-of}
 use Rattle.packing.specs.Packing.{Small}
 use Rattle.plane_calls.specs.Steps.{Clear}
 use Rattle.plane_calls.proofs.Rooms.{room-enough}

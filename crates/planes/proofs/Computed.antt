@@ -1,9 +1,8 @@
 -- Document 02, Req 11, worked by hand: calls on planes as rows of one table under one theorem that the checker computes. What is expected is
 -- written out. Assumes nothing.
-use mathlib.Core.Bool.{Bool, true, false, _&&_, _||_, cond}
+use mathlib.Core.Bool.{Bool, true, _&&_, _||_, cond}
 use mathlib.Core.List.{List, [], _∷_, _++_}
 use Prim.Native.Nat.{ℕ, _-_}
-use lib.Bits.{bitAnd}
 use lib.Count.{ones, onesIn}
 use lib.Dec.{T, eqb}
 use lib.ListN.{length, replicate, set}

@@ -12,8 +12,8 @@ use Rattle.facts.proofs.Tests.{cases, differ, T-true}
 use Rattle.grid.specs.declared.Plan.{Plan}
 use Rattle.grid.specs.Plan.{planRefusal, cellTotal}
 use Rattle.mesh.proofs.Bridge.{chain}
-use Rattle.planes.specs.Bits.{wordsFor, Words, bytesOf, presentOf, refinedOf, areSmall, inOrder, Holding}
-use Rattle.planes.specs.Planes.{cellsOf, sized, cellsRefusal, orderRefusal, packRefusal, packed, unpackRefusal, unpacked}
+use Rattle.planes.specs.Bits.{Words, presentOf, refinedOf, areSmall, inOrder, Holding}
+use Rattle.planes.specs.Planes.{cellsOf, sized, cellsRefusal, packRefusal, packed, unpackRefusal, unpacked}
 use Rattle.planes.specs.Demands.{Cells}
 use Rattle.planes.proofs.Laws.{length-bytes, present-back, refined-back}
 use Rattle.planes.proofs.Refusals.{Sized, size-0, both-of, both-sized, order-of, order-right}

@@ -2,26 +2,28 @@
 use mathlib.Core.Path.{_≡_, refl, sym, ap, ap₂, subst, _∙_}
 use mathlib.Core.Logic.{_≢_}
 use mathlib.Core.List.{List}
-use Prim.Native.Nat.{ℕ}
+use mathlib.Core.Bool.{true}
+use Prim.Native.Nat.{ℕ, _≤_}
+use native.Mathlib.Omega.{arith}
 use lib.Dec.{eqb, eqb→eq}
 use lib.ListN.{length}
 use borrow.Author.Tests.{ne-eqb}
 use Rattle.facts.specs.Bounded.{sum}
 use Rattle.facts.proofs.Tests.{cases, differ}
 use Rattle.grid.specs.declared.Plan.{Plan}
-use Rattle.grid.specs.Plan.{cellTotal}
+use Rattle.grid.specs.Plan.{planRefusal, cellTotal}
 use Rattle.mesh.specs.Mesh.{check, count, openMesh}
 use Rattle.mesh.proofs.Bridge.{check-good}
 use Rattle.mesh.proofs.Fresh.{opened-checked}
 use Rattle.outcomes.specs.declared.Answer.{Answer}
 use Rattle.outcomes.specs.Calls.{Direction, By, Outcome, outcome}
 use Rattle.outcomes.proofs.Results.{call-accepted, call-refused}
-use Rattle.planes.specs.Bits.{Words, presentOf, refinedOf, Holding, activeOnes, onesAt}
-use Rattle.planes.specs.Planes.{cellsOf, refusal3, refusal4, openPlanes, checkPlanes, countPlanes, PlanesOutcome, held, refusedPlanes, onPlanes}
+use Rattle.planes.specs.Bits.{wordsFor, Words, presentOf, refinedOf, Holding, activeOnes, onesAt}
+use Rattle.planes.specs.Planes.{cellsOf, planesLength, mostPlaneWords, refusal3, refusal4, openPlanes, checkPlanes, countPlanes, held, refusedPlanes, onPlanes}
 use Rattle.planes.specs.Demands.{Cells, Left}
 use Rattle.planes.proofs.Laws.{present-back, refined-back, planes-hold}
 use Rattle.planes.proofs.Counts.{active-tally, refined-tally}
-use Rattle.planes.proofs.Refusals.{Held, held-of, holding-of, check-of}
+use Rattle.planes.proofs.Refusals.{size-0, right-of, held-of, holding-of, check-of}
 use Rattle.planes.proofs.Same.{good-cells, held-cells, holds, same-check, same-change}
 
 -- a table of the plan's cells is held by its planes
@@ -80,6 +82,14 @@ module _ (d : Direction) (by : By) (p : Plan) (P R fs marks cl fl : List ℕ) wh
 
       by-planes : refusal4 p P R fs ≢ 0 → onPlanes (outcome d by) p P R fs marks cl fl ≡ refusedPlanes (onPlanes (outcome d by) p P R fs marks cl fl .answer .number) P R fs cl fl
       by-planes z = unfold onPlanes refusedPlanes in rw (ne-eqb (refusal4 p P R fs) 0 z) refl
+
+-- ---- the words of a plane
+
+pub most-words : (p : Plan) → planesLength p ≤ mostPlaneWords
+unfolding planesLength wordsFor
+most-words p = cases (eqb (planRefusal p) 0)
+    (λ t. let e = eqb→eq (planRefusal p) 0 t in rw e (omega (arith, right-of p true (sym (size-0 p true e refl)) .small)))
+    (λ t. rw (ne-eqb (planRefusal p) 0 (differ (planRefusal p) 0 t)) (omega arith))
 
 -- ---- open
 

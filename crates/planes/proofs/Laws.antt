@@ -2,11 +2,11 @@
 use mathlib.Core.Path.{_≡_, refl, sym, ap, _∙_}
 use mathlib.Core.Bool.{Bool, true, false, not, _&&_, cond}
 use mathlib.Core.List.{List}
-use Prim.Native.Nat.{ℕ, zero, suc, _+_, _-_, _*_, _/_, _%_, _^_, _≤_, _<_}
+use Prim.Native.Nat.{ℕ, zero, suc, _+_, _-_, _*_, _/_, _%_, _≤_, _<_}
 use native.Mathlib.Omega.{arith}
 use lib.Dec.{T, eqb, ltb, ltb→lt, nltb→le, eqb→eq, leb→le}
 use lib.ListN.{length, getD, List·getD-eq-default}
-use Rattle.facts.proofs.Tests.{and-i, and-l, and-r, not-e, cases, implies-i, implies-e, T-true, T-false}
+use Rattle.facts.proofs.Tests.{and-i, and-l, and-r, not-e, cases, implies-i, implies-e, T-false}
 use Rattle.facts.proofs.Bounded.{every-i, every-e}
 use Rattle.facts.proofs.Ranges.{from-i, from-e}
 use Rattle.facts.proofs.Numbers.{bit, length-tabulate, getD-tabulate, tabulate-is, tabulate-same}

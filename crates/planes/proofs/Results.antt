@@ -2,7 +2,7 @@
 use Rattle.planes.specs.Demands.{Demands}
 use Rattle.planes.proofs.Laws.{bytes-back, present-back, refined-back, planes-hold}
 use Rattle.planes.proofs.Same.{same-open, same-check, same-count, same-change}
-use Rattle.planes.proofs.Kept.{left, refused-planes, opened-passes, active-by-ones, refined-by-ones}
+use Rattle.planes.proofs.Kept.{left, refused-planes, most-words, opened-passes, active-by-ones, refined-by-ones}
 use Rattle.planes.proofs.Copies.{packed-back, unpacked-back}
 use Rattle.planes.proofs.Runs.{planes-undone-by-cells, planes-undone-by-functions}
 
@@ -18,6 +18,7 @@ demands = record {
   changed = λ d by p cs fs marks cl fl k. same-change p cs fs k d by marks cl fl;
   left = left;
   refused = refused-planes;
+  most = most-words;
   openedPasses = opened-passes;
   activeByOnes = active-by-ones;
   refinedByOnes = refined-by-ones;

@@ -1,7 +1,6 @@
 -- A run on planes is a run on the bytes that they hold, and so is undone by its lists. Assumes nothing.
 use mathlib.Core.Path.{_≡_, refl, sym, ap, ap₂, subst, _∙_}
 use mathlib.Core.List.{List, [], _∷_}
-use Prim.Native.Nat.{ℕ}
 use lib.Dec.{T, eqb, eqb→eq}
 use Rattle.facts.proofs.Tests.{cases, differ}
 use Rattle.grid.specs.declared.Plan.{Plan}

@@ -1,7 +1,7 @@
 -- A call on the planes of a cell table is the call on the table. Assumes nothing.
-use mathlib.Core.Path.{_≡_, refl, sym, ap, ap₂, subst, _∙_}
+use mathlib.Core.Path.{_≡_, refl, sym, ap, subst, _∙_}
 use mathlib.Core.Logic.{_≢_}
-use mathlib.Core.Bool.{Bool, true, false, _&&_, cond}
+use mathlib.Core.Bool.{true, cond}
 use mathlib.Core.List.{List}
 use Prim.Native.Nat.{ℕ, _≤_, _<_}
 use lib.Dec.{T, eqb, eqb→eq, le→leb}
@@ -10,18 +10,17 @@ use borrow.Author.Tests.{eq-eqb, ne-eqb}
 use Rattle.facts.proofs.Tests.{cases, differ, T-true}
 use Rattle.facts.proofs.Bounded.{every-i}
 use Rattle.grid.specs.declared.Plan.{Plan}
-use Rattle.grid.specs.Plan.{cellTotal, functionTotal}
+use Rattle.grid.specs.Plan.{cellTotal}
 use Rattle.mesh.specs.Mesh as mesh
 use Rattle.mesh.specs.Mesh.{check, count, openMesh}
-use Rattle.mesh.proofs.Bridge.{Good, check-good, byte-at-most}
-use Rattle.mesh.proofs.Fresh.{opened-checked}
+use Rattle.mesh.proofs.Bridge.{Good, byte-at-most}
 use Rattle.outcomes.specs.Calls as calls
-use Rattle.outcomes.specs.Calls.{Direction, By, Outcome, outcome}
-use Rattle.outcomes.proofs.Results.{outcome-check, call-accepted, call-refused}
-use Rattle.planes.specs.Bits.{wordsFor, bytesOf, presentOf, refinedOf, smallAt, areSmall, inOrder, Holding}
-use Rattle.planes.specs.Planes.{cellsOf, sized, sizeRefusal, refusal3, orderRefusal, refusal4, openPlanes, checkPlanes, countPlanes, PlanesOutcome, held, refusedPlanes, onPlanes}
-use Rattle.planes.specs.Demands.{Cells, Left}
-use Rattle.planes.proofs.Laws.{length-bytes, bytes-small, present-back, refined-back, length-present, length-refined, planes-in-order, planes-hold, bytes-back}
+use Rattle.outcomes.specs.Calls.{Direction, By, outcome}
+use Rattle.outcomes.proofs.Results.{outcome-check}
+use Rattle.planes.specs.Bits.{wordsFor, bytesOf, presentOf, refinedOf, smallAt, areSmall, inOrder}
+use Rattle.planes.specs.Planes.{cellsOf, sized, sizeRefusal, refusal3, orderRefusal, refusal4, openPlanes, checkPlanes, countPlanes, held, refusedPlanes, onPlanes}
+use Rattle.planes.specs.Demands.{Cells}
+use Rattle.planes.proofs.Laws.{length-bytes, bytes-small, length-present, length-refined, planes-in-order, bytes-back}
 use Rattle.planes.proofs.Refusals.{both-sized}
 
 -- ---- tables of cells

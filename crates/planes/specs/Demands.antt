@@ -3,7 +3,7 @@
 use mathlib.Core.List.{List}
 use mathlib.Core.Logic.{_≢_}
 use mathlib.Core.Path.{_≡_}
-use Prim.Native.Nat.{ℕ}
+use Prim.Native.Nat.{ℕ, _≤_}
 use lib.Dec.{T}
 use lib.ListN.{length}
 use Rattle.facts.specs.Bounded.{sum}
@@ -13,7 +13,7 @@ use Rattle.mesh.specs.Mesh.{check, count, openMesh}
 use Rattle.outcomes.specs.Calls.{Direction, By, cells, functions, outcome}
 use Rattle.outcomes.specs.Runs.{Call, LentLists, backwards, LongEnough, covered, RefinesByFunctions}
 use Rattle.planes.specs.Bits.{Words, bytesOf, presentOf, refinedOf, areSmall, Holding, activeOnes, onesAt}
-use Rattle.planes.specs.Planes.{cellsOf, openPlanes, checkPlanes, countPlanes, held, refusedPlanes, onPlanes, packed, unpacked}
+use Rattle.planes.specs.Planes.{cellsOf, planesLength, mostPlaneWords, openPlanes, checkPlanes, countPlanes, held, refusedPlanes, onPlanes, packed, unpacked}
 use Rattle.planes.specs.Runs.{PlaneTables, logOnPlanes, UndoneOnPlanes}
 
 -- a table of the plan's cells, each byte 0, 1 or 2
@@ -47,6 +47,8 @@ pub record Demands : Type 0 where
   pub refused : (d : Direction) (by : By) (p : Plan) (P R fs marks cl fl : List ℕ) → Words P → Words R
       → onPlanes (outcome d by) p P R fs marks cl fl .answer .number ≢ 0
       → onPlanes (outcome d by) p P R fs marks cl fl ≡ refusedPlanes (onPlanes (outcome d by) p P R fs marks cl fl .answer .number) P R fs cl fl
+  -- ---- no plane has more words than those of the largest plan
+  pub most : (p : Plan) → planesLength p ≤ mostPlaneWords
   -- ---- what was opened passes, whatever bits were there
   pub openedPasses : (p : Plan) (P R fs : List ℕ) → openPlanes p P R fs .number ≡ 0
       → checkPlanes p (openPlanes p P R fs .present) (openPlanes p P R fs .refined) (openPlanes p P R fs .functions) ≡ 0

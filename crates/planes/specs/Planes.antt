@@ -23,6 +23,10 @@ cellsOf p P R = bytesOf (cellTotal p) P R
 unfoldable pub planesLength : Plan → ℕ
 planesLength p = cond (eqb (planRefusal p) 0) (wordsFor (cellTotal p)) 0
 
+-- the most that this is; plan 1 1 8 has as many
+abbrev pub mostPlaneWords : ℕ
+mostPlaneWords = 342
+
 -- both planes have "T/64 words, rounded up"
 unfoldable pub sized : Plan → List ℕ → List ℕ → Bool
 sized p P R = eqb (length P) (wordsFor (cellTotal p)) && eqb (length R) (wordsFor (cellTotal p))

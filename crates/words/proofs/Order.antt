@@ -8,7 +8,7 @@ use native.Mathlib.Omega.{arith}
 use lib.Dec.{T, eqb, ltb, ltb→lt, nltb→le, eqb→eq}
 use lib.Pow.{pow-mono, pow-pos, shr-shr, shr-le}
 use lib.Bits.{bitAnd, and-lt}
-use lib.ListN.{length, getD, List·getD-eq-default}
+use lib.ListN.{length, getD}
 use Rattle.facts.specs.Bounded.{every}
 use Rattle.facts.proofs.Tests.{differ, and-i, and-l, and-r, not-i, not-e, cases, same, eqb-of}
 use Rattle.facts.proofs.Bounded.{every-i, every-e}
