@@ -2,22 +2,18 @@
 use mathlib.Core.Path.{_≡_, refl, sym, ap, _∙_}
 use mathlib.Core.Logic.{_≢_}
 use mathlib.Core.Bool.{true, false}
-use mathlib.Core.List.{List, _++_}
-use Prim.Native.Nat.{ℕ, zero, suc, _+_, _-_, _*_, _≤_}
+use mathlib.Core.List.{List}
+use Prim.Native.Nat.{ℕ, zero, suc, _-_, _*_, _≤_}
 use native.Mathlib.Omega.{arith}
-use lib.Dec.{ltb, ltb→lt, nltb→le}
-use lib.ListN.{length, getD, take, drop, replicate, length-append, length-drop, List·getD-append, List·getD-eq-default}
-use lib.Seq.{getD-append-add, getD-drop}
+use lib.ListN.{length, take, replicate}
 use borrow.Author.Tests.{ne-eqb}
-use Rattle.facts.proofs.Tests.{cases}
 use Rattle.grid.specs.declared.Plan.{Plan}
 use Rattle.grid.specs.Plan.{cellTotal}
-use Rattle.mesh.specs.Mesh.{absent, refined}
+use Rattle.mesh.specs.Mesh.{refined}
 use Rattle.planes.specs.Bits.{wordsFor, bytesOf, Within, planeOf, isPresent, presentOf, refinedOf, areSmall}
 use Rattle.planes.specs.Planes.{cellsRefusal, packRefusal, packed, unpackRefusal, unpacked, orderRefusal}
-use Rattle.planes.proofs.Laws.{words-enough, plane-same, ordered-within}
+use Rattle.planes.proofs.Laws.{words-enough, ordered-within}
 use Rattle.planes.proofs.Copies.{both-right, pack-refused, unpack-taken, unpack-refused, unpack-of}
-use Rattle.packing.specs.Packing.{Small}
 use Rattle.plane_calls.specs.Steps.{Clear}
 use Rattle.plane_calls.proofs.Rooms.{room-enough}
 
@@ -27,34 +23,6 @@ clear zero (suc n) i = refl
 clear (suc m) zero i = refl
 clear (suc m) (suc n) zero = refl
 clear (suc m) (suc n) (suc i) = clear m n i
-
--- a table in front of zeros
-module _ (cells bytes : List ℕ) (fits : length cells ≤ length bytes) (zeros : Clear bytes) where
-  abbrev whole : List ℕ
-  whole = cells ++ drop (length cells) bytes
-
-  pub whole-length : length whole ≡ length bytes
-  whole-length = omega (arith, length-append cells (drop (length cells) bytes), length-drop (length cells) bytes)
-
-  pub whole-byte : (c : ℕ) → getD whole c 0 ≡ getD cells c 0
-  whole-byte c = cases (ltb c (length cells))
-      (λ t. List·getD-append cells (drop (length cells) bytes) 0 c (ltb→lt c (length cells) t))
-      (λ t.
-      let l = nltb→le c (length cells) t in
-      let e : length cells + (c - length cells) ≡ c = omega arith in
-      ap (λ (i : ℕ). getD whole i 0) (sym e) ∙ getD-append-add cells (drop (length cells) bytes) (c - length cells) 0
-      ∙ getD-drop (length cells) bytes (c - length cells) 0 ∙ zeros (length cells + (c - length cells)) ∙ sym (List·getD-eq-default cells 0 l))
-
-  pub whole-small : Small cells → Small whole
-  whole-small small c = rw (whole-byte c) (small c)
-
-  pub whole-present : (words : ℕ) → planeOf words (isPresent whole) ≡ planeOf words (isPresent cells)
-  unfolding isPresent absent
-  whole-present words = plane-same words _ _ (λ c l. rw (whole-byte c))
-
-  pub whole-refined : (words : ℕ) → planeOf words (refined whole) ≡ planeOf words (refined cells)
-  unfolding refined
-  whole-refined words = plane-same words _ _ (λ c l. rw (whole-byte c))
 
 -- ---- the lengths
 

@@ -1,12 +1,12 @@
 -- `pack_cells` meets its contract. Assumes nothing.
-use mathlib.Core.Path.{sym, ap, _∙_}
+use mathlib.Core.Path.{refl, sym, ap, _∙_}
 use mathlib.Core.List.{List, _++_}
 use Prim.Native.Nat.{ℕ}
 use lib.ListN.{length, drop}
 use lib.Seq.{length-take-le}
 use Rattle.mesh.specs.Mesh.{refined as isRefined}
 use Rattle.planes.specs.Bits.{planeOf, isPresent}
-use Rattle.plane_calls.proofs.Copies.{whole-length, whole-small, whole-present, whole-refined}
+use Rattle.plane_calls.proofs.Rooms.{whole-length, whole-small, whole-present, whole-refined}
 use borrow.Author.Needs.{needs}
 use Rattle.plane_calls.proofs.pack_cells.Statement.{statement}
 use Rattle.plane_calls.proofs.pack_cells.Tie as tie
@@ -22,8 +22,8 @@ pack-requires c κs =
     let s = c .before .before .before .before .before .before .before .before .before .before .before in
     let a = s .args in
     let e = ap (λ (cs : List ℕ). cs ++ drop (length (a .cells .now)) (a .bytes .now)) (c .before .before .before .before .before .copy-bytes .ensures) in (
-      (s .pre .0 .0, ap length e ∙ (whole-length (a .cells .now) (a .bytes .now) (s .pre .1 .0 .0) (s .pre .1 .1) ∙ s .pre .0 .1)),
-      rw e (whole-small (a .cells .now) (a .bytes .now) (s .pre .1 .0 .0) (s .pre .1 .1) (s .pre .1 .0 .1)),
+      (s .pre .0 .0, ap length e ∙ (whole-length _ (a .cells .now) (a .bytes .now) refl (s .pre .1 .0 .0) (λ i l. s .pre .1 .1 i) ∙ s .pre .0 .1)),
+      rw e (whole-small _ (a .cells .now) (a .bytes .now) refl (s .pre .1 .0 .0) (λ i l. s .pre .1 .1 i) (s .pre .1 .0 .1)),
     )
 
 returns : tie.Need-returns
@@ -32,8 +32,8 @@ returns c =
     let a = s .args in
     let e = ap (λ (cs : List ℕ). cs ++ drop (length (a .cells .now)) (a .bytes .now)) (c .before .before .before .before .before .before .before .before .before .before .copy-bytes .ensures) in
     let w = length (a .present .now) in (
-      c .before .before .before .before .pack .ensures .0 ∙ (ap (λ (bs : List ℕ). planeOf w (isPresent bs)) e ∙ whole-present (a .cells .now) (a .bytes .now) (s .pre .1 .0 .0) (s .pre .1 .1) w),
-      c .before .before .before .before .pack .ensures .1 ∙ (ap (λ (bs : List ℕ). planeOf w (isRefined bs)) e ∙ whole-refined (a .cells .now) (a .bytes .now) (s .pre .1 .0 .0) (s .pre .1 .1) w),
+      c .before .before .before .before .pack .ensures .0 ∙ (ap (λ (bs : List ℕ). planeOf w (isPresent bs)) e ∙ whole-present _ (a .cells .now) (a .bytes .now) refl (s .pre .1 .0 .0) (λ i l. s .pre .1 .1 i) w),
+      c .before .before .before .before .pack .ensures .1 ∙ (ap (λ (bs : List ℕ). planeOf w (isRefined bs)) e ∙ whole-refined _ (a .cells .now) (a .bytes .now) refl (s .pre .1 .0 .0) (λ i l. s .pre .1 .1 i) w),
     )
 
 pub pack-cells-spec : {M : Type 1} → statement M
