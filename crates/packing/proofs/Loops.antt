@@ -1,18 +1,18 @@
 -- What the loops that pack and unpack do in a turn. Assumes nothing.
 use mathlib.Core.Path.{_≡_, refl, sym, ap₂, _∙_}
-use mathlib.Core.Bool.{Bool, true, false, not, cond}
+use mathlib.Core.Bool.{Bool, true, false, cond}
 use mathlib.Core.List.{List}
-use Prim.Native.Nat.{ℕ, zero, suc, _+_, _-_, _*_, _/_, _%_, _^_, _≤_, _<_}
+use Prim.Native.Nat.{ℕ, suc, _+_, _-_, _*_, _/_, _%_, _^_, _≤_, _<_}
 use native.Mathlib.Nat.{lt-of-lt-of-le}
 use native.Mathlib.Omega.{arith}
 use lib.Pow.{pow-mono}
-use lib.Dec.{T, eqb}
+use lib.Dec.{T}
 use lib.ListN.{getD}
-use Rattle.mesh.specs.Mesh.{absent, refined}
+use Rattle.mesh.specs.Mesh.{refined}
 use Rattle.planes.specs.Bits.{isSet, byteOf, Within, wordFrom, isPresent}
-use Rattle.planes.proofs.Bits.{word-lt, word-more}
+use Rattle.planes.proofs.Bits.{word-lt}
 use Rattle.planes.proofs.Laws.{set-bit}
-use Rattle.packing.specs.Packing.{wordByte}
+use Rattle.packing.specs.Packing.{wordByte, packedOf}
 
 -- ---- a word's bytes
 
@@ -27,37 +27,30 @@ unfolding wordByte byteOf
 word-byte P R i w j l =
     ap₂ (λ (x y : ℕ). x + y) (sym (set-bit P w j l)) (sym (set-bit R w j l)) ∙ two-bits (isSet P (64 * w + j)) (isSet R (64 * w + j)) (i (64 * w + j))
 
--- ---- a word's digits, from the last cell to the first
+-- ---- a word's digits, from the last four cells to the first
 
-module _ (test : ℕ → Bool) (at left x : ℕ) (some : 0 < left) (few : left ≤ 64) (e : x ≡ wordFrom (64 - left) (at + left) test) where
-  -- there is room for one digit more
-  pub word-room : x < 2 ^ 63
-  word-room = rw e (lt-of-lt-of-le (word-lt test (64 - left) (at + left)) (pow-mono {i = 64 - left} {j = 63} (omega arith)))
+module _ (test : ℕ → Bool) (at left x : ℕ) (some : 4 ≤ left) (few : left ≤ 64) (e : x ≡ wordFrom (64 - left) (at + left) test) where
+  -- there is room for four digits more
+  pub word-room : x < 2 ^ 60
+  word-room = rw e (lt-of-lt-of-le (word-lt test (64 - left) (at + left)) (pow-mono {i = 64 - left} {j = 60} (omega arith)))
 
-  pub word-turn : (b : ℕ) → b ≡ cond (test (at + (left - 1))) 1 0 → b + 2 * x ≡ wordFrom (64 - (left - 1)) (at + (left - 1)) test
+  pub word-turn : (b : ℕ) → b ≡ wordFrom 4 (at + (left - 4)) test → b + 16 * x ≡ wordFrom (64 - (left - 4)) (at + (left - 4)) test
+  unfolding wordFrom
   word-turn b q =
-      let a : at + left ≡ at + (left - 1) + 1 = omega arith in
-      let n : 64 - (left - 1) ≡ (64 - left) + 1 = omega arith in
-      rw (n, e, q, a) (word-more test (64 - left) (at + (left - 1)))
+      let a : at + left ≡ suc (suc (suc (suc (at + (left - 4))))) = omega arith in
+      let n : 64 - (left - 4) ≡ suc (suc (suc (suc (64 - left)))) = omega arith in
+      rw (n, e, q, a) (omega arith)
 
--- what a byte has of each digit
-module _ (bytes : List ℕ) (c b : ℕ) (e : b ≡ getD bytes c 0) (small : getD bytes c 0 ≤ 2) where
-  pub present-digit : b / 2 + b % 2 ≡ cond (isPresent bytes c) 1 0
-  unfolding isPresent absent
-  present-digit = rw e (go (getD bytes c 0) small)
-    where
-      go : (n : ℕ) → n ≤ 2 → n / 2 + n % 2 ≡ cond (not (eqb n 0)) 1 0
-      go zero l = refl
-      go (suc zero) l = refl
-      go (suc (suc zero)) l = refl
-      go (suc (suc (suc n))) l = absurd (omega arith)
+-- the digits of four cells in each plane
+module _ (bytes : List ℕ) (at t : ℕ) (e : t ≡ packedOf bytes at) where
+  pub packed-present : t % 16 ≡ wordFrom 4 at (isPresent bytes)
+  unfolding packedOf
+  packed-present = omega (arith, word-lt (isPresent bytes) 4 at)
 
-  pub refined-digit : b / 2 ≡ cond (refined bytes c) 1 0
-  unfolding refined
-  refined-digit = rw e (go (getD bytes c 0) small)
-    where
-      go : (n : ℕ) → n ≤ 2 → n / 2 ≡ cond (eqb n 2) 1 0
-      go zero l = refl
-      go (suc zero) l = refl
-      go (suc (suc zero)) l = refl
-      go (suc (suc (suc n))) l = absurd (omega arith)
+  pub packed-refined : t / 16 ≡ wordFrom 4 at (refined bytes)
+  unfolding packedOf
+  packed-refined = omega (arith, word-lt (isPresent bytes) 4 at)
+
+  pub packed-small : t < 256
+  unfolding packedOf
+  packed-small = omega (arith, word-lt (isPresent bytes) 4 at, word-lt (refined bytes) 4 at)

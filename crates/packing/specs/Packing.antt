@@ -3,7 +3,8 @@ use mathlib.Core.Path.{_≡_}
 use mathlib.Core.List.{List}
 use Prim.Native.Nat.{ℕ, _+_, _*_, _/_, _%_, _≤_, _<_}
 use lib.ListN.{getD}
-use Rattle.planes.specs.Bits.{bit}
+use Rattle.mesh.specs.Mesh.{refined}
+use Rattle.planes.specs.Bits.{bit, wordFrom, isPresent}
 
 -- the byte of bit j of two words
 unfoldable pub wordByte : ℕ → ℕ → ℕ → ℕ
@@ -20,3 +21,15 @@ Spreads table = (n : ℕ) → n < 16 → getD table n 0 ≡ spreadOf n
 -- no byte is above 2
 abbrev pub Small : List ℕ → Type 0
 Small bytes = (i : ℕ) → getD bytes i 0 ≤ 2
+
+-- four bytes from a number on as digits of 3, the lowest first
+abbrev pub numberOf : List ℕ → ℕ → ℕ
+numberOf bytes at = getD bytes at 0 + (3 * getD bytes (at + 1) 0 + (9 * getD bytes (at + 2) 0 + 27 * getD bytes (at + 3) 0))
+
+-- the bits of four cells from a number on, in the first plane, and 16 times those in the second
+unfoldable pub packedOf : List ℕ → ℕ → ℕ
+packedOf bytes at = wordFrom 4 at (isPresent bytes) + 16 * wordFrom 4 at (refined bytes)
+
+-- a table of that
+abbrev pub Packs : List ℕ → Type 0
+Packs table = (bytes : List ℕ) (at : ℕ) → Small bytes → getD table (numberOf bytes at) 0 ≡ packedOf bytes at

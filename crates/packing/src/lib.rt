@@ -1,11 +1,11 @@
 // The bytes of the cells of two planes, and the planes of bytes, without a plan. All words are whole: there are 64 bytes to each.
 ghost use mathlib.Core.Path.{_≡_};
 ghost use Prim.Native.Nat.{_+_, _*_, _/_, _%_, _≤_, _<_};
-ghost use lib.ListN.{length};
+ghost use lib.ListN.{length, getD};
 ghost use Rattle.facts.specs.Mapped.{filled};
 ghost use Rattle.mesh.specs.Mesh.{refined as isRefined};
 ghost use Rattle.planes.specs.Bits.{bytesOf, Within, wordFrom, planeOf, isPresent, areSmall};
-ghost use Rattle.packing.specs.Packing.{wordByte, spreadOf, Spreads, Small};
+ghost use Rattle.packing.specs.Packing.{wordByte, spreadOf, Spreads, numberOf, packedOf, Packs, Small};
 
 // The bytes of four digits, as one number. The table is lent: a constant would be laid down anew at each use.
 fn spread(table: &[u64; 16], digits: u64) -> u64
@@ -99,19 +99,50 @@ fn wide(byte: u8) -> u64
     byte as u64
 }
 
-// The words of the 64 cells from a number on: digits from the last cell to the first.
-fn pack_word(bytes: &[u8], at: usize) -> Pair
+// The byte of a cell, at most 2.
+fn cell(bytes: &[u8], at: usize) -> u64
+    requires { ⌜ (at < length (now bytes)) × Small (now bytes) ⌝ }
+    ensures { λ r. ⌜ (r ≡ getD (now (bytes .entry)) at 0) × (r ≤ 2) ⌝ }
+{
+    wide(bytes[at])
+}
+
+// Four bytes as digits of 3. The compiler makes one load of the four. The bytes of the factor are 27, 9, 3 and 1: the fourth byte of the product is the number.
+fn number_of(bytes: &[u8], at: usize) -> usize
+    requires { ⌜ (at + 4 ≤ length (now bytes)) × Small (now bytes) ⌝ }
+    ensures { λ r. ⌜ (r < 81) × (r ≡ numberOf (now (bytes .entry)) at) ⌝ }
+{
+    let four = cell(bytes, at)
+        + 256 * cell(bytes, at + 1)
+        + 65536 * cell(bytes, at + 2)
+        + 16777216 * cell(bytes, at + 3);
+    (four * 16976155 / 16777216 % 256) as usize
+}
+
+// The digits of four cells from a number on: those of the first plane, and 16 times those of the second.
+fn digits_at(table: &[u8; 81], bytes: &[u8], at: usize) -> u64
+    requires { ⌜ (at + 4 ≤ length (now bytes)) × Small (now bytes) ⌝ }
+    requires { ⌜ Packs (now table) ⌝ }
+    ensures { λ r. ⌜ r ≡ packedOf (now (bytes .entry)) at ⌝ }
+{
+    let i = number_of(bytes, at);
+    wide(table[i])
+}
+
+// The words of the 64 cells from a number on: digits from the last four cells to the first.
+fn pack_word(table: &[u8; 81], bytes: &[u8], at: usize) -> Pair
     requires { ⌜ (at + 64 ≤ length (now bytes)) × Small (now bytes) ⌝ }
+    requires { ⌜ Packs (now table) ⌝ }
     ensures { λ r. ⌜ (r .present ≡ wordFrom 64 at (isPresent (now (bytes .entry)))) × (r .refined ≡ wordFrom 64 at (isRefined (now (bytes .entry)))) ⌝ }
 {
     let mut present = 0;
     let mut refined = 0;
     let mut left = 64;
     while left > 0 {
-        left -= 1;
-        let byte = wide(bytes[at + left]);
-        present = byte / 2 + byte % 2 + 2 * present;
-        refined = byte / 2 + 2 * refined;
+        left -= 4;
+        let digits = digits_at(table, bytes, at + left);
+        present = digits % 16 + 16 * present;
+        refined = digits / 16 + 16 * refined;
     }
     Pair { present, refined }
 }
@@ -122,10 +153,13 @@ pub fn pack(bytes: &[u8], present: &mut [u64], refined: &mut [u64])
     requires { ⌜ Small (now bytes) ⌝ }
     ensures { λ _. ⌜ (now (present .exit) ≡ planeOf (length (now (present .entry))) (isPresent (now (bytes .entry)))) × (now (refined .exit) ≡ planeOf (length (now (present .entry))) (isRefined (now (bytes .entry)))) ⌝ }
 {
+    // Each byte in digits of 16: first that of `refined`, then that of `present`.
+    let table =
+        b"\x00\x01\x11\x02\x03\x13\x22\x23\x33\x04\x05\x15\x06\x07\x17\x26\x27\x37\x44\x45\x55\x46\x47\x57\x66\x67\x77\x08\x09\x19\x0a\x0b\x1b\x2a\x2b\x3b\x0c\x0d\x1d\x0e\x0f\x1f\x2e\x2f\x3f\x4c\x4d\x5d\x4e\x4f\x5f\x6e\x6f\x7f\x88\x89\x99\x8a\x8b\x9b\xaa\xab\xbb\x8c\x8d\x9d\x8e\x8f\x9f\xae\xaf\xbf\xcc\xcd\xdd\xce\xcf\xdf\xee\xef\xff";
     let mut at: usize = 0;
     let mut w = 0;
     while w + 1 <= present.len() {
-        let pair = pack_word(bytes, at);
+        let pair = pack_word(table, bytes, at);
         present[w] = pair.present;
         refined[w] = pair.refined;
         at += 64;
