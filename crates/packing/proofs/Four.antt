@@ -29,7 +29,7 @@ spread-small n = omega arith
 
 -- ---- one byte of the number
 
--- four small digits of 256
+-- four small bits of 256
 abbrev four : ℕ → ℕ → ℕ → ℕ → ℕ
 four s t u v = s + (256 * t + (65536 * u + 16777216 * v))
 
@@ -87,7 +87,7 @@ module _ (a b z : ℕ) (e : z ≡ spreadOf (a % 16) + spreadOf (b % 16)) where
   pub byte-3 : z / 16777216 % 256 ≡ at 8
   byte-3 = rw whole (four-3 _ (at 2) (at 4) (at 8) (two-small a b) (two-small (a / 2) (b / 2)) (two-small (a / 4) (b / 4)) (two-small (a / 8) (b / 8)))
 
--- the digits of what is left of a word
+-- the bits of what is left of a word
 module _ (P R at p r : ℕ) (eP : p ≡ P / 2 ^ at) (eR : r ≡ R / 2 ^ at) where
   pub digit-at : (k : ℕ) → p / 2 ^ k % 2 + r / 2 ^ k % 2 ≡ wordByte P R (at + k)
   unfolding wordByte bit

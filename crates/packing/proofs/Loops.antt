@@ -27,10 +27,10 @@ unfolding wordByte byteOf
 word-byte P R i w j l =
     ap₂ (λ (x y : ℕ). x + y) (sym (set-bit P w j l)) (sym (set-bit R w j l)) ∙ two-bits (isSet P (64 * w + j)) (isSet R (64 * w + j)) (i (64 * w + j))
 
--- ---- a word's digits, from the last four cells to the first
+-- ---- a word's bits, from the last four cells to the first
 
 module _ (test : ℕ → Bool) (at left x : ℕ) (some : 4 ≤ left) (few : left ≤ 64) (e : x ≡ wordFrom (64 - left) (at + left) test) where
-  -- there is room for four digits more
+  -- there is room for four bits more
   pub word-room : x < 2 ^ 60
   word-room = rw e (lt-of-lt-of-le (word-lt test (64 - left) (at + left)) (pow-mono {i = 64 - left} {j = 60} (omega arith)))
 
@@ -41,7 +41,7 @@ module _ (test : ℕ → Bool) (at left x : ℕ) (some : 4 ≤ left) (few : left
       let n : 64 - (left - 4) ≡ suc (suc (suc (suc (64 - left)))) = omega arith in
       rw (n, e, q, a) (omega arith)
 
--- the digits of four cells in each plane
+-- the bits of four cells in each plane
 module _ (bytes : List ℕ) (at t : ℕ) (e : t ≡ packedOf bytes at) where
   pub packed-present : t % 16 ≡ wordFrom 4 at (isPresent bytes)
   unfolding packedOf

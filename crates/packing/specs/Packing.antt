@@ -22,7 +22,7 @@ Spreads table = (n : ℕ) → n < 16 → getD table n 0 ≡ spreadOf n
 abbrev pub Small : List ℕ → Type 0
 Small bytes = (i : ℕ) → getD bytes i 0 ≤ 2
 
--- four bytes from a number on as digits of 3, the lowest first
+-- four bytes from a number on as a number of base 3, the lowest first
 abbrev pub numberOf : List ℕ → ℕ → ℕ
 numberOf bytes at = getD bytes at 0 + (3 * getD bytes (at + 1) 0 + (9 * getD bytes (at + 2) 0 + 27 * getD bytes (at + 3) 0))
 

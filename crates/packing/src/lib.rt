@@ -7,13 +7,13 @@ ghost use Rattle.mesh.specs.Mesh.{refined as isRefined};
 ghost use Rattle.planes.specs.Bits.{bytesOf, Within, wordFrom, planeOf, isPresent, areSmall};
 ghost use Rattle.packing.specs.Packing.{wordByte, spreadOf, Spreads, numberOf, packedOf, Packs, Small};
 
-// The bytes of four digits, as one number. The table is lent: a constant would be laid down anew at each use.
-fn spread(table: &[u64; 16], digits: u64) -> u64
-    requires { ⌜ digits < 16 ⌝ }
+// The bytes of four bits, as one number. The table is lent: a constant would be laid down anew at each use.
+fn spread(table: &[u64; 16], bits: u64) -> u64
+    requires { ⌜ bits < 16 ⌝ }
     requires { ⌜ Spreads (now table) ⌝ }
-    ensures { λ r. ⌜ r ≡ spreadOf digits ⌝ }
+    ensures { λ r. ⌜ r ≡ spreadOf bits ⌝ }
 {
-    let i = digits as usize;
+    let i = bits as usize;
     table[i]
 }
 
@@ -107,7 +107,8 @@ fn cell(bytes: &[u8], at: usize) -> u64
     wide(bytes[at])
 }
 
-// Four bytes as digits of 3. The compiler makes one load of the four. The bytes of the factor are 27, 9, 3 and 1: the fourth byte of the product is the number.
+// Four bytes as a number of base 3. The bytes of the factor are 27, 9, 3 and 1, from the lowest on, so the fourth byte of the product is that
+// number.
 fn number_of(bytes: &[u8], at: usize) -> usize
     requires { ⌜ (at + 4 ≤ length (now bytes)) × Small (now bytes) ⌝ }
     ensures { λ r. ⌜ (r < 81) × (r ≡ numberOf (now (bytes .entry)) at) ⌝ }
@@ -119,8 +120,8 @@ fn number_of(bytes: &[u8], at: usize) -> usize
     (four * 16976155 / 16777216 % 256) as usize
 }
 
-// The digits of four cells from a number on: those of the first plane, and 16 times those of the second.
-fn digits_at(table: &[u8; 81], bytes: &[u8], at: usize) -> u64
+// The bits of the four cells from a number on: those of the first plane, and 16 times those of the second.
+fn bits_at(table: &[u8; 81], bytes: &[u8], at: usize) -> u64
     requires { ⌜ (at + 4 ≤ length (now bytes)) × Small (now bytes) ⌝ }
     requires { ⌜ Packs (now table) ⌝ }
     ensures { λ r. ⌜ r ≡ packedOf (now (bytes .entry)) at ⌝ }
@@ -129,7 +130,7 @@ fn digits_at(table: &[u8; 81], bytes: &[u8], at: usize) -> u64
     wide(table[i])
 }
 
-// The words of the 64 cells from a number on: digits from the last four cells to the first.
+// The words of the 64 cells from a number on: four at a time, from the last to the first.
 fn pack_word(table: &[u8; 81], bytes: &[u8], at: usize) -> Pair
     requires { ⌜ (at + 64 ≤ length (now bytes)) × Small (now bytes) ⌝ }
     requires { ⌜ Packs (now table) ⌝ }
@@ -140,9 +141,9 @@ fn pack_word(table: &[u8; 81], bytes: &[u8], at: usize) -> Pair
     let mut left = 64;
     while left > 0 {
         left -= 4;
-        let digits = digits_at(table, bytes, at + left);
-        present = digits % 16 + 16 * present;
-        refined = digits / 16 + 16 * refined;
+        let bits = bits_at(table, bytes, at + left);
+        present = bits % 16 + 16 * present;
+        refined = bits / 16 + 16 * refined;
     }
     Pair { present, refined }
 }
@@ -153,7 +154,7 @@ pub fn pack(bytes: &[u8], present: &mut [u64], refined: &mut [u64])
     requires { ⌜ Small (now bytes) ⌝ }
     ensures { λ _. ⌜ (now (present .exit) ≡ planeOf (length (now (present .entry))) (isPresent (now (bytes .entry)))) × (now (refined .exit) ≡ planeOf (length (now (present .entry))) (isRefined (now (bytes .entry)))) ⌝ }
 {
-    // Each byte in digits of 16: first that of `refined`, then that of `present`.
+    // For each number below 81, in hexadecimal: four bits of `refined`, then four of `present`.
     let table =
         b"\x00\x01\x11\x02\x03\x13\x22\x23\x33\x04\x05\x15\x06\x07\x17\x26\x27\x37\x44\x45\x55\x46\x47\x57\x66\x67\x77\x08\x09\x19\x0a\x0b\x1b\x2a\x2b\x3b\x0c\x0d\x1d\x0e\x0f\x1f\x2e\x2f\x3f\x4c\x4d\x5d\x4e\x4f\x5f\x6e\x6f\x7f\x88\x89\x99\x8a\x8b\x9b\xaa\xab\xbb\x8c\x8d\x9d\x8e\x8f\x9f\xae\xaf\xbf\xcc\xcd\xdd\xce\xcf\xdf\xee\xef\xff";
     let mut at: usize = 0;

@@ -3,7 +3,6 @@ use mathlib.Core.Path.{_≡_, refl, sym, ap, _∙_}
 use mathlib.Core.Bool.{Bool, true, false, cond}
 use Prim.Native.Nat.{ℕ, zero, suc, min, _+_, _-_, _*_, _/_, _%_, _^_, _<_}
 use native.Mathlib.Nat.{not-suc-le-zero, div-div-eq-div-mul, div-one, mod-lt, mul-comm, pow-suc, zero-div}
-use native.Mathlib.Numerals.{add-one}
 use native.Mathlib.Omega.{arith}
 use lib.Bits.{bitAnd, and-shr, and-mod}
 use lib.Count.{ones, onesIn, ones-step}
@@ -75,11 +74,6 @@ module _ (test : ℕ → Bool) where
   -- a number whose digits are the tests is the word
   pub word-is : (n at x : ℕ) → x < 2 ^ n → ((k : ℕ) → k < n → cond (test (at + k)) 1 0 ≡ bit x k) → wordFrom n at test ≡ x
   word-is n at x l h = bits-same n (wordFrom n at test) x (word-lt n at) l (λ k i. word-bit n at k i ∙ h k i)
-
-  -- one digit more, below the others
-  pub word-more : (n at : ℕ) → cond (test at) 1 0 + 2 * wordFrom n (at + 1) test ≡ wordFrom (n + 1) at test
-  unfolding wordFrom
-  word-more n at = rw (add-one n, add-one at)
 
 pub word-same : (n at : ℕ) (f g : ℕ → Bool) → ((k : ℕ) → k < n → f (at + k) ≡ g (at + k)) → wordFrom n at f ≡ wordFrom n at g
 word-same n at f g h = word-is f n at (wordFrom n at g) (word-lt g n at) (λ k l. ap (λ (b : Bool). cond b 1 0) (h k l) ∙ sym (word-bit g n at k l))

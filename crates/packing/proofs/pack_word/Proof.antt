@@ -1,4 +1,4 @@
--- `packing::pack_word` meets its contract. The invariant: the digits of the cells passed. Assumes nothing.
+-- `packing::pack_word` meets its contract. The invariant: the bits of the cells passed. Assumes nothing.
 use mathlib.Core.Path.{_≡_, refl}
 use Prim.Native.Nat.{_+_, _-_, _%_, _^_, _≤_, _<_}
 use native.Mathlib.Omega.{arith}
@@ -20,11 +20,11 @@ loop-holds : tie.Need-loop-holds Inv-loop μ-loop
 unfolding wordFrom
 loop-holds c = (omega arith, omega arith, refl, refl)
 
--- both words have room for four digits more
-present-room : (c : tie.After-digits-at Inv-loop μ-loop) → c .before .before .loop .present < 2 ^ 60
+-- both words have room for four bits more
+present-room : (c : tie.After-bits-at Inv-loop μ-loop) → c .before .before .loop .present < 2 ^ 60
 present-room c = let l = c .before .before .loop in word-room _ _ (l .left) (l .present) (omega arith) (omega arith) (l .inv .2)
 
-refined-room : (c : tie.After-digits-at Inv-loop μ-loop) → c .before .before .loop .refined < 2 ^ 60
+refined-room : (c : tie.After-bits-at Inv-loop μ-loop) → c .before .before .loop .refined < 2 ^ 60
 refined-room c = let l = c .before .before .loop in word-room _ _ (l .left) (l .refined) (omega arith) (omega arith) (l .inv .3)
 
 mul-present : tie.Need-mul-present Inv-loop μ-loop
@@ -37,12 +37,12 @@ mul-refined : tie.Need-mul-refined Inv-loop μ-loop
 mul-refined c = omega (arith, refined-room c)
 
 add-refined : tie.Need-add-refined Inv-loop μ-loop
-add-refined c = omega (arith, refined-room c, packed-small _ _ _ (c .digits-at .ensures))
+add-refined c = omega (arith, refined-room c, packed-small _ _ _ (c .bits-at .ensures))
 
 loop-again : tie.Need-loop-again Inv-loop μ-loop
 loop-again c =
     let l = c .before .before .loop in
-    let e = c .digits-at .ensures in (
+    let e = c .bits-at .ensures in (
       omega arith,
       omega arith,
       word-turn _ _ (l .left) _ (omega arith) (omega arith) (l .inv .2) _ (packed-present _ _ _ e),
