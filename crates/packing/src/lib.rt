@@ -107,8 +107,8 @@ fn cell(bytes: &[u8], at: usize) -> u64
     wide(bytes[at])
 }
 
-// Four bytes as a number of base 3. The bytes of the factor are 27, 9, 3 and 1, from the lowest on, so the fourth byte of the product is that
-// number.
+// Four bytes as a number of base 3. The compiler loads them at once. The bytes of the factor are 27, 9, 3 and 1, from the lowest on, so the
+// fourth byte of the product is that number.
 fn number_of(bytes: &[u8], at: usize) -> usize
     requires { ⌜ (at + 4 ≤ length (now bytes)) × Small (now bytes) ⌝ }
     ensures { λ r. ⌜ (r < 81) × (r ≡ numberOf (now (bytes .entry)) at) ⌝ }
