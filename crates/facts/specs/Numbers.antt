@@ -1,6 +1,7 @@
 -- Lists of numbers. Definitions only.
 use mathlib.Core.Bool.{Bool, true, false, _&&_, _||_, cond}
 use mathlib.Core.List.{List, [], _∷_, _++_}
+use mathlib.Core.Path.{_≡_}
 use Prim.Native.Nat.{ℕ, zero, suc}
 use lib.Dec.{eqb, ltb}
 use lib.ListN.{getD}
@@ -24,6 +25,10 @@ listed (suc n) p = listed n p ++ cond (p n) (n ∷ []) []
 unfoldable pub rising : List ℕ → Bool
 rising [] = true
 rising (x ∷ xs) = all (λ y. ltb x y) xs && rising xs
+
+-- a table of zeros
+abbrev pub Clear : List ℕ → Type 0
+Clear table = (i : ℕ) → getD table i 0 ≡ 0
 
 -- the list of f 0, f 1, .. with n entries
 unfoldable pub tabulate : ℕ → (ℕ → ℕ) → List ℕ

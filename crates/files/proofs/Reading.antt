@@ -3,10 +3,10 @@ use mathlib.Core.Path.{_≡_, refl, sym, ap, _∙_, fun-ext}
 use mathlib.Core.Bool.{Bool, true, false, not, _||_, cond}
 use mathlib.Core.List.{List}
 use mathlib.Core.Logic.{_≢_}
-use Prim.Native.Nat.{ℕ, zero, suc, _-_, _≤_, _<_}
+use Prim.Native.Nat.{ℕ, _-_, _≤_, _<_}
 use native.Mathlib.Omega.{arith}
 use lib.Dec.{T, ltb, eqb, eqb→eq, ltb→lt}
-use lib.ListN.{length, take, drop, replicate, length-drop}
+use lib.ListN.{length, drop, length-drop}
 use borrow.Author.Tests.{eq-eqb, ne-eqb}
 use Rattle.facts.specs.Numbers.{elem, all}
 use Rattle.facts.proofs.Tests.{cases, same, not-e, T-true, T-false, eqb-of}
@@ -17,6 +17,7 @@ use Rattle.grid.proofs.Laws.{cells-some}
 use Rattle.mesh.specs.Mesh.{refined, isMesh, isAdmissible, tableOf, labels, refusal3}
 use Rattle.mesh.proofs.Bridge.{length-tableOf, pass, passed}
 use Rattle.nesting.specs.Table.{MeshTable}
+use Rattle.facts.specs.Numbers.{Clear}
 use Rattle.codec.specs.Numbers.{decodeRising}
 use Rattle.codec.proofs.Lists.{rising-canonical}
 use Rattle.listing.specs.Judged.{lastOf}
@@ -26,15 +27,7 @@ use Rattle.listing.proofs.Tables.{marked-yes, marked-no}
 use Rattle.files.specs.declared.Outline.{Outline}
 use Rattle.files.specs.declared.ReadAnswer.{ReadAnswer}
 use Rattle.files.specs.File.{badFile, decodeFile, rebuilt, refusal13, readRefusal, noPlan, answeredPlan, ReadOutcome, readFile, readMesh}
-use Rattle.files.specs.Steps.{numbersOf, cellsOf, GoodFile, Clear, tableRefusal}
-
--- a part of an array of zeros
-pub clear : (m n : ℕ) → Clear (take n (replicate m 0))
-clear zero zero i = refl
-clear zero (suc n) i = refl
-clear (suc m) zero i = refl
-clear (suc m) (suc n) zero = refl
-clear (suc m) (suc n) (suc i) = clear m n i
+use Rattle.files.specs.Steps.{numbersOf, cellsOf, GoodFile, tableRefusal}
 
 pub rebuilt-size : (p : Plan) (cells : List ℕ) → length (rebuilt p cells) ≡ cellTotal p
 unfolding rebuilt

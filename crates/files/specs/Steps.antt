@@ -64,10 +64,6 @@ JudgesFile s (Good h) = GoodFile s h
 
 -- ---- rebuilding
 
--- a table of zeros
-abbrev pub Clear : List ℕ → Type 0
-Clear table = (i : ℕ) → getD table i 0 ≡ 0
-
 -- refusals 4, 5 and 13 by the rebuilt table, and by whether the bytes end with the last number
 unfoldable pub tableRefusal : Plan → List ℕ → Bool → ℕ
 tableRefusal p table whole = cond (not (isMesh p table)) 4 (cond (not (isAdmissible p table)) 5 (cond (not whole) 13 0))

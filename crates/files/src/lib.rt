@@ -16,7 +16,8 @@ ghost use Rattle.grid.specs.Plan.{cellTotal};
 ghost use Rattle.mesh.specs.Mesh.{refusal3};
 ghost use Rattle.nesting.specs.Table.{CellTable, MeshTable};
 ghost use Rattle.files.specs.File.{noCorners, encodeCorners, fileOf, rebuilt, noPlan, answeredPlan, readMesh, writeText, writeMesh};
-ghost use Rattle.files.specs.Steps.{leftByRead, leftByWrite, ReadsCorners, planWith, cellsOf, GoodFile, JudgesFile, Clear, tableRefusal};
+ghost use Rattle.facts.specs.Numbers.{Clear};
+ghost use Rattle.files.specs.Steps.{leftByRead, leftByWrite, ReadsCorners, planWith, cellsOf, GoodFile, JudgesFile, tableRefusal};
 
 // What reading answers: a refusal or 0, and the plan, all zeros with refusals 1, 2 and 12.
 #[repr(C)]

@@ -9,7 +9,7 @@ use lib.Pow.{pow-mono}
 use lib.Dec.{T}
 use lib.ListN.{getD}
 use Rattle.mesh.specs.Mesh.{refined}
-use Rattle.planes.specs.Bits.{isSet, byteOf, Within, wordFrom, isPresent}
+use Rattle.planes.specs.Bits.{inPlane, byteOf, Within, wordFrom, isPresent}
 use Rattle.planes.proofs.Bits.{word-lt}
 use Rattle.planes.proofs.Laws.{set-bit}
 use Rattle.packing.specs.Packing.{wordByte, packedOf}
@@ -25,7 +25,7 @@ two-bits false false i = refl
 pub word-byte : (P R : List ℕ) → Within P R → (w j : ℕ) → j < 64 → wordByte (getD P w 0) (getD R w 0) j ≡ byteOf P R (64 * w + j)
 unfolding wordByte byteOf
 word-byte P R i w j l =
-    ap₂ (λ (x y : ℕ). x + y) (sym (set-bit P w j l)) (sym (set-bit R w j l)) ∙ two-bits (isSet P (64 * w + j)) (isSet R (64 * w + j)) (i (64 * w + j))
+    ap₂ (λ (x y : ℕ). x + y) (sym (set-bit P w j l)) (sym (set-bit R w j l)) ∙ two-bits (inPlane P (64 * w + j)) (inPlane R (64 * w + j)) (i (64 * w + j))
 
 -- ---- a word's bits, from the last four cells to the first
 

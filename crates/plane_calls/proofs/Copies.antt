@@ -1,11 +1,11 @@
 -- Cells copied into a room of zeros, and out of a room. Assumes nothing.
-use mathlib.Core.Path.{_≡_, refl, sym, ap, _∙_}
+use mathlib.Core.Path.{_≡_, sym, ap, _∙_}
 use mathlib.Core.Logic.{_≢_}
 use mathlib.Core.Bool.{true, false}
 use mathlib.Core.List.{List}
-use Prim.Native.Nat.{ℕ, zero, suc, _-_, _*_, _≤_}
+use Prim.Native.Nat.{ℕ, _-_, _*_, _≤_}
 use native.Mathlib.Omega.{arith}
-use lib.ListN.{length, take, replicate}
+use lib.ListN.{length}
 use borrow.Author.Tests.{ne-eqb}
 use Rattle.grid.specs.declared.Plan.{Plan}
 use Rattle.grid.specs.Plan.{cellTotal}
@@ -14,15 +14,7 @@ use Rattle.planes.specs.Bits.{wordsFor, bytesOf, Within, planeOf, isPresent, pr
 use Rattle.planes.specs.Planes.{cellsRefusal, packRefusal, packed, unpackRefusal, unpacked, orderRefusal}
 use Rattle.planes.proofs.Laws.{words-enough, ordered-within}
 use Rattle.planes.proofs.Copies.{both-right, pack-refused, unpack-taken, unpack-refused, unpack-of}
-use Rattle.plane_calls.specs.Steps.{Clear}
 use Rattle.plane_calls.proofs.Rooms.{room-enough}
-
-pub clear : (m n : ℕ) → Clear (take n (replicate m 0))
-clear zero zero i = refl
-clear zero (suc n) i = refl
-clear (suc m) zero i = refl
-clear (suc m) (suc n) zero = refl
-clear (suc m) (suc n) (suc i) = clear m n i
 
 -- ---- the lengths
 

@@ -13,7 +13,7 @@ use Rattle.grid.specs.Bounds.{mostCells}
 use Rattle.grid.specs.declared.Plan.{Plan}
 use Rattle.grid.specs.Plan.{cellTotal}
 use Rattle.mesh.specs.Mesh.{absent, refined}
-use Rattle.planes.specs.Bits.{isSet, wordsFor, byteOf, bytesOf, planeOf, isPresent, Within, smallAt, areSmall}
+use Rattle.planes.specs.Bits.{inPlane, wordsFor, byteOf, bytesOf, planeOf, isPresent, Within, smallAt, areSmall}
 use Rattle.packing.specs.Packing.{Small}
 use Rattle.planes.specs.Planes.{cellsOf}
 use Rattle.planes.proofs.Laws.{words-enough, plane-same, ordered, ordered-within, length-bytes, byte-at, byte-past}
@@ -89,4 +89,4 @@ module _ {p : Plan} {P R fs : List ℕ} (h : Held p P R fs) where
       (λ t. byte-past (64 * length P) P R c (nltb→le c (64 * length P) t))
     where
       spare : c < 64 * length P → byteOf P R c ≡ 0
-      spare m = unfold byteOf in rw (T-false (isSet P c) (not-e (isSet P c) (ordered (cellTotal p) P R (h .order) .noPresent c l (rw (h .sizes .present) at m)))) refl
+      spare m = unfold byteOf in rw (T-false (inPlane P c) (not-e (inPlane P c) (ordered (cellTotal p) P R (h .order) .noPresent c l (rw (h .sizes .present) at m)))) refl

@@ -7,6 +7,7 @@ use outcomes::Answer;
 ghost use mathlib.Core.Path.{_≡_};
 ghost use Prim.Native.Nat.{_*_, _≤_};
 ghost use lib.ListN.{length, take};
+ghost use Rattle.facts.specs.Numbers.{Clear};
 ghost use Rattle.grid.specs.Plan.{cellTotal};
 ghost use Rattle.grid.specs.Range.{InRange};
 ghost use Rattle.calls.specs.Parts.{directionOf, byOf};
@@ -16,7 +17,7 @@ ghost use Rattle.planes.specs.Bits.{wordsFor, bytesOf, Within, planeOf, isPrese
 ghost use Rattle.planes.specs.Planes.{planesLength, sized, sizeRefusal, refusal3, cellsRefusal, orderRefusal, refusal4, cellsOf, openPlanes, checkPlanes, countPlanes, onPlanes, packed, unpacked};
 ghost use Rattle.planes.specs.Contracts.{leftByOpen, MeetsOnPlanes, leftByPack, leftByUnpack};
 ghost use Rattle.packing.specs.Packing.{Small};
-ghost use Rattle.plane_calls.specs.Steps.{Clear, InRoom};
+ghost use Rattle.plane_calls.specs.Steps.{InRoom};
 
 // The bytes of as many whole words as the largest plane has: 342.
 const ROOM: usize = 21888;

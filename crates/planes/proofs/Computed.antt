@@ -19,8 +19,7 @@ use Rattle.mesh.specs.Mesh.{absent, active, refined, reactivable, children, cel
 use Rattle.mesh.specs.Mesh.{refusal3 as byteRefusal3}
 use Rattle.outcomes.specs.Calls.{Direction, refine, coarsen, By, cells, functions, eligible, isTooDeep, markRefusal, underMarked, underKept, selected, base, smallest, changed, written, refused, settle, newCells, refusal, outcome}
 use Rattle.outcomes.proofs.Examples.{same, named, lent, plan, W0, W2, fresh, refining}
-use Rattle.planes.specs.Bits.{bit, wordsFor, byteOf, bytesOf, wordFrom, wordAt, planeOf, isPresent, presentOf, refinedOf, smallAt, areSmall, noSpare, within, inOrder, activeOnes, onesAt}
-use Rattle.planes.specs.Bits.{isSet as isSetIn}
+use Rattle.planes.specs.Bits.{bit, inPlane, wordsFor, byteOf, bytesOf, wordFrom, wordAt, planeOf, isPresent, presentOf, refinedOf, smallAt, areSmall, noSpare, within, inOrder, activeOnes, onesAt}
 use Rattle.planes.specs.Planes.{planesLength, sized, sizeRefusal, refusal3, orderRefusal, refusal4, openPlanes, checkPlanes, countPlanes, PlanesOutcome, held, refusedPlanes, onPlanes, cellsRefusal, packRefusal, packed, unpackRefusal, unpacked}
 
 -- ---- rows
@@ -207,5 +206,5 @@ table =
     ∷ []
 
 pub worked : T (allHold table)
-unfolding table some every sum everyFrom elem all listed tabulate stored first reach needs closure offset number levelOf placeOn place between numbersInRange cornersInRange inRange tooLarge planRefusal ratio grown lastLevel above below parent child isSet isCorner cornersTo times knotFrom knot beyond functionCount covers apart together supportedAt supported ancestor nearAt near absent active refined reactivable children cellFits isMesh isAdmissible tableOf labelOf labels isLabelled byteRefusal3 refusal6 check freshCells freshFunctions openMesh tally areaOf count eligible isTooDeep markRefusal underMarked underKept selected base smallest changed written refused settle newCells refusal outcome bit isSetIn wordsFor byteOf bytesOf wordFrom wordAt planeOf isPresent presentOf refinedOf smallAt areSmall noSpare within inOrder activeOnes onesAt planesLength sized sizeRefusal refusal3 orderRefusal refusal4 openPlanes checkPlanes countPlanes held refusedPlanes onPlanes cellsRefusal packRefusal packed unpackRefusal unpacked ones onesIn
+unfolding table some every sum everyFrom elem all listed tabulate stored first reach needs closure offset number levelOf placeOn place between numbersInRange cornersInRange inRange tooLarge planRefusal ratio grown lastLevel above below parent child isSet isCorner cornersTo times knotFrom knot beyond functionCount covers apart together supportedAt supported ancestor nearAt near absent active refined reactivable children cellFits isMesh isAdmissible tableOf labelOf labels isLabelled byteRefusal3 refusal6 check freshCells freshFunctions openMesh tally areaOf count eligible isTooDeep markRefusal underMarked underKept selected base smallest changed written refused settle newCells refusal outcome bit inPlane wordsFor byteOf bytesOf wordFrom wordAt planeOf isPresent presentOf refinedOf smallAt areSmall noSpare within inOrder activeOnes onesAt planesLength sized sizeRefusal refusal3 orderRefusal refusal4 openPlanes checkPlanes countPlanes held refusedPlanes onPlanes cellsRefusal packRefusal packed unpackRefusal unpacked ones onesIn
 worked = tt

@@ -1,10 +1,9 @@
 -- From cells to planes and back, and from planes to cells and back. Assumes nothing.
 use mathlib.Core.Path.{_≡_, refl, sym, ap, ap₂, _∙_}
 use mathlib.Core.Logic.{_≢_}
-use mathlib.Core.Bool.{Bool, true, false, cond}
+use mathlib.Core.Bool.{true, cond}
 use mathlib.Core.List.{List}
 use Prim.Native.Nat.{ℕ}
-use native.Mathlib.Omega.{arith}
 use lib.Dec.{T, eqb, eqb→eq}
 use lib.ListN.{length}
 use borrow.Author.Tests.{eq-eqb, ne-eqb}
@@ -16,7 +15,7 @@ use Rattle.planes.specs.Bits.{Words, presentOf, refinedOf, areSmall, inO
 use Rattle.planes.specs.Planes.{cellsOf, sized, cellsRefusal, packRefusal, packed, unpackRefusal, unpacked}
 use Rattle.planes.specs.Demands.{Cells}
 use Rattle.planes.proofs.Laws.{length-bytes, present-back, refined-back}
-use Rattle.planes.proofs.Refusals.{Sized, size-0, both-of, both-sized, order-of, order-right}
+use Rattle.planes.proofs.Refusals.{order-four, Sized, size-0, both-of, both-sized, order-of, order-right}
 use Rattle.planes.proofs.Same.{held-cells, holds, right-sizes, right-order}
 
 -- refusals 1 to 3 of planes and cells leave the right lengths
@@ -28,14 +27,10 @@ pub right-both : (p : Plan) (P R cs : List ℕ) → planRefusal p ≡ 0 → size
 unfolding cellsRefusal
 right-both p P R cs e s l = sym (size-0 p _ e (rw (s, eq-eqb (length cs) (cellTotal p) l) refl))
 
-four : (b : Bool) → _≡_ {A = ℕ} (cond b 0 4) 0 → T b
-four true e = tt
-four false e = absurd (omega arith)
-
 -- what an accepted call says
 pub pack-of : (p : Plan) (cs P R : List ℕ) → packRefusal p cs P R ≡ 0 → (cellsRefusal p P R cs ≡ 0) × T (areSmall cs)
 unfolding packRefusal
-pack-of p cs P R e = let k = chain (cellsRefusal p P R cs) (cond (areSmall cs) 0 4) e in (k .0, four (areSmall cs) (k .1))
+pack-of p cs P R e = let k = chain (cellsRefusal p P R cs) (cond (areSmall cs) 0 4) e in (k .0, order-four (areSmall cs) (k .1))
 
 module _ (p : Plan) (cs P R : List ℕ) where
   pub pack-taken : packRefusal p cs P R ≡ 0 → packed p cs P R ≡ record { number = 0; present = presentOf cs; refined = refinedOf cs }

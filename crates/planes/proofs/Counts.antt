@@ -13,7 +13,7 @@ use Rattle.facts.specs.Bounded.{sum}
 use Rattle.facts.proofs.Sums.{sum-same, sum-zero, sum-split, sum-rows}
 use Rattle.facts.proofs.Tests.{not-e, T-false}
 use Rattle.mesh.specs.Mesh.{tally, active, refined}
-use Rattle.planes.specs.Bits.{bit, isSet, byteOf, bytesOf, Holding, activeOnes, onesAt}
+use Rattle.planes.specs.Bits.{bit, inPlane, byteOf, bytesOf, Holding, activeOnes, onesAt}
 use Rattle.planes.proofs.Bits.{ones-bits, and-bit, not-bit}
 use Rattle.planes.proofs.Laws.{words-enough, set-bit, Ordered, ordered, byte-at, refined-bytes}
 
@@ -47,17 +47,17 @@ module _ (n : ℕ) (P R : List ℕ) (h : Holding n P R) where
   o = ordered n P R (h .order)
 
   abbrev isActive : ℕ → Bool
-  isActive c = isSet P c && not (isSet R c)
+  isActive c = inPlane P c && not (inPlane R c)
 
   active-digits : (w k : ℕ) → k < 64 → bit (bitAnd (getD P w 0) ((2 ^ 64 - 1) - getD R w 0)) k ≡ cond (isActive (64 * w + k)) 1 0
   active-digits w k l =
       and-bit (getD P w 0) ((2 ^ 64 - 1) - getD R w 0) k
       ∙ (ap₂ (λ (x y : ℕ). min x y) (sym (set-bit P w k l)) (not-bit 64 (getD R w 0) k (h .refinedWords w) l ∙ ap (λ (x : ℕ). 1 - x) (sym (set-bit R w k l)))
-      ∙ two-digits (isSet P (64 * w + k)) (isSet R (64 * w + k)))
+      ∙ two-digits (inPlane P (64 * w + k)) (inPlane R (64 * w + k)))
 
   active-at : (c : ℕ) → c < n → isActive c ≡ active (bytesOf n P R) c
   unfolding active byteOf
-  active-at c l = rw (byte-at n P R c l) (active-byte (isSet P c) (isSet R c))
+  active-at c l = rw (byte-at n P R c l) (active-byte (inPlane P c) (inPlane R c))
 
   -- "proved equal to the byte table's active count"
   pub active-tally : sum (length P) (activeOnes P R) ≡ tally n (active (bytesOf n P R))
@@ -65,12 +65,12 @@ module _ (n : ℕ) (P R : List ℕ) (h : Holding n P R) where
   active-tally =
       ones-tally n (length P) (λ w. bitAnd (getD P w 0) ((2 ^ 64 - 1) - getD R w 0)) isActive
       (λ w. lt-of-le-of-lt (and-le-l (getD P w 0) ((2 ^ 64 - 1) - getD R w 0)) (h .presentWords w)) active-digits (rw (h .presentLength) (words-enough n))
-      (λ c l m. ap (λ (b : Bool). b && not (isSet R c)) (T-false (isSet P c) (not-e (isSet P c) (o .noPresent c l (rw (h .presentLength) at m)))))
+      (λ c l m. ap (λ (b : Bool). b && not (inPlane R c)) (T-false (inPlane P c) (not-e (inPlane P c) (o .noPresent c l (rw (h .presentLength) at m)))))
       ∙ sum-same n _ _ (λ c l. ap (λ (b : Bool). cond b 1 0) (active-at c l))
 
   pub refined-tally : sum (length R) (onesAt R) ≡ tally n (refined (bytesOf n P R))
   unfolding onesAt tally
   refined-tally =
-      ones-tally n (length R) (λ w. getD R w 0) (isSet R) (h .refinedWords) (λ w k l. sym (set-bit R w k l)) (rw (h .refinedLength) (words-enough n))
-      (λ c l m. T-false (isSet R c) (not-e (isSet R c) (o .noRefined c l (rw (h .refinedLength) at m))))
+      ones-tally n (length R) (λ w. getD R w 0) (inPlane R) (h .refinedWords) (λ w k l. sym (set-bit R w k l)) (rw (h .refinedLength) (words-enough n))
+      (λ c l m. T-false (inPlane R c) (not-e (inPlane R c) (o .noRefined c l (rw (h .refinedLength) at m))))
       ∙ sum-same n _ _ (λ c l. ap (λ (b : Bool). cond b 1 0) (sym (refined-bytes n P R o c (omega (arith, words-enough n)))))

@@ -11,8 +11,9 @@ use Rattle.facts.proofs.Bounded.{every-i, every-e}
 use Rattle.facts.proofs.Ranges.{from-i, from-e}
 use Rattle.facts.proofs.Numbers.{bit, length-tabulate, getD-tabulate, tabulate-is, tabulate-same}
 use Rattle.facts.specs.Numbers.{tabulate}
+use Rattle.grid.specs.Knots.{isSet}
 use Rattle.mesh.specs.Mesh.{absent, refined}
-use Rattle.planes.specs.Bits.{isSet, wordsFor, Words, byteOf, bytesOf, wordAt, planeOf, isPresent, presentOf, refinedOf, smallAt, areSmall, noSpare, within, Within, inOrder, Holding}
+use Rattle.planes.specs.Bits.{inPlane, wordsFor, Words, byteOf, bytesOf, wordAt, planeOf, isPresent, presentOf, refinedOf, smallAt, areSmall, noSpare, within, Within, inOrder, Holding}
 use Rattle.planes.specs.Bits as planes
 use Rattle.planes.proofs.Bits.{bit-lt, bit-of-zero, bit-is, word-bit, word-is, word-lt, word-same}
 
@@ -23,18 +24,21 @@ words-enough n = omega arith
 
 -- ---- one bit of a plane
 
-pub set-bit : (plane : List ℕ) (w k : ℕ) → k < 64 → cond (isSet plane (64 * w + k)) 1 0 ≡ planes.bit (getD plane w 0) k
-unfolding isSet
+pub in-plane : (plane : List ℕ) (c : ℕ) → inPlane plane c ≡ eqb (planes.bit (getD plane (c / 64) 0) (c % 64)) 1
+unfolding inPlane isSet planes.bit
+in-plane plane c = refl
+
+pub set-bit : (plane : List ℕ) (w k : ℕ) → k < 64 → cond (inPlane plane (64 * w + k)) 1 0 ≡ planes.bit (getD plane w 0) k
 set-bit plane w k l =
     let a : (64 * w + k) / 64 ≡ w = omega arith in
     let b : (64 * w + k) % 64 ≡ k = omega arith in
-    rw (a, b) (bit-is (planes.bit (getD plane w 0) k) (bit-lt (getD plane w 0) k))
+    rw (in-plane plane (64 * w + k), a, b) (bit-is (planes.bit (getD plane w 0) k) (bit-lt (getD plane w 0) k))
 
-pub plane-set : (words : ℕ) (test : ℕ → Bool) (c : ℕ) → c < 64 * words → isSet (planeOf words test) c ≡ test c
-unfolding isSet planeOf wordAt
+pub plane-set : (words : ℕ) (test : ℕ → Bool) (c : ℕ) → c < 64 * words → inPlane (planeOf words test) c ≡ test c
+unfolding planeOf wordAt
 plane-set words test c l =
     let e : 64 * (c / 64) + c % 64 ≡ c = omega arith in
-    rw (getD-tabulate words (wordAt test) (c / 64) 0 (omega arith), word-bit test 64 (64 * (c / 64)) (c % 64) (omega arith), e)
+    rw (in-plane (planeOf words test) c, getD-tabulate words (wordAt test) (c / 64) 0 (omega arith), word-bit test 64 (64 * (c / 64)) (c % 64) (omega arith), e)
     (bit (test c))
 
 pub plane-words : (words : ℕ) (test : ℕ → Bool) → Words (planeOf words test)
@@ -47,7 +51,7 @@ plane-words words test w = cases (ltb w words)
 
 -- a plane is made of the tests that its bits are
 pub plane-is : (words : ℕ) (test : ℕ → Bool) (plane : List ℕ) → length plane ≡ words → Words plane
-    → ((c : ℕ) → c < 64 * words → test c ≡ isSet plane c) → planeOf words test ≡ plane
+    → ((c : ℕ) → c < 64 * words → test c ≡ inPlane plane c) → planeOf words test ≡ plane
 unfolding planeOf wordAt
 plane-is words test plane e small h = sym (tabulate-is words (wordAt test) plane e (λ w l.
     sym (word-is test 64 (64 * w) (getD plane w 0) (small w) (λ k i.
@@ -59,33 +63,40 @@ plane-same words f g h = tabulate-same words (wordAt f) (wordAt g) (λ w l. word
 
 -- ---- in order, as facts
 
+module _ (n : ℕ) (plane : List ℕ) where
+  pub spares : T (noSpare n plane) → (c : ℕ) → n ≤ c → c < 64 * wordsFor n → T (not (inPlane plane c))
+  unfolding noSpare
+  spares t c l m = from-e n (64 * wordsFor n - n) _ t c l (omega (arith, words-enough n))
+
+  pub no-spares : ((c : ℕ) → n ≤ c → c < 64 * wordsFor n → T (not (inPlane plane c))) → T (noSpare n plane)
+  unfolding noSpare
+  no-spares h = from-i n (64 * wordsFor n - n) _ (λ c l m. h c l (omega (arith, words-enough n)))
+
 module _ (n : ℕ) (P R : List ℕ) where
   pub record Ordered : Type 0 where
-    pub noPresent : (c : ℕ) → n ≤ c → c < 64 * wordsFor n → T (not (isSet P c))
-    pub noRefined : (c : ℕ) → n ≤ c → c < 64 * wordsFor n → T (not (isSet R c))
-    pub inside : (c : ℕ) → c < n → T (isSet R c) → T (isSet P c)
+    pub noPresent : (c : ℕ) → n ≤ c → c < 64 * wordsFor n → T (not (inPlane P c))
+    pub noRefined : (c : ℕ) → n ≤ c → c < 64 * wordsFor n → T (not (inPlane R c))
+    pub inside : (c : ℕ) → c < n → T (inPlane R c) → T (inPlane P c)
 
   pub ordered : T (inOrder n P R) → Ordered
-  unfolding inOrder noSpare within
+  unfolding inOrder within
   ordered t =
       let a = and-l (noSpare n P && noSpare n R) (within n P R) t in
       record {
-        noPresent = λ c l m. from-e n (64 * wordsFor n - n) _ (and-l (noSpare n P) (noSpare n R) a) c l (omega (arith, words-enough n));
-        noRefined = λ c l m. from-e n (64 * wordsFor n - n) _ (and-r (noSpare n P) (noSpare n R) a) c l (omega (arith, words-enough n));
-        inside = λ c l u. implies-e (isSet R c) (isSet P c) (every-e n _ (and-r (noSpare n P && noSpare n R) (within n P R) t) c l) u;
+        noPresent = spares n P (and-l (noSpare n P) (noSpare n R) a);
+        noRefined = spares n R (and-r (noSpare n P) (noSpare n R) a);
+        inside = λ c l u. implies-e (inPlane R c) (inPlane P c) (every-e n _ (and-r (noSpare n P && noSpare n R) (within n P R) t) c l) u;
       }
 
   pub order-i : Ordered → T (inOrder n P R)
-  unfolding inOrder noSpare within
+  unfolding inOrder within
   order-i o = and-i (noSpare n P && noSpare n R) (within n P R)
-      (and-i (noSpare n P) (noSpare n R)
-      (from-i n (64 * wordsFor n - n) _ (λ c l m. o .noPresent c l (omega (arith, words-enough n))))
-      (from-i n (64 * wordsFor n - n) _ (λ c l m. o .noRefined c l (omega (arith, words-enough n)))))
-      (every-i n _ (λ c l. implies-i (isSet R c) (isSet P c) (o .inside c l)))
+      (and-i (noSpare n P) (noSpare n R) (no-spares n P (o .noPresent)) (no-spares n R (o .noRefined)))
+      (every-i n _ (λ c l. implies-i (inPlane R c) (inPlane P c) (o .inside c l)))
 
 -- a bit past the end is not set
-pub past-end : (plane : List ℕ) (c : ℕ) → length plane ≤ c / 64 → T (isSet plane c) → ⊥
-past-end plane c l t = unset (getD plane (c / 64) 0) (c % 64) (List·getD-eq-default plane 0 l) (unfold isSet in t)
+pub past-end : (plane : List ℕ) (c : ℕ) → length plane ≤ c / 64 → T (inPlane plane c) → ⊥
+past-end plane c l t = unset (getD plane (c / 64) 0) (c % 64) (List·getD-eq-default plane 0 l) (rw (in-plane plane c) at t)
   where
     unset : (x k : ℕ) → x ≡ 0 → T (eqb (planes.bit x k) 1) → ⊥
     unset x k e t = rw (e, bit-of-zero k) at t
@@ -96,7 +107,7 @@ module _ (n : ℕ) (P R : List ℕ) (lP : length P ≡ wordsFor n) (lR : length 
   ordered-within t c u =
       let o = ordered n P R t in
       cases (ltb c n) (λ v. o .inside c (ltb→lt c n v) u) (λ v. cases (ltb c (64 * wordsFor n))
-      (λ w. absurd (not-e (isSet R c) (o .noRefined c (nltb→le c n v) (ltb→lt c (64 * wordsFor n) w)) u))
+      (λ w. absurd (not-e (inPlane R c) (o .noRefined c (nltb→le c n v) (ltb→lt c (64 * wordsFor n) w)) u))
       (λ w. absurd (past-end R c (omega (arith, nltb→le c (64 * wordsFor n) w)) u)))
 
 -- ---- bytes of planes
@@ -132,21 +143,21 @@ byte-past n P R c l = List·getD-eq-default (bytesOf n P R) 0 (rw (length-bytes 
 pub bytes-small : (n : ℕ) (P R : List ℕ) (c : ℕ) → getD (bytesOf n P R) c 0 ≤ 2
 unfolding byteOf
 bytes-small n P R c = cases (ltb c n)
-    (λ t. rw (byte-at n P R c (ltb→lt c n t)) (byte-small (isSet P c) (isSet R c)))
+    (λ t. rw (byte-at n P R c (ltb→lt c n t)) (byte-small (inPlane P c) (inPlane R c)))
     (λ t. rw (byte-past n P R c (nltb→le c n t)) (omega arith))
 
 module _ (n : ℕ) (P R : List ℕ) (o : Ordered n P R) (c : ℕ) (l : c < 64 * wordsFor n) where
-  pub present-bytes : isPresent (bytesOf n P R) c ≡ isSet P c
+  pub present-bytes : isPresent (bytesOf n P R) c ≡ inPlane P c
   unfolding isPresent absent byteOf
   present-bytes = cases (ltb c n)
-      (λ t. rw (byte-at n P R c (ltb→lt c n t)) (byte-present (isSet P c) (isSet R c)))
-      (λ t. rw (byte-past n P R c (nltb→le c n t)) (sym (T-false (isSet P c) (not-e (isSet P c) (o .noPresent c (nltb→le c n t) l)))))
+      (λ t. rw (byte-at n P R c (ltb→lt c n t)) (byte-present (inPlane P c) (inPlane R c)))
+      (λ t. rw (byte-past n P R c (nltb→le c n t)) (sym (T-false (inPlane P c) (not-e (inPlane P c) (o .noPresent c (nltb→le c n t) l)))))
 
-  pub refined-bytes : refined (bytesOf n P R) c ≡ isSet R c
+  pub refined-bytes : refined (bytesOf n P R) c ≡ inPlane R c
   unfolding refined byteOf
   refined-bytes = cases (ltb c n)
-      (λ t. rw (byte-at n P R c (ltb→lt c n t)) (byte-refined (isSet P c) (isSet R c) (o .inside c (ltb→lt c n t))))
-      (λ t. rw (byte-past n P R c (nltb→le c n t)) (sym (T-false (isSet R c) (not-e (isSet R c) (o .noRefined c (nltb→le c n t) l)))))
+      (λ t. rw (byte-at n P R c (ltb→lt c n t)) (byte-refined (inPlane P c) (inPlane R c) (o .inside c (ltb→lt c n t))))
+      (λ t. rw (byte-past n P R c (nltb→le c n t)) (sym (T-false (inPlane R c) (not-e (inPlane R c) (o .noRefined c (nltb→le c n t) l)))))
 
 -- planes that hold cells are the planes of their bytes
 module _ (n : ℕ) (P R : List ℕ) (h : Holding n P R) where
@@ -184,11 +195,11 @@ module _ (cs : List ℕ) where
   refined-words = plane-words (wordsFor (length cs)) (refined cs)
 
   module _ (c : ℕ) (l : c < 64 * wordsFor (length cs)) where
-    pub present-set : isSet (presentOf cs) c ≡ isPresent cs c
+    pub present-set : inPlane (presentOf cs) c ≡ isPresent cs c
     unfolding presentOf
     present-set = plane-set (wordsFor (length cs)) (isPresent cs) c l
 
-    pub refined-set : isSet (refinedOf cs) c ≡ refined cs c
+    pub refined-set : inPlane (refinedOf cs) c ≡ refined cs c
     unfolding refinedOf
     refined-set = plane-set (wordsFor (length cs)) (refined cs) c l
 
@@ -203,7 +214,7 @@ module _ (cs : List ℕ) where
     inside = λ c l t. inner c (rw (refined-set c (omega (arith, words-enough (length cs)))) at t) (omega (arith, words-enough (length cs)));
   }
     where
-      inner : (c : ℕ) → T (eqb (getD cs c 0) 2) → c < 64 * wordsFor (length cs) → T (isSet (presentOf cs) c)
+      inner : (c : ℕ) → T (eqb (getD cs c 0) 2) → c < 64 * wordsFor (length cs) → T (inPlane (presentOf cs) c)
       inner c t m = rw (present-set c m, eqb→eq (getD cs c 0) 2 t) tt
 
   pub planes-in-order : T (inOrder (length cs) (presentOf cs) (refinedOf cs))

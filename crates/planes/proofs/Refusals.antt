@@ -84,7 +84,8 @@ module _ (p : Plan) (a b : Bool) where
   unfolding sizeRefusal
   less-length e = three-less (inRange p) (tooLarge p) a b e
 
-order-four : (b : Bool) → _≡_ {A = ℕ} (cond b 0 4) 0 → T b
+-- where 4 is not given, the test passes
+pub order-four : (b : Bool) → _≡_ {A = ℕ} (cond b 0 4) 0 → T b
 order-four true e = tt
 order-four false e = absurd (omega arith)
 

@@ -6,20 +6,21 @@ use mathlib.Core.Path.{_≡_}
 use Prim.Native.Nat.{ℕ, zero, suc, _+_, _-_, _*_, _/_, _%_, _^_, _<_}
 use lib.Bits.{bitAnd}
 use lib.Count.{ones}
-use lib.Dec.{T, eqb, leb}
+use lib.Dec.{T, leb}
 use lib.ListN.{length, getD}
 use Rattle.facts.specs.Bounded.{implies, every}
 use Rattle.facts.specs.Ranges.{everyFrom}
 use Rattle.facts.specs.Numbers.{tabulate}
+use Rattle.grid.specs.Knots.{isSet}
 use Rattle.mesh.specs.Mesh.{absent, refined}
 
 -- bit k of a number, the lowest first
 unfoldable pub bit : ℕ → ℕ → ℕ
 bit x k = x / 2 ^ k % 2
 
--- whether the bit of cell c is set in a plane; past the plane's end none is
-unfoldable pub isSet : List ℕ → ℕ → Bool
-isSet plane c = eqb (bit (getD plane (c / 64) 0) (c % 64)) 1
+-- a plane has cell c where its bit is set; past the plane's end it has none
+unfoldable pub inPlane : List ℕ → ℕ → Bool
+inPlane plane c = isSet (getD plane (c / 64) 0) (c % 64)
 
 -- "T/64 words, rounded up"
 unfoldable pub wordsFor : ℕ → ℕ
@@ -32,7 +33,7 @@ Words plane = (w : ℕ) → getD plane w 0 < 2 ^ 64
 -- ---- the bytes that two planes hold: 0 absent, 1 where present, 2 where present and refined
 
 unfoldable pub byteOf : List ℕ → List ℕ → ℕ → ℕ
-byteOf present refined c = cond (isSet present c) (cond (isSet refined c) 2 1) 0
+byteOf present refined c = cond (inPlane present c) (cond (inPlane refined c) 2 1) 0
 
 -- as a cell table of n bytes
 unfoldable pub bytesOf : ℕ → List ℕ → List ℕ → List ℕ
@@ -73,15 +74,15 @@ areSmall cells = every (length cells) (smallAt cells)
 
 -- "spare bits zero": those from n on, to the end of the last word
 unfoldable pub noSpare : ℕ → List ℕ → Bool
-noSpare n plane = everyFrom n (64 * wordsFor n - n) (λ c. not (isSet plane c))
+noSpare n plane = everyFrom n (64 * wordsFor n - n) (λ c. not (inPlane plane c))
 
 -- no "split cell not present"
 unfoldable pub within : ℕ → List ℕ → List ℕ → Bool
-within n present refined = every n (λ c. implies (isSet refined c) (isSet present c))
+within n present refined = every n (λ c. implies (inPlane refined c) (inPlane present c))
 
 -- as far as the planes go, and not only of n cells
 abbrev pub Within : List ℕ → List ℕ → Type 0
-Within present refined = (c : ℕ) → T (isSet refined c) → T (isSet present c)
+Within present refined = (c : ℕ) → T (inPlane refined c) → T (inPlane present c)
 
 unfoldable pub inOrder : ℕ → List ℕ → List ℕ → Bool
 inOrder n present refined = (noSpare n present && noSpare n refined) && within n present refined

@@ -12,11 +12,11 @@ use lib.ListN.{length, getD}
 use Rattle.facts.specs.Bounded.{every}
 use Rattle.facts.proofs.Tests.{differ, and-i, and-l, and-r, not-i, not-e, cases, same, eqb-of}
 use Rattle.facts.proofs.Bounded.{every-i, every-e}
-use Rattle.facts.proofs.Ranges.{from-i, from-e, from-none}
-use Rattle.planes.specs.Bits.{bit, isSet, wordsFor, Words, noSpare, Within, inOrder}
+use Rattle.facts.proofs.Ranges.{from-none}
+use Rattle.planes.specs.Bits.{bit, inPlane, wordsFor, Words, noSpare, Within, inOrder}
 use Rattle.words.specs.Words.{wordWithin}
 use Rattle.planes.proofs.Bits.{bit-lt, bit-of-zero, bits-same, and-bit}
-use Rattle.planes.proofs.Laws.{words-enough, past-end, ordered, ordered-within, order-i}
+use Rattle.planes.proofs.Laws.{in-plane, spares, no-spares, past-end, ordered, ordered-within, order-i}
 
 -- ---- spare bits are those of the last word from the last cell on
 
@@ -40,14 +40,6 @@ high-zero x s l h = bits-same 64 (x / 2 ^ s) 0 (omega (arith, shr-le x s)) (omeg
     digit k i = cases (ltb k 64) (λ t. h k i (ltb→lt k 64 t)) (λ t.
         high-bit x 64 k (div-eq-of-lt l) (nltb→le k 64 t))
 
-spares : (n : ℕ) (plane : List ℕ) → T (noSpare n plane) → (c : ℕ) → n ≤ c → c < 64 * wordsFor n → T (not (isSet plane c))
-unfolding noSpare
-spares n plane t c l m = from-e n (64 * wordsFor n - n) _ t c l (omega (arith, words-enough n))
-
-no-spares : (n : ℕ) (plane : List ℕ) → ((c : ℕ) → n ≤ c → c < 64 * wordsFor n → T (not (isSet plane c))) → T (noSpare n plane)
-unfolding noSpare
-no-spares n plane h = from-i n (64 * wordsFor n - n) _ (λ c l m. h c l (omega (arith, words-enough n)))
-
 module _ (n : ℕ) (plane : List ℕ) where
   pub spare-none : n % 64 ≡ 0 → true ≡ noSpare n plane
   unfolding noSpare wordsFor
@@ -58,18 +50,18 @@ module _ (n : ℕ) (plane : List ℕ) where
     abbrev last : ℕ
     last = getD plane (n / 64) 0
 
-    spare-e : T (eqb (last / 2 ^ (n % 64)) 0) → (c : ℕ) → n ≤ c → c < 64 * wordsFor n → T (not (isSet plane c))
-    unfolding wordsFor isSet
+    spare-e : T (eqb (last / 2 ^ (n % 64)) 0) → (c : ℕ) → n ≤ c → c < 64 * wordsFor n → T (not (inPlane plane c))
+    unfolding wordsFor
     spare-e t c l m =
         let e : c / 64 ≡ n / 64 = omega arith in
-        rw (e, high-bit last (n % 64) (c % 64) (eqb→eq (last / 2 ^ (n % 64)) 0 t) (omega arith)) tt
+        rw (in-plane plane c, e, high-bit last (n % 64) (c % 64) (eqb→eq (last / 2 ^ (n % 64)) 0 t) (omega arith)) tt
 
-    spare-i : ((c : ℕ) → n ≤ c → c < 64 * wordsFor n → T (not (isSet plane c))) → last < 2 ^ 64 → T (eqb (last / 2 ^ (n % 64)) 0)
-    unfolding wordsFor isSet
+    spare-i : ((c : ℕ) → n ≤ c → c < 64 * wordsFor n → T (not (inPlane plane c))) → last < 2 ^ 64 → T (eqb (last / 2 ^ (n % 64)) 0)
+    unfolding wordsFor
     spare-i h small = eqb-of (last / 2 ^ (n % 64)) 0 (high-zero last (n % 64) small (λ k i j.
         let a : (64 * (n / 64) + k) / 64 ≡ n / 64 = omega arith in
         let b : (64 * (n / 64) + k) % 64 ≡ k = omega arith in
-        zero-of (bit last k) (bit-lt last k) (rw (a, b) at (h (64 * (n / 64) + k) (omega arith) (omega arith)))))
+        zero-of (bit last k) (bit-lt last k) (rw (in-plane plane (64 * (n / 64) + k), a, b) at (h (64 * (n / 64) + k) (omega arith) (omega arith)))))
 
     pub spare-last : last < 2 ^ 64 → eqb (last / 2 ^ (n % 64)) 0 ≡ noSpare n plane
     spare-last small = same (eqb (last / 2 ^ (n % 64)) 0) (noSpare n plane)
@@ -96,17 +88,15 @@ module _ (P R : List ℕ) where
       eqb-of (bit (getD P w 0) k) 1 (omega (arith, word-e w k a, bit-lt (getD P w 0) k))
 
   pub words-within : length R ≤ length P → T (every (length P) (wordWithin P R)) → Within P R
-  unfolding isSet
   words-within l t c u = cases (ltb (c / 64) (length P))
-      (λ v. set-within (c / 64) (c % 64) (every-e (length P) (wordWithin P R) t (c / 64) (ltb→lt (c / 64) (length P) v)) u)
+      (λ v. rw (in-plane P c) (set-within (c / 64) (c % 64) (every-e (length P) (wordWithin P R) t (c / 64) (ltb→lt (c / 64) (length P) v)) (rw (in-plane R c) at u)))
       (λ v. absurd (past-end R c (omega (arith, nltb→le (c / 64) (length P) v)) u))
 
   within-words : Words P → Words R → Within P R → T (every (length P) (wordWithin P R))
-  unfolding isSet
   within-words p r h = every-i (length P) (wordWithin P R) (λ w l. word-i w (r w) (p w) (λ k i.
       let a : (64 * w + k) / 64 ≡ w = omega arith in
       let b : (64 * w + k) % 64 ≡ k = omega arith in
-      at-most (bit (getD R w 0) k) (bit (getD P w 0) k) (bit-lt (getD R w 0) k) (rw (a, b) at (h (64 * w + k)))))
+      at-most (bit (getD R w 0) k) (bit (getD P w 0) k) (bit-lt (getD R w 0) k) (rw (in-plane R (64 * w + k), in-plane P (64 * w + k), a, b) at (h (64 * w + k)))))
     where
       at-most : (x y : ℕ) → x < 2 → (T (eqb x 1) → T (eqb y 1)) → x ≤ y
       at-most x y l f = cases (eqb x 1) (λ t. omega (arith, eqb→eq x 1 t, eqb→eq y 1 (f t))) (λ t. omega (arith, differ x 1 t))
@@ -119,7 +109,7 @@ module _ (P R : List ℕ) where
         let s = spares n P (and-r (every (length P) (wordWithin P R)) (noSpare n P) t) in
         order-i n P R (record {
           noPresent = s;
-          noRefined = λ c l m. not-i (isSet R c) (λ u. not-e (isSet P c) (s c l m) (w c u));
+          noRefined = λ c l m. not-i (inPlane R c) (λ u. not-e (inPlane P c) (s c l m) (w c u));
           inside = λ c l u. w c u;
         }))
         (λ t. and-i (every (length P) (wordWithin P R)) (noSpare n P) (within-words p r (ordered-within n P R lP lR t)) (no-spares n P (ordered n P R t .noPresent)))

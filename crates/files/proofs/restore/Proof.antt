@@ -5,13 +5,13 @@ use native.Mathlib.Omega.{arith}
 use lib.Dec.{eqb}
 use lib.ListN.{length}
 use mathlib.Core.List.{List}
-use Rattle.facts.proofs.Zeros.{zeros, part-length}
+use Rattle.facts.proofs.Zeros.{zeros, part-length, clear}
 use Rattle.grid.specs.Plan.{cellTotal}
 use Rattle.grid.specs.Bounds.{mostCells}
 use Rattle.mesh.proofs.Bridge.{Passed, passed}
 use Rattle.files.specs.File.{rebuilt}
 use Rattle.files.specs.Steps.{cellsOf, tableRefusal}
-use Rattle.files.proofs.Reading.{clear, rebuilt-size, read-beyond, mesh-table, read-refused, read-done}
+use Rattle.files.proofs.Reading.{rebuilt-size, read-beyond, mesh-table, read-refused, read-done}
 use borrow.Author.Needs.{needs}
 use Rattle.files.proofs.restore.Statement.{statement}
 use Rattle.files.proofs.restore.Tie as tie

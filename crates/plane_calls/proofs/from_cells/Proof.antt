@@ -3,9 +3,9 @@ use mathlib.Core.Path.{_≡_, refl, sym, _∙_}
 use Prim.Native.Nat.{_*_}
 use native.Mathlib.Omega.{arith}
 use lib.ListN.{length}
-use Rattle.facts.proofs.Zeros.{zeros, part-length}
+use Rattle.facts.proofs.Zeros.{zeros, part-length, clear}
 use Rattle.planes.specs.Planes.{cellsRefusal}
-use Rattle.plane_calls.proofs.Copies.{clear, both-words, both-room, cells-fit, pack-early, pack-4, pack-made}
+use Rattle.plane_calls.proofs.Copies.{both-words, both-room, cells-fit, pack-early, pack-4, pack-made}
 use Rattle.facts.proofs.Tests.{true-T}
 use Rattle.plane_calls.proofs.Rooms.{small-of}
 use borrow.Author.Needs.{needs}
