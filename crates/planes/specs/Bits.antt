@@ -63,7 +63,7 @@ presentOf cells = planeOf (wordsFor (length cells)) (isPresent cells)
 unfoldable pub refinedOf : List ℕ → List ℕ
 refinedOf cells = planeOf (wordsFor (length cells)) (refined cells)
 
--- planes hold these bytes and no others
+-- the bytes that planes can hold are 0, 1 and 2
 unfoldable pub smallAt : List ℕ → ℕ → Bool
 smallAt cells c = leb (getD cells c 0) 2
 

@@ -8,13 +8,13 @@ use crate::{Call, Cell, Count, Function, Lists, Mesh, Planes, Refusal};
 ///
 /// ```
 /// # use wallmirror::{AnyMesh, Cell, Mesh, Plan, Planes, Refusal};
-/// fn halve_first(mesh: &mut impl AnyMesh) -> Result<usize, Refusal> {
+/// fn refine_first(mesh: &mut impl AnyMesh) -> Result<usize, Refusal> {
 ///     mesh.refine_cells(&[Cell(0)])?;
 ///     Ok(mesh.count()?.active_cells)
 /// }
 /// let plan = Plan { columns: 3, levels: 3, ..Plan::default() };
-/// assert_eq!(halve_first(&mut Mesh::open(plan)?), Ok(6));
-/// assert_eq!(halve_first(&mut Planes::open(plan)?), Ok(6));
+/// assert_eq!(refine_first(&mut Mesh::open(plan)?), Ok(6));
+/// assert_eq!(refine_first(&mut Planes::open(plan)?), Ok(6));
 /// # Ok::<(), Refusal>(())
 /// ```
 pub trait AnyMesh: sealed::Sealed {
