@@ -51,11 +51,11 @@
  * covers the cells of level 1 in row 0, columns 0 and 1.
  *
  * Admissibility. In class m, not 0, a refined cell of level j with j - m + 1 at least 0 has a
- * neighbourhood: the cells of level j - m + 1 that, across as well as up, are covered by a common
- * function of that level with its ancestor there. Without corners these are the cells whose column
- * differs by at most degree_across, and row by at most degree_up, from those of the ancestor; with
- * them there may be fewer. A mesh is admissible where the neighbourhood of every refined cell is
- * refined. In class 0 every mesh is.
+ * neighbourhood: the cells of level j - m + 1 that have a child which, across as well as up, is
+ * covered by a common function of level j - m + 2 with the cell's ancestor there (in class 2 the
+ * cell itself). Without corners such a child's column differs by at most degree_across, and its row
+ * by at most degree_up, from those of the ancestor; with them there may be fewer. A mesh is
+ * admissible where the neighbourhood of every refined cell is refined. In class 0 every mesh is.
  *
  * Levels over a cell. A function is over a cell where its support and the cell have a point in
  * common, whatever their levels. In class m, not 0, the active functions over an active cell of

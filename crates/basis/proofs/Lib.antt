@@ -3,4 +3,4 @@ pub mod Examples
 pub mod Points
 pub mod Regions
 pub mod Published
-pub mod FewLevels
+pub mod Presence

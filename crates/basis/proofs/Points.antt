@@ -9,7 +9,7 @@ use Rattle.grid.specs.declared.Plan.{Plan}
 use Rattle.grid.specs.declared.Place.{Place}
 use Rattle.grid.specs.Plan.{ratio, grown, columnsAt, rowsAt, CellInside, above, ancestor}
 use Rattle.grid.specs.Range.{HasNeighbourhood}
-use Rattle.grid.specs.Spans.{nearLevel, ancestorOf}
+use Rattle.grid.specs.Spans.{ancestorLevel, ancestorOf}
 use Rattle.grid.proofs.Laws.{ratio-pos}
 use Rattle.basis.specs.Basis.{finest, cellOver}
 
@@ -66,15 +66,15 @@ module _ (p : Plan) where
       to : (z : ℕ) → z / ratio p ^ (finest p - suc k) / ratio p ≡ z / ratio p ^ (finest p - k)
       to z = rw (← step k b) (up-suc (ratio p) (ratio-pos p) (finest p - suc k) z)
 
-  -- the ancestor on the neighbourhoods' level of the cell that the point lies in has the point too
-  pub over-ancestor : (j y x : ℕ) → j < p .levels → HasNeighbourhood p j → ancestorOf p (cellOver p j y x) ≡ cellOver p (nearLevel p j) y x
+  -- the ancestor of the cell that the point lies in has the point too
+  pub over-ancestor : (j y x : ℕ) → j < p .levels → HasNeighbourhood p j → ancestorOf p (cellOver p j y x) ≡ cellOver p (ancestorLevel p j) y x
   unfolding ancestorOf cellOver ancestor finest
-  over-ancestor j y x b has = λ i. record { level = nearLevel p j; row = to y i; column = to x i }
+  over-ancestor j y x b has = λ i. record { level = ancestorLevel p j; row = to y i; column = to x i }
     where
-      e : finest p - nearLevel p j ≡ finest p - j + (p .class - 1)
+      e : finest p - ancestorLevel p j ≡ finest p - j + (p .class - 2)
       e = omega (arith, has .level≥, has .class≢)
 
-      to : (z : ℕ) → z / ratio p ^ (finest p - j) / ratio p ^ (p .class - 1) ≡ z / ratio p ^ (finest p - nearLevel p j)
+      to : (z : ℕ) → z / ratio p ^ (finest p - j) / ratio p ^ (p .class - 2) ≡ z / ratio p ^ (finest p - ancestorLevel p j)
       to z = rw (e, pow-add, div-div-eq-div-mul)
 
   -- each cell has a point

@@ -11,7 +11,7 @@ use Rattle.facts.specs.Numbers.{elem, all, listed, tabulate, stored, first}
 use Rattle.hierarchy.specs.Hierarchy.{reach, needs, closure}
 use Rattle.grid.specs.declared.Plan.{Plan}
 use Rattle.grid.specs.Numbering.{offset, number, levelOf, placeOn, place}
-use Rattle.grid.specs.Plan.{between, numbersInRange, cornersInRange, inRange, ratio, grown, tooLarge, planRefusal, lastLevel, above, below, parent, child, supportedAt, supported, ancestor, nearAt, near, cellTotal, cellLevel, hierarchy}
+use Rattle.grid.specs.Plan.{between, numbersInRange, cornersInRange, inRange, ratio, grown, tooLarge, planRefusal, lastLevel, above, below, parent, child, supportedAt, supported, ancestor, commonAt, nearAt, near, cellTotal, cellLevel, hierarchy}
 use Rattle.grid.specs.Spans.{inSpan, inRectangle}
 use Rattle.grid.specs.Knots.{isSet, isCorner, cornersTo, times, knotFrom, knot, beyond, functions as functionCount, covers, apart, together}
 use Rattle.mesh.specs.Mesh.{absent, active, refined, children, cellFits, isMesh, isAdmissible, reactivable, tableOf, labelOf, labels, isLabelled, refusal3, refusal6, check, freshCells, freshFunctions, openMesh}
@@ -22,11 +22,11 @@ use Rattle.outcomes.proofs.Examples as calls
 use Rattle.cost.specs.Reach.{atMost, window, reaches, mostRefined}
 use Rattle.cost.specs.Cost.{mostOf}
 
--- the cell 23, of level 2, row 0, column 8, needs cell 0 (`needed`, below), and reaches it: two levels up, and two columns from its
--- ancestor, the most that degree 1 allows
-pub two-columns : reaches (plan 3 1 4 1 1 2) 23 0 ≡ true
+-- the cell 4 of W2, of level 1, row 0, column 1, needs cell 1 (`needed`, below), and reaches it: one column from its ancestor, the most
+-- that degree 1 allows
+pub one-column : reaches W2 4 1 ≡ true
 unfolding atMost window reaches inSpan inRectangle some offset number levelOf placeOn place ratio grown ancestor
-two-columns = refl
+one-column = refl
 
 pub data Row : Type 0 where
   -- a mark on the cell c reaches just these cells, and costs at most n
@@ -64,37 +64,38 @@ allHold (r ∷ rs) = let rest = allHold rs in holds r && rest
 
 pub table : List Row
 table =
-    -- "plan 8 1 5 1 1 2 with cell 3 split, where marking 15 splits 2, 4 and 15": here without its last two levels, which change nothing
+    -- "plan 8 1 5 1 1 2 with cell 3 split, where marking 15 splits" 4 and 15: here without its last two levels, which change nothing
     -- of it. The session program's stored input (crate session) has all five
-    called (let p = plan 8 1 3 1 1 2 in row p (refining p (3 ∷ [])) (split cells (15 ∷ []) 0 (2 ∷ 4 ∷ 15 ∷ []) (3 ∷ 4 ∷ 12 ∷ 13 ∷ []) ∷ []) [])
-    -- cell 15, of level 1, row 0, column 7, stands on column 3 of level 0: it reaches columns 1 to 5 there
-    ∷ reached (plan 8 1 3 1 1 2) 15 (1 ∷ 2 ∷ 3 ∷ 4 ∷ 5 ∷ 15 ∷ []) 26
+    called (let p = plan 8 1 3 1 1 2 in row p (refining p (3 ∷ [])) (split cells (15 ∷ []) 0 (4 ∷ 15 ∷ []) (4 ∷ 13 ∷ []) ∷ []) [])
+    -- cell 15, of level 1, row 0, column 7, stands on column 3 of level 0: it reaches columns 2 to 4 there
+    ∷ reached (plan 8 1 3 1 1 2) 15 (2 ∷ 3 ∷ 4 ∷ 15 ∷ []) 10
     -- at the edge a window ends with the level
-    ∷ reached (plan 8 1 3 1 1 2) 8 (0 ∷ 1 ∷ 2 ∷ 8 ∷ []) 26
-    -- 5 rows of 5 columns and the cell itself: where a window lies inside, the mark reaches as many cells as the bound says
-    ∷ full (plan 5 5 3 1 1 2) 69 26
-    -- degrees 2 and 1: columns up to 4 away, and rows up to 2: 9 · 5 and 1
-    ∷ full (plan 9 5 3 2 1 2) 125 46
+    ∷ reached (plan 8 1 3 1 1 2) 8 (0 ∷ 1 ∷ 8 ∷ []) 10
+    -- 3 rows of 3 columns and the cell itself: where a window lies inside, the mark reaches as many cells as the bound says
+    ∷ full (plan 3 3 3 1 1 2) 23 10
+    -- degrees 2 and 1: columns up to 2 away, and rows up to 1: 5 · 3 and 1
+    ∷ full (plan 5 3 3 2 1 2) 39 16
     -- a mark of level 0, and any in class 0, reaches itself alone
     ∷ reached W2 1 (1 ∷ []) 1
     ∷ reached W0 7 (7 ∷ []) 1
     -- class 3: from level 2 to level 0, past level 1; from level 1 nowhere
-    ∷ reached (plan 3 1 4 1 1 3) 15 (0 ∷ 1 ∷ 2 ∷ 15 ∷ []) 26
+    ∷ reached (plan 3 1 4 1 1 3) 15 (0 ∷ 1 ∷ 15 ∷ []) 10
     ∷ reached (plan 3 1 4 1 1 3) 3 (3 ∷ []) 1
-    -- in two steps, by way of a cell of level 1
-    ∷ needed (plan 3 1 4 1 1 2) 23 0
-    -- P7: cell 3 needs cell 1. It does not need cell 2, which it reaches
-    ∷ needed W2 3 1
-    ∷ spared W2 3 2
+    -- cell 23, of level 2, row 0, column 8, needs columns 3 and 4 of level 1, and so, in two steps, cell 1
+    ∷ needed (plan 3 1 4 1 1 2) 23 1
+    -- P7: cell 3 does not need cell 1, which it reaches. Cell 4 does
+    ∷ spared W2 3 1
+    ∷ needed W2 4 1
     -- marks of levels 1, 0 and 2; one mark twice
-    ∷ costing (plan 8 1 5 1 1 2) (15 ∷ 3 ∷ 40 ∷ []) 78
-    ∷ costing (plan 8 1 5 1 1 2) (15 ∷ 15 ∷ []) 52
-    -- near the bound: 3 by 3 cells with the one in the middle refined, and a mark on a child of it. 9 cells of at most 26
-    ∷ refines (plan 3 3 3 1 1 2) (4 ∷ []) 23 (0 ∷ 1 ∷ 2 ∷ 3 ∷ 5 ∷ 6 ∷ 7 ∷ 8 ∷ 23 ∷ []) 26
-    -- class 3, a mark of level 2: it reaches level 0. 2 cells of at most 26
-    ∷ refines (plan 2 1 4 1 1 3) (0 ∷ 2 ∷ []) 10 (1 ∷ 10 ∷ []) 26
+    ∷ costing (plan 8 1 5 1 1 2) (15 ∷ 3 ∷ 40 ∷ []) 30
+    ∷ costing (plan 8 1 5 1 1 2) (15 ∷ 15 ∷ []) 20
+    -- 3 by 3 cells with the one in the middle refined, and a mark on its first child, in row 2 and column 2 of level 1: rows and columns 1
+    -- to 3 stand on rows and columns 0 and 1. 4 cells of at most 10
+    ∷ refines (plan 3 3 3 1 1 2) (4 ∷ []) 23 (0 ∷ 1 ∷ 3 ∷ 23 ∷ []) 10
+    -- class 3, a mark of level 2: it reaches level 0, by its ancestor of level 1. 2 cells of at most 10
+    ∷ refines (plan 2 1 4 1 1 3) (0 ∷ 3 ∷ []) 13 (1 ∷ 13 ∷ []) 10
     ∷ []
 
 pub worked : T (allHold table)
-unfolding table atMost window reaches mostOf inSpan inRectangle planRefusal some every sum elem all listed tabulate stored first reach needs closure offset number levelOf placeOn place between numbersInRange cornersInRange inRange ratio grown tooLarge lastLevel above below parent child isSet isCorner cornersTo times knotFrom knot beyond functionCount covers apart together supportedAt supported ancestor nearAt near absent active refined children cellFits isMesh isAdmissible labelOf labels isLabelled refusal3 refusal6 check freshCells freshFunctions openMesh reactivable eligible isTooDeep markRefusal underMarked underKept selected base tableOf smallest changed written refused settle newCells refusal outcome covered
+unfolding table atMost window reaches mostOf inSpan inRectangle planRefusal some every sum elem all listed tabulate stored first reach needs closure offset number levelOf placeOn place between numbersInRange cornersInRange inRange ratio grown tooLarge lastLevel above below parent child isSet isCorner cornersTo times knotFrom knot beyond functionCount covers apart together supportedAt supported ancestor commonAt nearAt near absent active refined children cellFits isMesh isAdmissible labelOf labels isLabelled refusal3 refusal6 check freshCells freshFunctions openMesh reactivable eligible isTooDeep markRefusal underMarked underKept selected base tableOf smallest changed written refused settle newCells refusal outcome covered
 worked = tt

@@ -20,7 +20,7 @@ use Rattle.grid.specs.Spans.{inRectangle}
 use Rattle.grid.proofs.Rising.{Apart}
 use Rattle.grid.proofs.Laws.{cell-number-place, near-in}
 use Rattle.grid.proofs.Spans.{InRectangle, rectangle-fact, rectangle-test}
-use Rattle.grid.proofs.Ancestors.{ancestor-own, ancestor-more, ancestors-apart, Beside, near-beside}
+use Rattle.grid.proofs.Ancestors.{ancestor-own, ancestor-more, ancestors-apart, ancestors-within, Beside, NearBeside, near-beside}
 use Rattle.cost.specs.Reach.{atMost, window, levelsReached, reaches, mostRefined}
 
 -- ---- what a cell needs
@@ -28,8 +28,8 @@ use Rattle.cost.specs.Reach.{atMost, window, levelsReached, reaches, mos
 -- x is in c's window d levels up, as facts
 record InWindow (p : Plan) (d : ℕ) (c x : Place) : Type 0 where
   levels : x .level + d ≡ c .level
-  columns : Apart (2 * p .«degree_across») (x .column) (ancestor p d (c .column))
-  rows : Apart (2 * p .«degree_up») (x .row) (ancestor p d (c .row))
+  columns : Apart (p .«degree_across») (x .column) (ancestor p d (c .column))
+  rows : Apart (p .«degree_up») (x .row) (ancestor p d (c .row))
 
 window-test : (p : Plan) (d : ℕ) (c x : Place) → InWindow p d c x → T (inRectangle (window p d c) x)
 unfolding window atMost
@@ -50,21 +50,24 @@ own-window p c = record {
   rows = rw (ancestor-own p (c .row)) (record { right = omega arith; left = omega arith });
 }
 
--- one direction: a step of at most g, from a column at most 2·g from a's ancestor, ends at most 2·g from the next ancestor
-step-apart : (p : Plan) (d e g a q x : ℕ) → 0 < e → Apart g x (ancestor p e q) → Apart (2 * g) q (ancestor p d a) → Apart (2 * g) x (ancestor p (d + e) a)
-step-apart p d e g a q x z s o =
-    let h = ancestors-apart p e g q (ancestor p d a) z o in
-    rw (ancestor-more p d e a) (record { right = omega (arith, s .right, h .right); left = omega (arith, s .left, h .left) })
+-- one direction: from a column at most g from a's ancestor, a step to the parent of one at most g from its own ancestor ends at most g
+-- from the next ancestor of a
+step-apart : (p : Plan) (d e g a q x : ℕ) → Beside p g e q x → Apart g q (ancestor p d a) → Apart g x (ancestor p (d + (e + 1)) a)
+step-apart p d e g a q x s o =
+    let h = ancestors-within p e g q (ancestor p d a) o in
+    let n = s .near in
+    rw (ancestor-more p d (e + 1) a, ancestor-more p e 1 (ancestor p d a), ← s .stands)
+    (ancestors-apart p 1 g (s .child) (ancestor p e (ancestor p d a)) (omega arith) (record { right = omega (arith, n .right, h .right); left = omega (arith, n .left, h .left) }))
 
 -- a step into a neighbourhood leads into the next window
-window-step : (p : Plan) (d : ℕ) (c y x : Place) → InWindow p d c y → Beside p y x → InWindow p (d + (p .class - 1)) c x
+window-step : (p : Plan) (d : ℕ) (c y x : Place) → InWindow p d c y → NearBeside p y x → InWindow p (d + (p .class - 1)) c x
 window-step p d c y x i b =
-    let z : 0 < p .class - 1 = omega (arith, b .graded) in
-    record {
-      levels = omega (arith, i .levels, b .levels);
-      columns = step-apart p d (p .class - 1) (p .«degree_across») (c .column) (y .column) (x .column) z (b .columns) (i .columns);
-      rows = step-apart p d (p .class - 1) (p .«degree_up») (c .row) (y .row) (x .row) z (b .rows) (i .rows);
-    }
+    let e : p .class - 2 + 1 ≡ p .class - 1 = omega (arith, b .graded) in
+    rw (← e) (record {
+      levels = omega (arith, i .levels, b .levels, b .graded);
+      columns = step-apart p d (p .class - 2) (p .«degree_across») (c .column) (y .column) (x .column) (b .columns) (i .columns);
+      rows = step-apart p d (p .class - 2) (p .«degree_up») (c .row) (y .row) (x .row) (b .rows) (i .rows);
+    })
 
 module _ (p : Plan) (range : InRange p) where
   -- so do as many steps as there are
@@ -120,9 +123,9 @@ module _ (p : Plan) (range : InRange p) where
           let e : x ≡ cellAt i k = sym (cell-number-place p range x b) ∙ (λ j. cellNumber p (record { level = el j; row = er j; column = ek j })) in
           some-i _ _ i (omega (arith, rows .from, rows .to)) (some-i _ _ k (omega (arith, columns .from, columns .to)) (eqb-of x (cellAt i k) e))
 
-  window-few : (d : ℕ) (c : Place) → Few (cellTotal p) (λ x. inRectangle (window p d c) (cellPlace p x)) ((4 * p .«degree_up» + 1) * ((4 * p .«degree_across» + 1) * 1))
+  window-few : (d : ℕ) (c : Place) → Few (cellTotal p) (λ x. inRectangle (window p d c) (cellPlace p x)) ((2 * p .«degree_up» + 1) * ((2 * p .«degree_across» + 1) * 1))
   unfolding window atMost
-  window-few d c = rectangle-few (window p d c) (4 * p .«degree_up» + 1) (4 * p .«degree_across» + 1) (omega arith) (omega arith)
+  window-few d c = rectangle-few (window p d c) (2 * p .«degree_up» + 1) (2 * p .«degree_across» + 1) (omega arith) (omega arith)
 
   -- a marked cell reaches at most so many
   pub reaches-few : (c : ℕ) → Few (cellTotal p) (reaches p c) (mostRefined p (cellLevel p c))
@@ -130,9 +133,9 @@ module _ (p : Plan) (range : InRange p) where
   reaches-few c =
       let n : ℕ = levelsReached p (cellLevel p c) in
       let q : ℕ → ℕ → Bool = λ i x. inRectangle (window p (suc i * (p .class - 1)) (cellPlace p c)) (cellPlace p x) in
-      let f : Few (cellTotal p) (λ x. some n (λ i. q i x)) (n * ((4 * p .«degree_up» + 1) * ((4 * p .«degree_across» + 1) * 1))) =
+      let f : Few (cellTotal p) (λ x. some n (λ i. q i x)) (n * ((2 * p .«degree_up» + 1) * ((2 * p .«degree_across» + 1) * 1))) =
       few-some (cellTotal p) n _ q (λ i _. window-few (suc i * (p .class - 1)) (cellPlace p c)) in
-      let o : Few (cellTotal p) (reaches p c) (1 + n * ((4 * p .«degree_up» + 1) * ((4 * p .«degree_across» + 1) * 1))) =
+      let o : Few (cellTotal p) (reaches p c) (1 + n * ((2 * p .«degree_up» + 1) * ((2 * p .«degree_across» + 1) * 1))) =
       few-or (cellTotal p) (reaches p c) (λ x. eqb x c) (λ x. some n (λ i. q i x)) (λ x _ t. t) (few-one (cellTotal p) c) f in
       omega arith
 

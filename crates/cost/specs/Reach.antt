@@ -14,12 +14,12 @@ use Rattle.grid.specs.Spans.{inRectangle}
 unfoldable pub atMost : ℕ → ℕ → Span
 atMost g x = record { first = x - g; end = x + g + 1 }
 
--- the window of the cell at c, d levels up: the cells at most 2·p columns and 2·q rows from its ancestor there
+-- the window of the cell at c, d levels up: the cells at most p columns and q rows from its ancestor there
 unfoldable pub window : Plan → ℕ → Place → Rectangle
 window p d c = record {
   level = c .level - d;
-  rows = atMost (2 * p .«degree_up») (ancestor p d (c .row));
-  columns = atMost (2 * p .«degree_across») (ancestor p d (c .column));
+  rows = atMost (p .«degree_up») (ancestor p d (c .row));
+  columns = atMost (p .«degree_across») (ancestor p d (c .column));
 }
 
 -- "⌊j/(m-1)⌋": how many levels above its own a cell of level j reaches. In class 0 it is none, since a division by 0 is 0 here
@@ -32,6 +32,7 @@ reaches p c x =
     eqb x c
     || some (levelsReached p (cellLevel p c)) (λ i. inRectangle (window p (suc i * (p .class - 1)) (cellPlace p c)) (cellPlace p x))
 
--- "at most 1 + ⌊j/(m-1)⌋·(4p+1)·(4q+1) cells", of a marked cell of level j
+-- how many cells these are at most, of a marked cell of level j. Req 09 asks for "at most 1 + ⌊j/(m-1)⌋·(4p+1)·(4q+1) cells"; with the
+-- neighbourhoods of Req 12 2p+1 and 2q+1 are enough
 abbrev pub mostRefined : Plan → ℕ → ℕ
-mostRefined p j = 1 + levelsReached p j * (4 * p .«degree_across» + 1) * (4 * p .«degree_up» + 1)
+mostRefined p j = 1 + levelsReached p j * (2 * p .«degree_across» + 1) * (2 * p .«degree_up» + 1)

@@ -13,7 +13,7 @@ use Rattle.hierarchy.specs.Hierarchy.{reach, needs, closure}
 use Rattle.grid.specs.declared.Plan.{Plan}
 use Rattle.grid.specs.Numbering.{offset, number, levelOf, placeOn, place}
 use Rattle.grid.specs.Knots.{isSet, isCorner, cornersTo, times, knotFrom, knot, beyond, functions as functionCount, covers, apart, together}
-use Rattle.grid.specs.Plan.{between, numbersInRange, cornersInRange, inRange, tooLarge, ratio, grown, above, below, parent, child, lastLevel, supportedAt, supported, ancestor, nearAt, near, cellTotal}
+use Rattle.grid.specs.Plan.{between, numbersInRange, cornersInRange, inRange, tooLarge, ratio, grown, above, below, parent, child, lastLevel, supportedAt, supported, ancestor, commonAt, nearAt, near, cellTotal}
 use Rattle.mesh.specs.Mesh.{absent, active, refined, reactivable, children, cellFits, isMesh, isAdmissible, tableOf, labelOf, labels, isLabelled, refusal3, refusal6, check, freshCells, freshFunctions, openMesh}
 use Rattle.outcomes.specs.Calls.{Direction, refine, coarsen, By, cells, functions, eligible, isTooDeep, markRefusal, underMarked, underKept, selected, base, smallest, changed, written, refused, settle, newCells, refusal, outcome}
 use Rattle.outcomes.specs.Runs.{Tables, LentLists, Entry, finalOf, logOf}
@@ -113,15 +113,15 @@ mislabelled = tables (fresh S .cells) (refining S (0 ∷ []) .functions)
 abbrev cubic : Plan
 cubic = plan 1 1 1 3 1 0
 
--- document 01's P7 as a draft: cell 0 is split; 3 is added, then 4 and 0, which adds neither since 0 is split, then 3 again and 1
-abbrev P7 : List DraftCall
-P7 = opening ∷ adding (3 ∷ []) ∷ adding (4 ∷ 0 ∷ []) ∷ adding (3 ∷ 1 ∷ []) ∷ change refine cells (2 ∷ []) ∷ closing (room 3 4) ∷ []
+-- cell 0 is split; 4 is added, then 3 and 0, which adds neither since 0 is split, then 4 again and 3
+abbrev graded : List DraftCall
+graded = opening ∷ adding (4 ∷ []) ∷ adding (3 ∷ 0 ∷ []) ∷ adding (4 ∷ 3 ∷ []) ∷ change refine cells (2 ∷ []) ∷ closing (room 3 4) ∷ []
 
 pub table : List Row
 table =
-    -- closed, 1 and 3 are split, as by one split
-    called W2 (refining W2 (0 ∷ [])) 4 P7 (0 ∷ 0 ∷ 8 ∷ 0 ∷ 18 ∷ 0 ∷ []) (0 ∷ 1 ∷ 3 ∷ []) noDraft (3 ∷ 3 ∷ 1 ∷ 77 ∷ [])
-    ∷ kept W2 (refining W2 (0 ∷ [])) 4 P7 ((18 ∷ []) ∷ [] ∷ [] ∷ (0 ∷ []) ∷ (1 ∷ 3 ∷ []) ∷ (1 ∷ 5 ∷ 8 ∷ []) ∷ [])
+    -- closed, 3 and 4 are split, and 1, which 4 needs, as by one split
+    called W2 (refining W2 (0 ∷ [])) 4 graded (0 ∷ 0 ∷ 8 ∷ 0 ∷ 18 ∷ 0 ∷ []) (0 ∷ 1 ∷ 3 ∷ 4 ∷ []) noDraft (4 ∷ 4 ∷ 3 ∷ 77 ∷ [])
+    ∷ kept W2 (refining W2 (0 ∷ [])) 4 graded ((18 ∷ []) ∷ [] ∷ [] ∷ (0 ∷ []) ∷ (1 ∷ 3 ∷ 4 ∷ []) ∷ (1 ∷ 5 ∷ 8 ∷ 9 ∷ []) ∷ [])
     -- a list exactly full, and one mark more; repeats take an entry each; no mark at all always fits
     ∷ called S (fresh S) 2 (opening ∷ adding (0 ∷ []) ∷ adding (1 ∷ 1 ∷ []) ∷ adding (0 ∷ []) ∷ adding (1 ∷ []) ∷ adding [] ∷ []) (0 ∷ 0 ∷ 10 ∷ 0 ∷ 10 ∷ 0 ∷ []) [] (draft 1 2) (0 ∷ 0 ∷ [])
     -- 7, 8 and 9 before 10, the marks in list order
@@ -157,5 +157,5 @@ table =
     ∷ []
 
 pub worked : T (allHold table)
-unfolding table some every elem all listed tabulate stored first writtenAt reach needs closure offset number levelOf placeOn place between numbersInRange cornersInRange inRange ratio grown tooLarge lastLevel above below parent child isSet isCorner cornersTo times knotFrom knot beyond functionCount covers apart together supportedAt supported ancestor nearAt near absent active refined reactivable children cellFits isMesh isAdmissible tableOf labelOf labels isLabelled refusal3 refusal6 check freshCells freshFunctions openMesh eligible isTooDeep markRefusal underMarked underKept selected base smallest changed written refused settle newCells refusal outcome finalOf logOf inexact low lowOn allLow heightsRefusal tablesRefusal refusedWith outcomeWithHeights directionOf codec.above decodeGroups decodeNumber front onward decodeNumbers decodeBehind decodeRising noCorners notZeros decodeCorners withCorners withCells withHead decodeFile rebuilt refusal13 readRefusal answeredPlan readFile readMesh isOpen refusal18 refusal19 openDraft dropDraft addRefusal addMarks closeDraft outcomeWithDraft outcomeWithHeightsAndDraft draftAfterOpen draftAfterRead seasons.changed closed added leave keep
+unfolding table some every elem all listed tabulate stored first writtenAt reach needs closure offset number levelOf placeOn place between numbersInRange cornersInRange inRange ratio grown tooLarge lastLevel above below parent child isSet isCorner cornersTo times knotFrom knot beyond functionCount covers apart together supportedAt supported ancestor commonAt nearAt near absent active refined reactivable children cellFits isMesh isAdmissible tableOf labelOf labels isLabelled refusal3 refusal6 check freshCells freshFunctions openMesh eligible isTooDeep markRefusal underMarked underKept selected base smallest changed written refused settle newCells refusal outcome finalOf logOf inexact low lowOn allLow heightsRefusal tablesRefusal refusedWith outcomeWithHeights directionOf codec.above decodeGroups decodeNumber front onward decodeNumbers decodeBehind decodeRising noCorners notZeros decodeCorners withCorners withCells withHead decodeFile rebuilt refusal13 readRefusal answeredPlan readFile readMesh isOpen refusal18 refusal19 openDraft dropDraft addRefusal addMarks closeDraft outcomeWithDraft outcomeWithHeightsAndDraft draftAfterOpen draftAfterRead seasons.changed closed added leave keep
 worked = tt

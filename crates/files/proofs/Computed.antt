@@ -10,7 +10,7 @@ use Rattle.facts.specs.Bounded.{some, every}
 use Rattle.facts.specs.Numbers.{elem, all, listed, tabulate}
 use Rattle.grid.specs.declared.Plan.{Plan}
 use Rattle.grid.specs.Numbering.{offset, number, levelOf, placeOn, place}
-use Rattle.grid.specs.Plan.{between, numbersInRange, cornersInRange, inRange, ratio, grown, tooLarge, lastLevel, above, below, parent, child, supportedAt, supported, ancestor, nearAt, near}
+use Rattle.grid.specs.Plan.{between, numbersInRange, cornersInRange, inRange, ratio, grown, tooLarge, lastLevel, above, below, parent, child, supportedAt, supported, ancestor, commonAt, nearAt, near}
 use Rattle.grid.specs.Knots.{isSet, isCorner, cornersTo, times, knotFrom, knot, beyond, functions, covers, apart, together}
 use Rattle.mesh.specs.Mesh.{absent, refined, children, cellFits, isMesh, isAdmissible, tableOf, labelOf, labels, isLabelled, refusal3, refusal6, check}
 use Rattle.outcomes.specs.Runs.{Tables}
@@ -111,21 +111,19 @@ afterP3 =
 abbrev pub oneRefined : Tables
 oneRefined = tables (2 ∷ 1 ∷ 1 ∷ 1 ∷ 1 ∷ []) (2 ∷ 2 ∷ 2 ∷ 2 ∷ 1 ∷ 1 ∷ 1 ∷ 1 ∷ 1 ∷ 1 ∷ 1 ∷ 1 ∷ 1 ∷ [])
 
--- the class 2 plan with cells 0 and 2 refined: cell 1 is in the neighbourhood of cell 2 and is not
+-- the class 2 plan with cells 0 and 3 refined: cell 1 is in the neighbourhood of cell 3 and is not
 abbrev pub inadmissible : Tables
 inadmissible =
     tables
-    ((2 ∷ 1 ∷ []) ++ (2 ∷ 1 ∷ 0 ∷ 0 ∷ []) ++ (1 ∷ 1 ∷ 0 ∷ 0 ∷ []) ++ (1 ∷ 1 ∷ []) ++ replicate 6 0 ++ (1 ∷ 1 ∷ []) ++ replicate 22 0)
-    ((2 ∷ 1 ∷ 1 ∷ []) ++ (2 ∷ 1 ∷ 1 ∷ []) ++ (2 ∷ 1 ∷ 0 ∷ 0 ∷ 0 ∷ []) ++ (1 ∷ 1 ∷ 0 ∷ 0 ∷ 0 ∷ []) ++ (1 ∷ 1 ∷ 0 ∷ 0 ∷ 0 ∷ [])
-    ++ (1 ∷ 1 ∷ []) ++ replicate 7 0 ++ (1 ∷ 1 ∷ []) ++ replicate 34 0)
+    ((2 ∷ 1 ∷ []) ++ (1 ∷ 2 ∷ 0 ∷ 0 ∷ []) ++ (1 ∷ 1 ∷ 0 ∷ 0 ∷ []) ++ (0 ∷ 0 ∷ 1 ∷ 1 ∷ 0 ∷ 0 ∷ 0 ∷ 0 ∷ []) ++ (0 ∷ 0 ∷ 1 ∷ 1 ∷ 0 ∷ 0 ∷ 0 ∷ 0 ∷ []) ++ replicate 16 0)
+    ((2 ∷ 1 ∷ 1 ∷ []) ++ (2 ∷ 1 ∷ 1 ∷ []) ++ (1 ∷ 1 ∷ 0 ∷ 0 ∷ 0 ∷ []) ++ (1 ∷ 1 ∷ 0 ∷ 0 ∷ 0 ∷ []) ++ (1 ∷ 1 ∷ 0 ∷ 0 ∷ 0 ∷ []) ++ (0 ∷ 0 ∷ 0 ∷ 1 ∷ 0 ∷ 0 ∷ 0 ∷ 0 ∷ 0 ∷ []) ++ (0 ∷ 0 ∷ 0 ∷ 1 ∷ 0 ∷ 0 ∷ 0 ∷ 0 ∷ 0 ∷ []) ++ replicate 27 0)
 
 -- and with cell 1 refined too
 abbrev pub admissible : Tables
 admissible =
     tables
-    ((2 ∷ 2 ∷ []) ++ (2 ∷ 1 ∷ 1 ∷ 1 ∷ []) ++ (1 ∷ 1 ∷ 1 ∷ 1 ∷ []) ++ (1 ∷ 1 ∷ []) ++ replicate 6 0 ++ (1 ∷ 1 ∷ []) ++ replicate 22 0)
-    ((2 ∷ 2 ∷ 2 ∷ []) ++ (2 ∷ 2 ∷ 2 ∷ []) ++ (2 ∷ 1 ∷ 1 ∷ 1 ∷ 1 ∷ []) ++ replicate 10 1
-    ++ (1 ∷ 1 ∷ []) ++ replicate 7 0 ++ (1 ∷ 1 ∷ []) ++ replicate 34 0)
+    ((2 ∷ 2 ∷ []) ++ (1 ∷ 2 ∷ 1 ∷ 1 ∷ []) ++ (1 ∷ 1 ∷ 1 ∷ 1 ∷ []) ++ (0 ∷ 0 ∷ 1 ∷ 1 ∷ 0 ∷ 0 ∷ 0 ∷ 0 ∷ []) ++ (0 ∷ 0 ∷ 1 ∷ 1 ∷ 0 ∷ 0 ∷ 0 ∷ 0 ∷ []) ++ replicate 16 0)
+    ((2 ∷ 2 ∷ 2 ∷ []) ++ (2 ∷ 2 ∷ 2 ∷ []) ++ (1 ∷ 1 ∷ 1 ∷ 1 ∷ 1 ∷ []) ++ (1 ∷ 1 ∷ 1 ∷ 1 ∷ 1 ∷ []) ++ (1 ∷ 1 ∷ 1 ∷ 1 ∷ 1 ∷ []) ++ (0 ∷ 0 ∷ 0 ∷ 1 ∷ 0 ∷ 0 ∷ 0 ∷ 0 ∷ 0 ∷ []) ++ (0 ∷ 0 ∷ 0 ∷ 1 ∷ 0 ∷ 0 ∷ 0 ∷ 0 ∷ 0 ∷ []) ++ replicate 27 0)
 
 -- "everything lent for output keeps its values on a refusal"
 abbrev pub refusesRead : List ℕ → Tables → ℕ → Plan → Row
@@ -155,7 +153,7 @@ table =
     ∷ reads (3 ∷ 1 ∷ 3 ∷ 1 ∷ 1 ∷ 0 ∷ 0 ∷ []) (lent 63 94) 0 W0 fresh0
     ∷ reads (3 ∷ 1 ∷ 3 ∷ 1 ∷ 1 ∷ 0 ∷ 2 ∷ 0 ∷ 1 ∷ []) (lent 63 94) 0 W0 afterP3
     ∷ reads (1 ∷ 1 ∷ 2 ∷ 1 ∷ 1 ∷ 0 ∷ 1 ∷ 0 ∷ []) (lent 5 13) 0 small oneRefined
-    ∷ reads (2 ∷ 1 ∷ 3 ∷ 1 ∷ 1 ∷ 2 ∷ 3 ∷ 0 ∷ 1 ∷ 1 ∷ []) (lent 42 66) 0 classTwo admissible
+    ∷ reads (2 ∷ 1 ∷ 3 ∷ 1 ∷ 1 ∷ 2 ∷ 3 ∷ 0 ∷ 1 ∷ 2 ∷ []) (lent 42 66) 0 classTwo admissible
     -- of degree 1 a corner adds no function
     ∷ reads (3 ∷ 1 ∷ 3 ∷ 1 ∷ 1 ∷ 0 ∷ 2 ∷ 0 ∷ 1 ∷ 2 ∷ 0 ∷ []) (lent 63 94) 0 (with W0 2 0) afterP3
     -- 12 "where a number is cut off": no bytes, in the plan, before the count, in the count, in a cell's second and third group,
@@ -222,26 +220,26 @@ table =
     ∷ refusesRead (3 ∷ 1 ∷ 3 ∷ 1 ∷ 1 ∷ 0 ∷ 1 ∷ 3 ∷ []) (lent 63 94) 4 W0
     ∷ refusesRead (1 ∷ 1 ∷ 2 ∷ 1 ∷ 1 ∷ 0 ∷ 2 ∷ 0 ∷ 1 ∷ []) (lent 5 13) 4 small
     -- before 5 (below), by a cell whose parent is not listed and by T, and before 13
-    ∷ refusesRead (2 ∷ 1 ∷ 3 ∷ 1 ∷ 1 ∷ 2 ∷ 3 ∷ 0 ∷ 2 ∷ 2 ∷ []) (lent 42 66) 4 classTwo
-    ∷ refusesRead (2 ∷ 1 ∷ 3 ∷ 1 ∷ 1 ∷ 2 ∷ 3 ∷ 0 ∷ 2 ∷ 40 ∷ []) (lent 42 66) 4 classTwo
+    ∷ refusesRead (2 ∷ 1 ∷ 3 ∷ 1 ∷ 1 ∷ 2 ∷ 3 ∷ 0 ∷ 3 ∷ 1 ∷ []) (lent 42 66) 4 classTwo
+    ∷ refusesRead (2 ∷ 1 ∷ 3 ∷ 1 ∷ 1 ∷ 2 ∷ 3 ∷ 0 ∷ 3 ∷ 39 ∷ []) (lent 42 66) 4 classTwo
     ∷ refusesRead (3 ∷ 1 ∷ 3 ∷ 1 ∷ 1 ∷ 0 ∷ 1 ∷ 63 ∷ 2 ∷ 0 ∷ 9 ∷ []) (lent 63 94) 4 (with W0 2 0)
-    -- 5: cells 0 and 2; before 13
-    ∷ refusesRead (2 ∷ 1 ∷ 3 ∷ 1 ∷ 1 ∷ 2 ∷ 2 ∷ 0 ∷ 2 ∷ []) (lent 42 66) 5 classTwo
-    ∷ refusesRead (2 ∷ 1 ∷ 3 ∷ 1 ∷ 1 ∷ 2 ∷ 2 ∷ 0 ∷ 2 ∷ 2 ∷ 0 ∷ 9 ∷ []) (lent 42 66) 5 (with classTwo 2 0)
+    -- 5: cells 0 and 3; before 13
+    ∷ refusesRead (2 ∷ 1 ∷ 3 ∷ 1 ∷ 1 ∷ 2 ∷ 2 ∷ 0 ∷ 3 ∷ []) (lent 42 66) 5 classTwo
+    ∷ refusesRead (2 ∷ 1 ∷ 3 ∷ 1 ∷ 1 ∷ 2 ∷ 2 ∷ 0 ∷ 3 ∷ 2 ∷ 0 ∷ 9 ∷ []) (lent 42 66) 5 (with classTwo 2 0)
     -- 13 "where bytes follow the last number", which is one of corners: a number, or a byte that is none
     ∷ refusesRead (3 ∷ 1 ∷ 3 ∷ 1 ∷ 1 ∷ 0 ∷ 0 ∷ 6 ∷ 0 ∷ 0 ∷ []) (lent 63 94) 13 (with W0 6 0)
     ∷ refusesRead (3 ∷ 1 ∷ 3 ∷ 1 ∷ 1 ∷ 0 ∷ 2 ∷ 0 ∷ 1 ∷ 2 ∷ 0 ∷ 255 ∷ []) (lent 63 94) 13 (with W0 2 0)
     -- "Writing answers its length", and keeps the bytes past it
     ∷ writes W0 fresh0 (nines 9) 0 7 (3 ∷ 1 ∷ 3 ∷ 1 ∷ 1 ∷ 0 ∷ 0 ∷ 9 ∷ 9 ∷ [])
     ∷ writes W0 afterP3 (nines 12) 0 9 (3 ∷ 1 ∷ 3 ∷ 1 ∷ 1 ∷ 0 ∷ 2 ∷ 0 ∷ 1 ∷ 9 ∷ 9 ∷ 9 ∷ [])
-    ∷ writes classTwo admissible (nines 11) 0 10 (2 ∷ 1 ∷ 3 ∷ 1 ∷ 1 ∷ 2 ∷ 3 ∷ 0 ∷ 1 ∷ 1 ∷ 9 ∷ [])
+    ∷ writes classTwo admissible (nines 11) 0 10 (2 ∷ 1 ∷ 3 ∷ 1 ∷ 1 ∷ 2 ∷ 3 ∷ 0 ∷ 1 ∷ 2 ∷ 9 ∷ [])
     ∷ writes (with W0 2 0) afterP3 (nines 12) 0 11 (3 ∷ 1 ∷ 3 ∷ 1 ∷ 1 ∷ 0 ∷ 2 ∷ 0 ∷ 1 ∷ 2 ∷ 0 ∷ 9 ∷ [])
     -- just enough bytes; 10 where there is one less, or none
     ∷ writes small oneRefined (nines 8) 0 8 (1 ∷ 1 ∷ 2 ∷ 1 ∷ 1 ∷ 0 ∷ 1 ∷ 0 ∷ [])
     ∷ refusesWrite small oneRefined (nines 7) 10
     ∷ refusesWrite (with W0 2 0) afterP3 (nines 10) 10
     ∷ refusesWrite small oneRefined [] 10
-    -- "refuses 1 to 6, then 10": no columns, a corner behind the third; T = 87,296; either table's length; W0 fresh with cell 0 absent; cells 0 and 2; W0 fresh
+    -- "refuses 1 to 6, then 10": no columns, a corner behind the third; T = 87,296; either table's length; W0 fresh with cell 0 absent; cells 0 and 3; W0 fresh
     -- with function 0 deactivated
     ∷ refusesWrite (plan 0 1 3 1 1 0) (lent 0 0) (nines 9) 1
     ∷ refusesWrite (with W0 8 0) fresh0 (nines 9) 1
@@ -255,10 +253,10 @@ table =
     ∷ []
 
 -- the order of 4, 5 and 13, where all three, the last two or one are due
-pub late : refusal13 classTwo (0 ∷ 2 ∷ 42 ∷ []) (0 ∷ []) ∷ refusal13 classTwo (0 ∷ 2 ∷ []) (0 ∷ []) ∷ refusal13 classTwo (0 ∷ []) (0 ∷ []) ∷ [] ≡ 4 ∷ 5 ∷ 13 ∷ []
-unfolding some every elem all tabulate offset number levelOf placeOn place ratio grown lastLevel above below parent child isSet isCorner cornersTo times knotFrom knot beyond functions covers apart together ancestor nearAt near absent refined children cellFits isMesh isAdmissible tableOf rebuilt refusal13
+pub late : refusal13 classTwo (0 ∷ 3 ∷ 42 ∷ []) (0 ∷ []) ∷ refusal13 classTwo (0 ∷ 3 ∷ []) (0 ∷ []) ∷ refusal13 classTwo (0 ∷ []) (0 ∷ []) ∷ [] ≡ 4 ∷ 5 ∷ 13 ∷ []
+unfolding some every elem all tabulate offset number levelOf placeOn place ratio grown lastLevel above below parent child isSet isCorner cornersTo times knotFrom knot beyond functions covers apart together ancestor commonAt nearAt near absent refined children cellFits isMesh isAdmissible tableOf rebuilt refusal13
 late = refl
 
 pub worked : T (allHold table)
-unfolding table some every elem all listed tabulate offset number levelOf placeOn place between numbersInRange cornersInRange inRange ratio grown tooLarge lastLevel above below parent child isSet isCorner cornersTo times knotFrom knot beyond functions covers apart together supportedAt supported ancestor nearAt near absent refined children cellFits isMesh isAdmissible tableOf labelOf labels isLabelled refusal3 refusal6 check codec.above encodeGroups encodeNumber decodeGroups decodeNumber encodeNumbers front onward decodeNumbers encodeBehind encodeRising decodeBehind decodeRising noCorners encodeCorners encodeFile fileOf notZeros decodeCorners withCorners withCells withHead decodeFile rebuilt refusal13 readRefusal answeredPlan readFile readMesh unwritten writeText writeMesh
+unfolding table some every elem all listed tabulate offset number levelOf placeOn place between numbersInRange cornersInRange inRange ratio grown tooLarge lastLevel above below parent child isSet isCorner cornersTo times knotFrom knot beyond functions covers apart together supportedAt supported ancestor commonAt nearAt near absent refined children cellFits isMesh isAdmissible tableOf labelOf labels isLabelled refusal3 refusal6 check codec.above encodeGroups encodeNumber decodeGroups decodeNumber encodeNumbers front onward decodeNumbers encodeBehind encodeRising decodeBehind decodeRising noCorners encodeCorners encodeFile fileOf notZeros decodeCorners withCorners withCells withHead decodeFile rebuilt refusal13 readRefusal answeredPlan readFile readMesh unwritten writeText writeMesh
 worked = tt

@@ -7,7 +7,7 @@ use lib.Dec.{T, eqb}
 use Rattle.grid.specs.declared.Plan.{Plan}
 use Rattle.grid.specs.declared.Place.{Place}
 use Rattle.grid.specs.Numbering.{offset, number, levelOf, placeOn, place}
-use Rattle.grid.specs.Plan.{between, numbersInRange, cornersInRange, inRange, ratio, grown, cellTotal, functionTotal, above, below, parent, child, supportedAt, supported, ancestor, nearAt}
+use Rattle.grid.specs.Plan.{between, numbersInRange, cornersInRange, inRange, ratio, grown, cellTotal, functionTotal, above, below, parent, child, supportedAt, supported, ancestor, commonAt, nearAt}
 use Rattle.grid.specs.Knots.{isSet, isCorner, cornersTo, times, knotFrom, knot, beyond, functions, covers, apart, together}
 use Rattle.facts.specs.Bounded.{some}
 
@@ -80,18 +80,21 @@ table =
     -- degree 2, a corner before column 1: function 1 ends there, function 2 covers both sides of it, function 3 begins there
     ∷ supports (cornered (plan 3 1 3 2 2 0) 2 0) 1 0 ∷ misses (cornered (plan 3 1 3 2 2 0) 2 0) 1 1 ∷ supports (cornered (plan 3 1 3 2 2 0) 2 0) 2 1
     ∷ misses (cornered (plan 3 1 3 2 2 0) 2 0) 2 2 ∷ misses (cornered (plan 3 1 3 2 2 0) 2 0) 3 0 ∷ supports (cornered (plan 3 1 3 2 2 0) 2 0) 3 2
-    -- class 2 and degree 1: the cell of level 1 in row 2 and column 6 stands on row 1 and column 3 of level 0; the cell in row 0 and
-    -- column 2 shares a corner with that one and is near; the cell in row 1 and column 5 is beside column 6, the first cell's own, and
-    -- is not; nor is one two columns from the ancestor
-    ∷ nears (plan 6 4 2 1 1 2) (at 1 2 6) (at 0 0 2) ∷ fars (plan 6 4 2 1 1 2) (at 1 2 6) (at 0 1 5) ∷ fars (plan 6 4 2 1 1 2) (at 1 2 6) (at 0 1 1)
-    -- degree 2, with a corner before column 2: the cell of level 1 in column 5 stands on column 2, with which column 1 has a function in
-    -- common and column 0 none; without the corner it has one
-    ∷ nears (cornered (plan 4 1 2 2 1 2) 4 0) (at 1 0 5) (at 0 0 1) ∷ fars (cornered (plan 4 1 2 2 1 2) 4 0) (at 1 0 5) (at 0 0 0)
-    ∷ nears (plan 4 1 2 2 1 2) (at 1 0 5) (at 0 0 0)
+    -- class 2 and degree 1: with the cell of level 1 in row 2 and column 6 functions cover rows 1 to 3 and columns 5 to 7, which stand on
+    -- rows 0 and 1 and columns 2 and 3 of level 0; the cell in row 0 and column 2 is near, though row 1 and column 3 are the ancestor's;
+    -- the cell in column 4, beside the ancestor, is not, nor is one in column 5, beside column 6, the first cell's own
+    ∷ nears (plan 6 4 2 1 1 2) (at 1 2 6) (at 0 0 2) ∷ nears (plan 6 4 2 1 1 2) (at 1 2 6) (at 0 1 3) ∷ fars (plan 6 4 2 1 1 2) (at 1 2 6) (at 0 1 4)
+    ∷ fars (plan 6 4 2 1 1 2) (at 1 2 6) (at 0 2 3) ∷ fars (plan 6 4 2 1 1 2) (at 1 2 6) (at 0 1 5)
+    -- class 3: the cells of level 2 on that cell have the same neighbours
+    ∷ nears (plan 6 4 3 1 1 3) (at 2 5 13) (at 0 0 2) ∷ fars (plan 6 4 3 1 1 3) (at 2 5 13) (at 0 1 4)
+    -- degree 2, with a corner before column 2: of level 1, column 4 has a function in common with column 3, before the corner, which stands on
+    -- column 1; column 5 has none; without the corner it has one
+    ∷ nears (cornered (plan 4 1 2 2 1 2) 4 0) (at 1 0 4) (at 0 0 1) ∷ fars (cornered (plan 4 1 2 2 1 2) 4 0) (at 1 0 5) (at 0 0 1)
+    ∷ nears (plan 4 1 2 2 1 2) (at 1 0 5) (at 0 0 1) ∷ fars (plan 4 1 2 2 1 2) (at 1 0 5) (at 0 0 0)
     -- class 0: no cell has a neighbourhood
     ∷ fars (plan 6 4 2 1 1 0) (at 1 2 6) (at 0 1 3)
     ∷ []
 
 pub computed : T (allHold table)
-unfolding table between numbersInRange cornersInRange inRange ratio grown offset number levelOf placeOn place above below parent child isSet isCorner cornersTo times knotFrom knot beyond functions covers apart some together supportedAt supported ancestor nearAt
+unfolding table between numbersInRange cornersInRange inRange ratio grown offset number levelOf placeOn place above below parent child isSet isCorner cornersTo times knotFrom knot beyond functions covers apart some together supportedAt supported ancestor commonAt nearAt
 computed = tt

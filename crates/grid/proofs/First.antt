@@ -1,23 +1,24 @@
 -- Supports and neighbourhoods by the first functions over columns and rows: function i covers column x where it is one of the
 -- degree + 1 functions from the first over x on, and columns whose first functions are at most the degree apart are near. Tables that
 -- have a cell at its first functions' place are read by these laws alone. Assumes nothing.
-use Prim.Native.Nat.{ℕ, _+_, _<_, _≤_}
+use Prim.Native.Nat.{ℕ, pred, _+_, _%_, _<_, _≤_}
+use native.Mathlib.Nat.{mod-lt}
 use native.Mathlib.Omega.{arith}
-use mathlib.Core.Path.{_≡_, sym, _∙_}
+use mathlib.Core.Path.{_≡_, refl, sym, _∙_}
 use lib.Dec.{T}
 use Rattle.grid.specs.declared.Plan.{Plan}
 use Rattle.grid.specs.declared.Place.{Place}
 use Rattle.grid.specs.declared.Side.{Side}
-use Rattle.grid.specs.Plan.{cellTotal, cellPlace, cellNumber, cellLevel, functionPlace, CellInside, acrossAt, upAt, supported, near}
+use Rattle.grid.specs.Plan.{ratio, cellTotal, cellPlace, cellNumber, cellLevel, functionPlace, CellInside, acrossAt, upAt, above, parent, supported, near}
 use Rattle.grid.specs.Range.{InRange, HasNeighbourhood}
-use Rattle.grid.specs.Spans.{ancestorOf}
+use Rattle.grid.specs.Spans.{ancestorLevel, ancestorOf}
 use Rattle.grid.specs.Knots.{covers, firstOver}
 use Rattle.grid.specs.Side.{Sized}
 use Rattle.grid.proofs.Rising.{Apart}
 use Rattle.grid.proofs.Knots.{covers-fact, covers-test}
 use Rattle.grid.proofs.SideLaws.{together-fact, together-test}
-use Rattle.grid.proofs.Laws.{across-sized, up-sized, cell-inside, cell-number-lt, cell-place-number, near-places, near-of}
-use Rattle.grid.proofs.Spans.{supported-places, supported-of, ancestor-in}
+use Rattle.grid.proofs.Laws.{ratio-pos, across-sized, up-sized, above-in, below-above, cell-inside, cell-number-lt, cell-place-number, near-in, near-places, near-of, near-child, near-child-in, near-child-above, near-child-level}
+use Rattle.grid.proofs.Spans.{supported-places, supported-of, level-below, ancestor-in}
 
 -- function i is over column x
 pub record Over (s : Side) (i x : ℕ) : Type 0 where
@@ -65,41 +66,66 @@ module _ (p : Plan) (range : InRange p) where
           rows = covers-test _ (up-sized p range _) _ _ (i .row<) (rows .from) (rows .to);
         })
 
-  module _ (q c : ℕ) where
-    pub near-around : T (near p q c) → Around p (ancestorOf p (cellPlace p q)) (cellPlace p c)
-    unfolding ancestorOf
-    near-around t =
-        let n = near-places p range q c t in
-        let g = n .graded in
+  -- a cell is near q where it has a child around the ancestor of q
+  pub near-around : (q c : ℕ) → q < cellTotal p → T (near p q c)
+      → (e : Place) × CellInside p e × (above p e ≡ cellPlace p c) × Around p (ancestorOf p (cellPlace p q)) e
+  unfolding ancestorOf
+  near-around q c a t =
+      let n = near-places p range q c t in
+      let i = cell-inside p range q a in
+      let j = cell-inside p range c (near-in p range q c t) in (
+        near-child p range _ _ i j n,
+        near-child-in p range _ _ i j n,
+        near-child-above p range _ _ i j n,
         record {
-          level = omega (arith, n .levels);
-          columns = together-fact _ (across-sized p range _) _ _ (n .columns);
-          rows = together-fact _ (up-sized p range _) _ _ (n .rows);
-        }
+          level = near-child-level p range _ _ i j n;
+          columns = together-fact _ (across-sized p range _) _ _ (n .common .columns);
+          rows = together-fact _ (up-sized p range _) _ _ (n .common .rows);
+        },
+      )
 
-    pub around-near : q < cellTotal p → c < cellTotal p → HasNeighbourhood p (cellLevel p q) → Around p (ancestorOf p (cellPlace p q)) (cellPlace p c) → T (near p q c)
-    unfolding ancestorOf
-    around-near a b h r =
-        let e = r .level in
-        let i = cell-inside p range c b in
-        let o : CellInside p (ancestorOf p (cellPlace p q)) = ancestor-in p (cellPlace p q) h (cell-inside p range q a) in
-        near-of p range q c b (record {
-          graded = h .class≢;
-          levels = omega (arith, h .level≥, h .class≢);
-          columns = together-test _ (across-sized p range _) _ _ (i .column<) (rw e at (o .column<)) (r .columns);
-          rows = together-test _ (up-sized p range _) _ _ (i .row<) (rw e at (o .row<)) (r .rows);
-        })
+  above-level : (e : Place) → above p e .level ≡ pred (e .level)
+  unfolding above
+  above-level e = refl
 
-  -- a function over both a cell and the ancestor of q makes that cell near q: neighbourhoods are wide enough for supports
-  pub near-of-common : (f q c : ℕ) → q < cellTotal p → c < cellTotal p → HasNeighbourhood p (cellLevel p q)
-      → T (supported p f (cellNumber p (ancestorOf p (cellPlace p q)))) → T (supported p f c) → T (near p q c)
-  near-of-common f q c i j has t u =
+  above-levels : (j : ℕ) (e : Place) → 0 < e .level → ancestorLevel p j ≡ e .level → HasNeighbourhood p j → j + 1 ≡ above p e .level + p .class
+  above-levels j e z l h = omega (arith, above-level e, h .level≥, h .class≢, range .class≢)
+
+  pub around-near : (q : ℕ) (e : Place) → q < cellTotal p → HasNeighbourhood p (cellLevel p q) → CellInside p e → Around p (ancestorOf p (cellPlace p q)) e
+      → T (near p q (cellNumber p (above p e)))
+  unfolding ancestorOf
+  around-near q e a h i r =
+      let l = r .level in
+      let g = h .class≢ in
+      let s = h .level≥ in
+      let o : CellInside p (ancestorOf p (cellPlace p q)) = ancestor-in p range (cellPlace p q) h (cell-inside p range q a) in
+      let z : 0 < e .level = omega (arith, level-below p (cellLevel p q) range h) in
+      let u : CellInside p (above p e) = above-in p range e z i in
+      near-of p range q (cellNumber p (above p e)) (cell-number-lt p range (above p e) u)
+      (rw (cell-place-number p range (above p e) u) (record {
+        graded = h .class≢;
+        levels = above-levels (cellLevel p q) e z l h;
+        down = e .row % ratio p;
+        right = e .column % ratio p;
+        down< = mod-lt _ (ratio-pos p);
+        right< = mod-lt _ (ratio-pos p);
+        common = rw (below-above p range e z) (record {
+          columns = together-test _ (across-sized p range _) _ _ (i .column<) (rw l at (o .column<)) (r .columns);
+          rows = together-test _ (up-sized p range _) _ _ (i .row<) (rw l at (o .row<)) (r .rows);
+        });
+      }))
+
+  -- a function over both a cell and the ancestor of q makes that cell's parent near q: neighbourhoods are wide enough for supports
+  pub near-of-common : (f q d : ℕ) → q < cellTotal p → d < cellTotal p → HasNeighbourhood p (cellLevel p q)
+      → T (supported p f (cellNumber p (ancestorOf p (cellPlace p q)))) → T (supported p f d) → T (near p q (parent p d))
+  unfolding parent
+  near-of-common f q d i j has t u =
       let a : Place = ancestorOf p (cellPlace p q) in
-      let b : CellInside p a = ancestor-in p (cellPlace p q) has (cell-inside p range q i) in
+      let b : CellInside p a = ancestor-in p range (cellPlace p q) has (cell-inside p range q i) in
       let n : Under p (functionPlace p f) a = rw (cell-place-number p range a b) at (supported-under f (cellNumber p a) (cell-number-lt p range a b) t) in
-      let m : Under p (functionPlace p f) (cellPlace p c) = supported-under f c j u in
-      let e : a .level ≡ cellLevel p c = sym (n .level) ∙ m .level in
-      around-near q c i j has (record {
+      let m : Under p (functionPlace p f) (cellPlace p d) = supported-under f d j u in
+      let e : a .level ≡ cellLevel p d = sym (n .level) ∙ m .level in
+      around-near q (cellPlace p d) i has (cell-inside p range d j) (record {
         level = e;
         columns = common _ _ _ _ (m .columns) (rw e at (n .columns));
         rows = common _ _ _ _ (m .rows) (rw e at (n .rows));

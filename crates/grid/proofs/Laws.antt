@@ -8,12 +8,14 @@ use mathlib.Core.Logic.{_≢_}
 use mathlib.Core.Path.{_≡_, refl}
 use lib.Dec.{T, leb, ltb, eqb, leb→le, le→leb, eqb→eq, ltb→lt, lt→ltb}
 use lib.Arith.{digits-div}
+use Rattle.facts.specs.Bounded.{some}
 use Rattle.facts.proofs.Tests.{and-i, and-l, and-r, or-e, or-l, or-r, cases, not-i, differ, eqb-of}
+use Rattle.facts.proofs.Bounded.{some-i, some-e}
 use Rattle.hierarchy.proofs.Sets.{Lawful}
 use Rattle.grid.specs.declared.Plan.{Plan}
 use Rattle.grid.specs.declared.Place.{Place}
 use Rattle.grid.specs.Numbering
-use Rattle.grid.specs.Plan.{between, numbersInRange, cornersInRange, inRange, ratio, grown, columnsAt, acrossAt, upAt, functionColumnsAt, cellTotal, functionTotal, tooLarge, planRefusalOr, planRefusal, cellPlace, cellNumber, functionPlace, functionNumber, CellInside, FunctionInside, above, below, parent, child, ancestor, nearAt, near, hierarchy}
+use Rattle.grid.specs.Plan.{between, numbersInRange, cornersInRange, inRange, ratio, grown, columnsAt, rowsAt, acrossAt, upAt, functionColumnsAt, cellTotal, functionTotal, tooLarge, planRefusalOr, planRefusal, cellPlace, cellNumber, functionPlace, functionNumber, CellInside, FunctionInside, above, below, parent, child, ancestor, commonAt, nearAt, near, hierarchy}
 use Rattle.grid.specs.Range.{InRange}
 use Rattle.grid.proofs.Numbering as numbering
 use Rattle.grid.specs.Knots.{together}
@@ -179,7 +181,7 @@ module _ (p : Plan) (range : InRange p) where
   wide : (k : ℕ) → 0 < columnsAt p k
   wide k = grown-pos (ratio p) (ratio-pos p) (p .columns) k (range .columns≥)
 
-  above-in : (x : Place) → 0 < x .level → CellInside p x → CellInside p (above p x)
+  pub above-in : (x : Place) → 0 < x .level → CellInside p x → CellInside p (above p x)
   unfolding above
   above-in x z i = let l : pred (x .level) < p .levels = omega arith in record {
     level< = l;
@@ -199,7 +201,7 @@ module _ (p : Plan) (range : InRange p) where
   unfolding above below
   above-below x a b l m = λ i. record { level = x .level; row = digits-div (x .row) l i; column = digits-div (x .column) m i }
 
-  below-above : (x : Place) → 0 < x .level → below p (above p x) (x .row % ratio p) (x .column % ratio p) ≡ x
+  pub below-above : (x : Place) → 0 < x .level → below p (above p x) (x .row % ratio p) (x .column % ratio p) ≡ x
   unfolding above below
   below-above x z = λ i. record { level = e i; row = div-add-mod' (x .row) (ratio p) i; column = div-add-mod' (x .column) (ratio p) i }
     where
@@ -300,12 +302,35 @@ module _ (p : Plan) (range : InRange p) (k : ℕ) where
     whole = grown-one (ratio p) (ratio-pos p) (p .rows) k;
   }
 
--- what `nearAt` tests, as facts
+-- what `commonAt` tests, as facts
+pub record CommonAt (p : Plan) (d : Place) (y x : ℕ) : Type 0 where
+  pub columns : T (together (acrossAt p (d .level)) (d .column) x)
+  pub rows : T (together (upAt p (d .level)) (d .row) y)
+
+module _ (p : Plan) (d : Place) (y x : ℕ) where
+  abbrev columned : Bool
+  columned = together (acrossAt p (d .level)) (d .column) x
+
+  abbrev rowed : Bool
+  rowed = together (upAt p (d .level)) (d .row) y
+
+  pub common-fact : T (commonAt p d y x) → CommonAt p d y x
+  unfolding commonAt
+  common-fact t = record { columns = and-l columned rowed t; rows = and-r columned rowed t }
+
+  pub common-test : CommonAt p d y x → T (commonAt p d y x)
+  unfolding commonAt
+  common-test c = and-i columned rowed (c .columns) (c .rows)
+
+-- what `nearAt` tests, as facts: the child is in the row `down` and the column `right` of the children
 pub record Near (p : Plan) (q c : Place) : Type 0 where
   pub graded : p .class ≢ 0
   pub levels : q .level + 1 ≡ c .level + p .class
-  pub columns : T (together (acrossAt p (c .level)) (c .column) (ancestor p (p .class - 1) (q .column)))
-  pub rows : T (together (upAt p (c .level)) (c .row) (ancestor p (p .class - 1) (q .row)))
+  pub down : ℕ
+  pub right : ℕ
+  pub down< : down < ratio p
+  pub right< : right < ratio p
+  pub common : CommonAt p (below p c down right) (ancestor p (p .class - 2) (q .row)) (ancestor p (p .class - 2) (q .column))
 
 module _ (p : Plan) (q c : Place) where
   abbrev classed : Bool
@@ -314,22 +339,23 @@ module _ (p : Plan) (q c : Place) where
   abbrev leveled : Bool
   leveled = eqb (q .level + 1) (c .level + p .class)
 
-  abbrev columned : Bool
-  columned = together (acrossAt p (c .level)) (c .column) (ancestor p (p .class - 1) (q .column))
-
-  abbrev rowed : Bool
-  rowed = together (upAt p (c .level)) (c .row) (ancestor p (p .class - 1) (q .row))
+  abbrev child-common : ℕ → ℕ → Bool
+  child-common a b = commonAt p (below p c a b) (ancestor p (p .class - 2) (q .row)) (ancestor p (p .class - 2) (q .column))
 
   pub near-fact : T (nearAt p q c) → Near p q c
   unfolding nearAt
   near-fact t =
-      let u : T (leveled && (columned && rowed)) = and-r classed _ t in
-      let v : T (columned && rowed) = and-r leveled _ u in
+      let u : T (leveled && some (ratio p) (λ a. some (ratio p) (child-common a))) = and-r classed _ t in
+      let (a, l, v) = some-e (ratio p) (λ a. some (ratio p) (child-common a)) (and-r leveled _ u) in
+      let (b, m, w) = some-e (ratio p) (child-common a) v in
       record {
         graded = differ (p .class) 0 (and-l classed _ t);
         levels = eqb→eq (q .level + 1) (c .level + p .class) (and-l leveled _ u);
-        columns = and-l columned rowed v;
-        rows = and-r columned rowed v;
+        down = a;
+        right = b;
+        down< = l;
+        right< = m;
+        common = common-fact p (below p c a b) _ _ w;
       }
 
   pub near-test : Near p q c → T (nearAt p q c)
@@ -337,28 +363,65 @@ module _ (p : Plan) (q c : Place) where
   near-test n =
       let a : T classed = not-i (eqb (p .class) 0) (λ t. n .graded (eqb→eq (p .class) 0 t)) in
       let b : T leveled = eqb-of _ _ (n .levels) in
-      let d : T columned = n .columns in
-      let e : T rowed = n .rows in
-      and-i classed _ a (and-i leveled _ b (and-i columned rowed d e))
+      let d : T (child-common (n .down) (n .right)) = common-test p (below p c (n .down) (n .right)) _ _ (n .common) in
+      and-i classed _ a (and-i leveled _ b
+      (some-i (ratio p) (λ a. some (ratio p) (child-common a)) (n .down) (n .down<) (some-i (ratio p) (child-common (n .down)) (n .right) (n .right<) d)))
+
+-- a cell and one of its level under a common function have parents under one
+module _ (p : Plan) (range : InRange p) (d : Place) (y x : ℕ) (i : CellInside p d) (yl : y < rowsAt p (d .level)) (xl : x < columnsAt p (d .level)) (z : 0 < d .level) where
+  pub common-above : CommonAt p d y x → CommonAt p (above p d) (y / ratio p) (x / ratio p)
+  unfolding above
+  common-above c =
+      let k : ℕ = pred (d .level) in
+      let u = grown-unit (ratio p) (ratio-pos p) (d .level) z in
+      let w : (b : ℕ) → grown (ratio p) b (d .level) ≡ grown (ratio p) b (pred (d .level)) * ratio p = λ b. grown-more (ratio p) (ratio-pos p) b (d .level) z in
+      record {
+        columns = together-up (ratio p) (ratio-pos p) (acrossAt p (pred (d .level))) (acrossAt p (d .level)) (across-sized p range (pred (d .level))) refl refl u _ _ (across-sized p range (d .level)) (w (p .columns)) (i .column<) xl (c .columns);
+        rows = together-up (ratio p) (ratio-pos p) (upAt p (pred (d .level))) (upAt p (d .level)) (up-sized p range (pred (d .level))) refl refl u _ _ (up-sized p range (d .level)) (w (p .rows)) (i .row<) yl (c .rows);
+      }
+
+-- the child that makes c near q, and the ancestor of q, which is of its level
+module _ (p : Plan) (range : InRange p) (q c : Place) (i : CellInside p q) (j : CellInside p c) (n : Near p q c) where
+  abbrev pub near-child : Place
+  near-child = below p c (n .down) (n .right)
+
+  child-level< : suc (c .level) < p .levels
+  child-level< = omega (arith, n .levels, n .graded, range .class≢, i .level<)
+
+  pub near-child-in : CellInside p near-child
+  near-child-in = below-in p range c (n .down) (n .right) child-level< (n .down<) (n .right<) j
+
+  pub near-child-above : above p near-child ≡ c
+  near-child-above = above-below p range c (n .down) (n .right) (n .down<) (n .right<)
+
+  pub near-child-level : q .level - (p .class - 2) ≡ near-child .level
+  unfolding below
+  near-child-level = omega (arith, n .levels, n .graded, range .class≢)
+
+  pub near-ancestor-lt : (b x : ℕ) → x < grown (ratio p) b (q .level) → ancestor p (p .class - 2) x < grown (ratio p) b (suc (c .level))
+  unfolding ancestor
+  near-ancestor-lt b x h =
+      let d : q .level - (p .class - 2) ≡ suc (c .level) = omega (arith, n .levels, n .graded, range .class≢) in
+      rw d at (grown-ancestor (ratio p) (ratio-pos p) b (q .level) (p .class - 2) x (omega (arith, n .levels, n .graded, range .class≢)) h)
+
+  -- so c and the ancestor one level up are under a common function
+  pub near-common : CommonAt p c (ancestor p (p .class - 2) (q .row) / ratio p) (ancestor p (p .class - 2) (q .column) / ratio p)
+  unfolding below
+  near-common = rw near-child-above at (common-above p range near-child _ _ near-child-in (near-ancestor-lt (p .rows) (q .row) (i .row<)) (near-ancestor-lt (p .columns) (q .column) (i .column<)) (omega arith) (n .common))
 
 near-above : (p : Plan) → InRange p → (q c : Place) → CellInside p q → CellInside p c → 0 < c .level → Near p q c → Near p (above p q) (above p c)
 unfolding above ancestor
 near-above p range q c i j z n =
     let s = n .graded in let l = n .levels in
-    let d : q .level - (p .class - 1) ≡ c .level = omega arith in
-    let over : (b x : ℕ) → x < grown (ratio p) b (q .level) → x / ratio p ^ (p .class - 1) < grown (ratio p) b (c .level) =
-    λ b x h. rw d at (grown-ancestor (ratio p) (ratio-pos p) b (q .level) (p .class - 1) x (omega arith) h) in
-    let k : ℕ = pred (c .level) in
-    let e : pred (q .level) + 1 ≡ k + p .class = omega arith in
-    let u = grown-unit (ratio p) (ratio-pos p) (c .level) z in
-    let w : (b : ℕ) → grown (ratio p) b (c .level) ≡ grown (ratio p) b k * ratio p = λ b. grown-more (ratio p) (ratio-pos p) b (c .level) z in
+    let e : pred (q .level) + 1 ≡ pred (c .level) + p .class = omega arith in
     record {
       graded = s;
       levels = e;
-      columns = rw (← div-swap (ratio p) (ratio-pos p) (q .column) (p .class - 1))
-          (together-up (ratio p) (ratio-pos p) (acrossAt p k) (acrossAt p (c .level)) (across-sized p range k) refl refl u _ _ (across-sized p range (c .level)) (w (p .columns)) (j .column<) (over (p .columns) (q .column) (i .column<)) (n .columns));
-      rows = rw (← div-swap (ratio p) (ratio-pos p) (q .row) (p .class - 1))
-          (together-up (ratio p) (ratio-pos p) (upAt p k) (upAt p (c .level)) (up-sized p range k) refl refl u _ _ (up-sized p range (c .level)) (w (p .rows)) (j .row<) (over (p .rows) (q .row) (i .row<)) (n .rows));
+      down = c .row % ratio p;
+      right = c .column % ratio p;
+      down< = mod-lt _ (ratio-pos p);
+      right< = mod-lt _ (ratio-pos p);
+      common = rw (below-above p range c z, ← div-swap (ratio p) (ratio-pos p) (q .row) (p .class - 2), ← div-swap (ratio p) (ratio-pos p) (q .column) (p .class - 2)) (near-common p range q c i j n);
     }
 
 module _ (p : Plan) (range : InRange p) (q c : ℕ) where

@@ -19,3 +19,4 @@ pub mod Sides
 pub mod First
 pub mod LastLevel
 pub mod Results
+pub mod HNear

@@ -12,11 +12,12 @@ use Rattle.grid.specs.declared.Place.{Place}
 use Rattle.grid.specs.declared.Rectangle.{Rectangle}
 use Rattle.grid.specs.Plan.{ratio, grown, columnsAt, rowsAt, acrossAt, upAt, cellTotal, cellPlace, cellNumber, cellLevel, CellInside, FunctionInside, above, parent}
 use Rattle.grid.specs.Range.{InRange, HasNeighbourhood}
-use Rattle.grid.specs.Spans.{inRectangle, supportOf, finerSpan, childrenOf, nearLevel, around, ancestorOf, neighbourhood}
-use Rattle.grid.proofs.Direction.{grown-down}
-use Rattle.grid.proofs.SideLaws.{SpanIn, support-span-in, around-span-in}
+use Rattle.grid.specs.Spans.{inRectangle, supportOf, finerSpan, childrenOf, nearLevel, ancestorLevel, around, ancestorOf, coarserSpan, parentsOf, neighbourhood}
+use Rattle.grid.specs.Side.{aroundSpan}
+use Rattle.grid.proofs.Direction.{grown-down, grown-more}
+use Rattle.grid.proofs.SideLaws.{SpanIn, support-span-in, around-span-in, coarser-span-in}
 use Rattle.grid.proofs.Laws.{ratio-pos, across-sized, up-sized, cell-number-lt, cell-number-place, cell-place-number, parent-place}
-use Rattle.grid.proofs.Spans.{InSpan, InRectangle, rectangle-fact, rectangle-test, ancestor-in, across-functions, up-functions}
+use Rattle.grid.proofs.Spans.{InSpan, InRectangle, rectangle-fact, rectangle-test, level-below, ancestor-in, across-functions, up-functions}
 
 abbrev at : ℕ → ℕ → ℕ → Place
 at k r c = record { level = k; row = r; column = c }
@@ -119,20 +120,34 @@ support-in p range x i = record {
   columns = support-span-in (acrossAt p (x .level)) (across-sized p range (x .level)) (x .column) (rw (across-functions p (x .level)) (i .column<));
 }
 
-pub ancestor-level : (p : Plan) (x : Place) → ancestorOf p x .level ≡ nearLevel p (x .level)
+pub ancestor-level : (p : Plan) (x : Place) → ancestorOf p x .level ≡ ancestorLevel p (x .level)
 unfolding ancestorOf
 ancestor-level p x = refl
 
 pub neighbourhood-level : (p : Plan) → InRange p → (x : Place) → HasNeighbourhood p (x .level) → neighbourhood p x .level ≡ nearLevel p (x .level)
-unfolding neighbourhood around ancestorOf
-neighbourhood-level p range x has = refl
+unfolding neighbourhood parentsOf around ancestorOf
+neighbourhood-level p range x has = ap pred (level-below p (x .level) range has)
 
 pub neighbourhood-in : (p : Plan) → InRange p → (x : Place) → HasNeighbourhood p (x .level) → CellInside p x → RectangleIn p (neighbourhood p x)
-unfolding neighbourhood around
-neighbourhood-in p range x has i =
-    let j = ancestor-in p x has i in
-    record {
-      level< = j .level<;
-      rows = around-span-in _ (up-sized p range _) _ (j .row<);
-      columns = around-span-in _ (across-sized p range _) _ (j .column<);
+unfolding neighbourhood parentsOf around
+neighbourhood-in p range x has i = go (ancestorOf p x) (pred (ancestorOf p x .level)) (omega (arith, ancestor-level p x, level-below p (x .level) range has)) (ancestor-in p range x has i)
+  where
+    w : (b k : ℕ) → grown (ratio p) b (suc k) ≡ grown (ratio p) b k * ratio p
+    w b k = grown-more (ratio p) (ratio-pos p) b (suc k) (omega arith)
+
+    go : (y : Place) (k : ℕ) → y .level ≡ suc k → CellInside p y → RectangleIn p (record { level = k; rows = coarserSpan (ratio p) (aroundSpan (upAt p (y .level)) (y .row)); columns = coarserSpan (ratio p) (aroundSpan (acrossAt p (y .level)) (y .column)) })
+    go y k e j = record {
+      level< = omega (arith, e, j .level<);
+      rows = rw e (coarser-span-in (ratio p) (ratio-pos p) (upAt p (suc k)) (up-sized p range (suc k)) (rowsAt p k) (w (p .rows) k) (y .row) (rw e at (j .row<)));
+      columns = rw e (coarser-span-in (ratio p) (ratio-pos p) (acrossAt p (suc k)) (across-sized p range (suc k)) (columnsAt p k) (w (p .columns) k) (y .column) (rw e at (j .column<)));
     }
+
+-- what code asks of the rectangle around the ancestor
+pub around-ends : (p : Plan) → InRange p → (x : Place) → HasNeighbourhood p (x .level) → CellInside p x
+    → (1 ≤ around p (ancestorOf p x) .level) × (1 ≤ around p (ancestorOf p x) .rows .end) × (1 ≤ around p (ancestorOf p x) .columns .end)
+unfolding around
+around-ends p range x has i =
+    let j = ancestor-in p range x has i in
+    let r = around-span-in (upAt p (ancestorOf p x .level)) (up-sized p range _) (ancestorOf p x .row) (j .row<) in
+    let c = around-span-in (acrossAt p (ancestorOf p x .level)) (across-sized p range _) (ancestorOf p x .column) (j .column<) in
+    (omega (arith, ancestor-level p x, level-below p (x .level) range has), omega (arith, r .some), omega (arith, c .some))

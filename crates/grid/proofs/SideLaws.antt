@@ -1,10 +1,11 @@
 -- The laws of one direction of a level, over any corners: what supports and neighbourhoods rest on. Assumes nothing.
-use Prim.Native.Nat.{ℕ, suc, min, _+_, _-_, _*_, _/_, _≤_, _<_}
-use native.Mathlib.Nat.{le-refl, lt-div-mul-add, mul-le-mul-right, div-lt-iff-lt-mul}
+use Prim.Native.Nat.{ℕ, zero, suc, min, _+_, _-_, _*_, _/_, _%_, _≤_, _<_}
+use native.Mathlib.Nat.{le-refl, lt-div-mul-add, mul-le-mul-right, div-lt-iff-lt-mul, le-div-iff-mul-le, mod-lt, div-add-mod'}
 use native.Mathlib.Omega.{arith}
 use mathlib.Core.Bool.{_&&_}
 use mathlib.Core.Logic.{_↔_}
 use mathlib.Core.Path.{_≡_, refl, ap, sym, subst, _∙_}
+use lib.Arith.{digits-div}
 use lib.Dec.{T, eqb, eqb→eq, leb, ltb, leb→le, le→leb, ltb→lt, nltb→le, lt→ltb}
 use Rattle.facts.specs.Bounded.{some, sum}
 use Rattle.facts.proofs.Tests.{cases, not-i, not-e, T-true, T-false, and-i, and-l, and-r, same}
@@ -13,7 +14,7 @@ use Rattle.grid.specs.declared.Side.{Side}
 use Rattle.grid.specs.declared.Span.{Span}
 use Rattle.grid.specs.Knots.{times, knotOn, covers, apart, together, cornersTo, functions, firstOver}
 use Rattle.grid.specs.Side.{columnsBefore, supportSpan, aroundSpan, Sized, Run}
-use Rattle.grid.specs.Spans.{inSpan}
+use Rattle.grid.specs.Spans.{inSpan, coarserSpan}
 use Rattle.grid.proofs.Rising.{Rises, Apart, Covers, In, columns-apart, apart-common, span-covers, span-some, span-together, Tied}
 use Rattle.grid.proofs.Corners.{divided, first, first-rises, first-tied}
 use Rattle.grid.proofs.Knots.{knot-le, knot-gt, some-cells, knots-to, knots-all, functions-last, covers-fact, covers-test, plain-first}
@@ -247,3 +248,59 @@ module _ (r : ℕ) (wide : 0 < r) (s t : Side) (sized : Sized s) (ed : t .degree
       let a : Apart (s .degree) (firstOver t x) (firstOver t y) = subst (λ (g : ℕ). Apart g (firstOver t x) (firstOver t y)) ed (together-fact t fine x y k) in
       together-test s sized (x / r) (y / r) (div-lt-iff-lt-mul wide .1 (rw w at l)) (div-lt-iff-lt-mul wide .1 (rw w at m))
       (record { right = reach-up x y (a .right); left = reach-up y x (a .left) })
+
+-- ---- the columns on which those near column a of t stand, r on each; n of them
+
+module _ (r : ℕ) (wide : 0 < r) (t : Side) (sized : Sized t) (n : ℕ) (whole : t .cells ≡ n * r) (a : ℕ) (la : a < t .cells) where
+  abbrev lo : ℕ
+  lo = aroundSpan t a .first
+
+  abbrev hi : ℕ
+  hi = aroundSpan t a .end
+
+  own : In lo hi a
+  own = in-fact (aroundSpan t a) a (rw (around-is t sized a a la la) (together-self t sized a la))
+
+  child-in : (x b : ℕ) → x < n → b < r → x * r + b < t .cells
+  child-in x b l m = rw whole (div-lt-iff-lt-mul wide .0 (rw (digits-div x m) l))
+
+  reached : (x y : ℕ) → x < n → y / r ≡ x → lo ≤ y → y < hi → (b : ℕ) × (b < r) × T (together t (x * r + b) a)
+  reached x y l q p k =
+      let m : y < t .cells = omega (arith, around-span-in t sized a la .within) in
+      let u : T (together t y a) = rw (around-is t sized a y la m) at (in-test (aroundSpan t a) y (record { from = p; to = k })) in
+      let e : x * r + y % r ≡ y = ap (λ z. z * r + y % r) (sym q) ∙ div-add-mod' y r in
+      (y % r, mod-lt y wide, subst (λ (z : ℕ). T (together t z a)) (sym e) u)
+
+  -- each of them has such a column on it
+  pub coarser-e : (x : ℕ) → x < n → T (inSpan (coarserSpan r (aroundSpan t a)) x) → (b : ℕ) × (b < r) × T (together t (x * r + b) a)
+  unfolding coarserSpan
+  coarser-e x l k = go (lo - x * r) refl
+    where
+      i : In (lo / r) ((hi - 1) / r + 1) x
+      i = in-fact (coarserSpan r (aroundSpan t a)) x k
+
+      o : x * r ≤ hi - 1
+      o = le-div-iff-mul-le wide .0 (omega (arith, i .to))
+
+      go : (k : ℕ) → lo - x * r ≡ k → (b : ℕ) × (b < r) × T (together t (x * r + b) a)
+      go zero q = reached x (x * r + 0) l (digits-div x wide) (omega arith) (omega (arith, o, own .to))
+      go (suc k) q =
+          let p : x ≤ lo / r = le-div-iff-mul-le wide .1 (omega arith) in
+          reached x lo l (omega (arith, i .from)) (le-refl lo) (omega (arith, own .from, own .to))
+
+  pub coarser-i : (x b : ℕ) → x < n → b < r → T (together t (x * r + b) a) → T (inSpan (coarserSpan r (aroundSpan t a)) x)
+  unfolding coarserSpan
+  coarser-i x b l m k =
+      let i = in-fact (aroundSpan t a) (x * r + b) (rw (around-is t sized a (x * r + b) la (child-in x b l m)) k) in
+      let q = digits-div x m in
+      let f = divided r wide lo (x * r + b) (i .from) in
+      let g = divided r wide (x * r + b) (hi - 1) (omega (arith, i .to)) in
+      in-test (coarserSpan r (aroundSpan t a)) x (record { from = omega arith; to = omega arith })
+
+  pub coarser-span-in : SpanIn n (coarserSpan r (aroundSpan t a))
+  unfolding coarserSpan
+  coarser-span-in =
+      let f = divided r wide lo (hi - 1) (omega (arith, own .from, own .to)) in
+      let h : hi - 1 < t .cells = omega (arith, around-span-in t sized a la .within, own .to) in
+      let g : (hi - 1) / r < n = div-lt-iff-lt-mul wide .1 (subst (λ (m : ℕ). hi - 1 < m) whole h) in
+      record { some = omega arith; within = omega arith }

@@ -1,22 +1,22 @@
 -- Supports and neighbourhoods, as facts and as rectangles; no support is empty. Assumes nothing.
-use Prim.Native.Nat.{ℕ, _+_, _-_, _<_, _≤_}
+use Prim.Native.Nat.{ℕ, suc, pred, _+_, _-_, _*_, _<_, _≤_}
 use native.Mathlib.Omega.{arith}
 use mathlib.Core.Bool.{Bool, _&&_}
-use mathlib.Core.Path.{_≡_, refl}
+use mathlib.Core.Path.{_≡_, refl, ap, _∙_}
 use lib.Dec.{T, leb, ltb, eqb, leb→le, le→leb, ltb→lt, lt→ltb, eqb→eq}
 use Rattle.facts.proofs.Tests.{and-i, and-l, and-r, same, eqb-of, T-true}
 use Rattle.grid.specs.declared.Plan.{Plan}
 use Rattle.grid.specs.declared.Place.{Place}
 use Rattle.grid.specs.declared.Span.{Span}
 use Rattle.grid.specs.declared.Rectangle.{Rectangle}
-use Rattle.grid.specs.Plan.{ratio, acrossAt, upAt, columnsAt, rowsAt, functionColumnsAt, functionRowsAt, cellTotal, functionTotal, cellPlace, cellNumber, functionPlace, cellLevel, functionLevel, CellInside, FunctionInside, supportedAt, supported, ancestor, nearAt, near}
-use Rattle.grid.specs.Knots.{functions, covers, together}
+use Rattle.grid.specs.Plan.{ratio, grown, below, acrossAt, upAt, columnsAt, rowsAt, functionColumnsAt, functionRowsAt, cellTotal, functionTotal, cellPlace, cellNumber, functionPlace, cellLevel, functionLevel, CellInside, FunctionInside, supportedAt, supported, ancestor, nearAt, near}
+use Rattle.grid.specs.Knots.{functions, covers}
 use Rattle.grid.specs.Side.{supportSpan}
 use Rattle.grid.specs.Range.{InRange, HasNeighbourhood}
-use Rattle.grid.specs.Spans.{inSpan, inRectangle, supportOf, around, ancestorOf, neighbourhood}
-use Rattle.grid.proofs.Direction.{grown-ancestor}
-use Rattle.grid.proofs.Laws.{ratio-pos, across-sized, up-sized, Near, near-fact, near-test, near-places, function-inside, cell-inside, cell-number-lt, cell-place-number}
-use Rattle.grid.proofs.SideLaws.{SpanIn, support-is, support-span-in, around-is}
+use Rattle.grid.specs.Spans.{inSpan, inRectangle, supportOf, nearLevel, ancestorLevel, around, ancestorOf, parentsOf, neighbourhood}
+use Rattle.grid.proofs.Direction.{grown-ancestor, grown-more}
+use Rattle.grid.proofs.Laws.{ratio-pos, across-sized, up-sized, Near, near-fact, near-test, near-places, near-of, function-inside, cell-inside, cell-number-lt, cell-place-number}
+use Rattle.grid.proofs.SideLaws.{SpanIn, support-is, support-span-in, coarser-e, coarser-i}
 
 -- ---- spans and rectangles
 
@@ -167,59 +167,69 @@ support-some p range f b = (cellNumber p x, cell-number-lt p range x i, supporte
 
 -- ---- neighbourhoods
 
+-- the level of the ancestor is the one below the neighbourhood's
+pub level-below : (p : Plan) (j : ℕ) → InRange p → HasNeighbourhood p j → ancestorLevel p j ≡ suc (nearLevel p j)
+level-below p j range has = omega (arith, range .class≢, has .class≢, has .level≥)
+
 -- a cell's ancestor is a cell
-pub ancestor-in : (p : Plan) (q : Place) → HasNeighbourhood p (q .level) → CellInside p q → CellInside p (ancestorOf p q)
+pub ancestor-in : (p : Plan) → InRange p → (q : Place) → HasNeighbourhood p (q .level) → CellInside p q → CellInside p (ancestorOf p q)
 unfolding ancestorOf ancestor
-ancestor-in p q g i =
-    let l : p .class - 1 ≤ q .level = omega arith in
-    let b : q .level - (p .class - 1) < p .levels = omega arith in
+ancestor-in p range q g i =
+    let l : p .class - 2 ≤ q .level = omega arith in
+    let b : q .level - (p .class - 2) < p .levels = omega arith in
     record {
       level< = b;
-      row< = grown-ancestor (ratio p) (ratio-pos p) (p .rows) (q .level) (p .class - 1) (q .row) l (i .row<);
-      column< = grown-ancestor (ratio p) (ratio-pos p) (p .columns) (q .level) (p .class - 1) (q .column) l (i .column<);
+      row< = grown-ancestor (ratio p) (ratio-pos p) (p .rows) (q .level) (p .class - 2) (q .row) l (i .row<);
+      column< = grown-ancestor (ratio p) (ratio-pos p) (p .columns) (q .level) (p .class - 2) (q .column) l (i .column<);
     }
 
--- a cell that is near q lies on the level of q's ancestor, which q has
+-- a cell that is near q lies on the level of q's neighbourhood, which q has
 pub near-has : (p : Plan) (q c : Place) → Near p q c → HasNeighbourhood p (q .level)
 near-has p q c n = let l = n .levels in record { class≢ = n .graded; level≥ = omega arith }
 
 module _ (p : Plan) (range : InRange p) (q c : Place) (has : HasNeighbourhood p (q .level)) (at : CellInside p q) (inside : CellInside p c) where
   -- a cell is in the neighbourhood of q just where it lies in the rectangle
   pub near-rectangle : nearAt p q c ≡ inRectangle (neighbourhood p q) c
-  unfolding neighbourhood around ancestorOf
+  unfolding neighbourhood parentsOf around ancestorOf below
   near-rectangle = same (nearAt p q c) (inRectangle (neighbourhood p q) c) to from
     where
       k : ℕ
-      k = q .level - (p .class - 1)
+      k = q .level - (p .class - 2)
 
-      own : CellInside p (ancestorOf p q)
-      own = ancestor-in p q has at
+      level-is : neighbourhood p q .level ≡ pred k
+      level-is = refl
 
-      columns : k ≡ c .level → inSpan (neighbourhood p q .columns) (c .column) ≡ together (acrossAt p (c .level)) (c .column) (ancestor p (p .class - 1) (q .column))
-      columns e = rw e (around-is (acrossAt p (c .level)) (across-sized p range (c .level)) _ _ (rw e at (own .column<)) (inside .column<))
+      a : CellInside p (ancestorOf p q)
+      a = ancestor-in p range q has at
 
-      rows : k ≡ c .level → inSpan (neighbourhood p q .rows) (c .row) ≡ together (upAt p (c .level)) (c .row) (ancestor p (p .class - 1) (q .row))
-      rows e = rw e (around-is (upAt p (c .level)) (up-sized p range (c .level)) _ _ (rw e at (own .row<)) (inside .row<))
+      w : (b : ℕ) → grown (ratio p) b (suc (c .level)) ≡ grown (ratio p) b (c .level) * ratio p
+      w b = grown-more (ratio p) (ratio-pos p) b (suc (c .level)) (omega arith)
 
       to : T (nearAt p q c) → T (inRectangle (neighbourhood p q) c)
       to t =
           let n = near-fact p q c t in
-          let e : k ≡ c .level = omega (arith, n .levels) in
+          let e : k ≡ suc (c .level) = omega (arith, n .levels, range .class≢, has .class≢, has .level≥) in
           rectangle-test (neighbourhood p q) c (record {
-            level = e;
-            columns = span-fact _ _ (rw (columns e) (n .columns));
-            rows = span-fact _ _ (rw (rows e) (n .rows));
+            level = level-is ∙ ap pred e;
+            columns = span-fact _ _ (rw e (coarser-i (ratio p) (ratio-pos p) (acrossAt p (suc (c .level))) (across-sized p range (suc (c .level))) (columnsAt p (c .level)) (w (p .columns)) (ancestor p (p .class - 2) (q .column)) (rw e at (a .column<)) (c .column) (n .right) (inside .column<) (n .right<) (n .common .columns)));
+            rows = span-fact _ _ (rw e (coarser-i (ratio p) (ratio-pos p) (upAt p (suc (c .level))) (up-sized p range (suc (c .level))) (rowsAt p (c .level)) (w (p .rows)) (ancestor p (p .class - 2) (q .row)) (rw e at (a .row<)) (c .row) (n .down) (inside .row<) (n .down<) (n .common .rows)));
           })
 
       from : T (inRectangle (neighbourhood p q) c) → T (nearAt p q c)
       from t =
           let i = rectangle-fact (neighbourhood p q) c t in
-          let e : k ≡ c .level = i .level in
+          let f : pred k ≡ c .level = i .level in
+          let e : k ≡ suc (c .level) = omega (arith, level-below p (q .level) range has) in
+          let (b, m, u) = coarser-e (ratio p) (ratio-pos p) (acrossAt p (suc (c .level))) (across-sized p range (suc (c .level))) (columnsAt p (c .level)) (w (p .columns)) (ancestor p (p .class - 2) (q .column)) (rw e at (a .column<)) (c .column) (inside .column<) (rw e at (span-test _ _ (i .columns))) in
+          let (d, l, v) = coarser-e (ratio p) (ratio-pos p) (upAt p (suc (c .level))) (up-sized p range (suc (c .level))) (rowsAt p (c .level)) (w (p .rows)) (ancestor p (p .class - 2) (q .row)) (rw e at (a .row<)) (c .row) (inside .row<) (rw e at (span-test _ _ (i .rows))) in
           near-test p q c (record {
             graded = has .class≢;
-            levels = omega arith;
-            columns = rw (columns e) at (span-test _ _ (i .columns));
-            rows = rw (rows e) at (span-test _ _ (i .rows));
+            levels = omega (arith, has .level≥, has .class≢, range .class≢);
+            down = d;
+            right = b;
+            down< = l;
+            right< = m;
+            common = record { columns = u; rows = v };
           })
 
 module _ (p : Plan) (range : InRange p) (q c : ℕ) where

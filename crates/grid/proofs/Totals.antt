@@ -153,7 +153,7 @@ pub windows-bound : (p : Plan) → InRange p → cellTotal p ≤ mostCells → (
 unfolding every tried grown ratio
 windows-bound p r m k l = level-within 0 mostFunctions p tt r m k (omega arith)
 
--- neighbourhoods lie on levels with two finer ones: those of cells that have children, and one more for the class
-pub near-bound : (p : Plan) → InRange p → cellTotal p ≤ mostCells → (k : ℕ) → k + 2 < p .levels → spacious (p .rows) (rowsAt p k) * spacious (p .columns) (columnsAt p k) ≤ mostNear
+-- tables of neighbourhoods are of levels with a finer one: those of cells that have children, or coarser
+pub near-bound : (p : Plan) → InRange p → cellTotal p ≤ mostCells → (k : ℕ) → k + 1 < p .levels → spacious (p .rows) (rowsAt p k) * spacious (p .columns) (columnsAt p k) ≤ mostNear
 unfolding every tried grown ratio
-near-bound p r m k l = level-within 2 mostNear p tt r m k l
+near-bound p r m k l = level-within 1 mostNear p tt r m k l

@@ -6,3 +6,4 @@ pub mod Spans
 pub mod Knots
 pub mod Side
 pub mod Claims
+pub mod HNear

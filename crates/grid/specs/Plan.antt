@@ -4,6 +4,7 @@ use mathlib.Core.List.{List}
 use Prim.Native.Nat.{ℕ, pred, suc, _+_, _-_, _*_, _/_, _%_, _^_}
 use lib.Dec.{leb, ltb, eqb}
 use lib.ListN.{getD}
+use Rattle.facts.specs.Bounded.{some}
 use Rattle.hierarchy.specs.Hierarchy.{Hierarchy}
 use Rattle.grid.specs.declared.Plan.{Plan}
 use Rattle.grid.specs.declared.Place.{Place}
@@ -175,14 +176,18 @@ supported p f c = supportedAt p (functionPlace p f) (cellPlace p c)
 unfoldable pub ancestor : Plan → ℕ → ℕ → ℕ
 ancestor p d x = x / ratio p ^ d
 
--- "let a split cell have level j with j-m+1 at least 0. Every cell of level j-m+1" that is "covered by a common function of that level",
--- across and up, with "its ancestor there .. Those cells are its neighbourhood": the cell at c is in that of the cell at q
+-- the cell at d and the one of its level in row y and column x are "covered by a common function of that level", across and up
+unfoldable pub commonAt : Plan → Place → ℕ → ℕ → Bool
+commonAt p d y x = together (acrossAt p (d .level)) (d .column) x && together (upAt p (d .level)) (d .row) y
+
+-- "let a split cell have level j with j-m+1 at least 0" (document 01). Its neighbourhood is the "cells of level j-m+1 that have a child
+-- covered, together with the split cell's ancestor at level j-m+2, by a common function of that level" (document 02, Req 12): the cell at c
+-- is in that of the cell at q
 unfoldable pub nearAt : Plan → Place → Place → Bool
 nearAt p q c =
     not (eqb (p .class) 0)
     && (eqb (q .level + 1) (c .level + p .class)
-    && (together (acrossAt p (c .level)) (c .column) (ancestor p (p .class - 1) (q .column))
-    && together (upAt p (c .level)) (c .row) (ancestor p (p .class - 1) (q .row))))
+    && some (ratio p) (λ a. some (ratio p) (λ b. commonAt p (below p c a b) (ancestor p (p .class - 2) (q .row)) (ancestor p (p .class - 2) (q .column)))))
 
 unfoldable pub near : Plan → ℕ → ℕ → Bool
 near p q c = ltb c (cellTotal p) && nearAt p (cellPlace p q) (cellPlace p c)

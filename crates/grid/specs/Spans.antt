@@ -1,7 +1,7 @@
 -- The support of a function, the children and the neighbourhood of a cell as rectangles of cells. Proofs say that these are the cells
 -- that `supported` tests, that have the cell for a parent, and that `near` tests. Definitions only.
 use mathlib.Core.Bool.{Bool, _&&_}
-use Prim.Native.Nat.{ℕ, _+_, _-_, _*_}
+use Prim.Native.Nat.{ℕ, pred, _+_, _-_, _*_, _/_}
 use lib.Dec.{leb, ltb, eqb}
 use Rattle.grid.specs.declared.Plan.{Plan}
 use Rattle.grid.specs.declared.Place.{Place}
@@ -49,13 +49,29 @@ around p x = record {
 abbrev pub nearLevel : Plan → ℕ → ℕ
 nearLevel p j = j - (p .class - 1)
 
--- "its ancestor there": of level j-m+1
+-- the next finer one, on which their ancestors are: where there are neighbourhoods it is nearLevel p j + 1
+abbrev pub ancestorLevel : Plan → ℕ → ℕ
+ancestorLevel p j = j - (p .class - 2)
+
+-- "the split cell's ancestor at level j-m+2"
 unfoldable pub ancestorOf : Plan → Place → Place
 ancestorOf p q = record {
-  level = nearLevel p (q .level);
-  row = ancestor p (p .class - 1) (q .row);
-  column = ancestor p (p .class - 1) (q .column);
+  level = ancestorLevel p (q .level);
+  row = ancestor p (p .class - 2) (q .row);
+  column = ancestor p (p .class - 2) (q .column);
+}
+
+-- one direction, s columns of a level on one of the level before: those on which the span's stand
+unfoldable pub coarserSpan : ℕ → Span → Span
+coarserSpan s t = record { first = t .first / s; end = (t .end - 1) / s + 1 }
+
+-- the parents of a rectangle's cells
+unfoldable pub parentsOf : Plan → Rectangle → Rectangle
+parentsOf p r = record {
+  level = pred (r .level);
+  rows = coarserSpan (ratio p) (r .rows);
+  columns = coarserSpan (ratio p) (r .columns);
 }
 
 unfoldable pub neighbourhood : Plan → Place → Rectangle
-neighbourhood p q = around p (ancestorOf p q)
+neighbourhood p q = parentsOf p (around p (ancestorOf p q))

@@ -4,7 +4,7 @@ ghost use Prim.Native.Nat.{min, _+_, _-_, _*_, _≤_, _<_};
 ghost use lib.ListN.{getD};
 ghost use Rattle.grid.specs.Numbering.{Inside, offset, number, place};
 ghost use Rattle.grid.specs.Range.{InRange, Beyond, HasNeighbourhood};
-ghost use Rattle.grid.specs.Spans.{supportOf, childrenOf, around, ancestorOf, neighbourhood};
+ghost use Rattle.grid.specs.Spans.{supportOf, childrenOf, around, ancestorOf, coarserSpan, parentsOf, neighbourhood};
 ghost use Rattle.grid.specs.Knots.{isCorner, cornersTo, knotOn, beyond, functions, firstOver};
 ghost use Rattle.grid.specs.Side.{SideIn, Run, firsts, passed, columnsBefore, supportSpan, aroundSpan};
 ghost use Rattle.grid.specs.Plan.{planOf, between, numbersInRange, cornersInRange, inRange, ratio, grown, widened, columnsAt, rowsAt, acrossAt, upAt, beyondAcross, beyondUp, functionColumnsAt, functionRowsAt, cellOffset, functionOffset, cellTotal, functionTotal, tooLarge, planRefusal, cellPlace, cellNumber, functionPlace, functionNumber, CellInside, FunctionInside, ancestor};
@@ -14,7 +14,7 @@ pub const MOST_CELLS: usize = 21845;
 
 pub const MOST_FUNCTIONS: usize = 54884;
 
-pub const MOST_NEAR: usize = 7225;
+pub const MOST_NEAR: usize = 13689;
 
 // Document 01, "The plan": six numbers handed over by value. Document 02, Req 05: two more.
 #[repr(C)]
@@ -626,13 +626,13 @@ impl Plan {
         }
     }
 
-    // The ancestor around which a cell's neighbourhood lies.
+    // The ancestor, one level below the neighbourhood, around which the children lie that make a cell's neighbourhood.
     pub fn ancestor_of(self, place: Place) -> Place
         requires { ⌜ InRange self ⌝ }
         requires { ⌜ HasNeighbourhood self (place .level) ⌝ }
         ensures { λ r. ⌜ r ≡ ancestorOf self place ⌝ }
     {
-        let back = self.class - 1;
+        let back = self.class - 2;
         let level = place.level;
         let row = place.row;
         let column = place.column;
@@ -643,6 +643,38 @@ impl Plan {
         }
     }
 
+    // The columns (or rows) one level up on which those of a span stand.
+    fn coarser_span(self, span: Span) -> Span
+        requires { ⌜ 1 ≤ span .end ⌝ }
+        ensures { λ r. ⌜ r ≡ coarserSpan (ratio self) span ⌝ }
+    {
+        let first = span.first;
+        let last = span.end - 1;
+        let low = self.coarser(first, 1);
+        let high = self.coarser(last, 1);
+        Span {
+            first: low,
+            end: high + 1,
+        }
+    }
+
+    // The parents of a rectangle's cells.
+    fn parents_of(self, rectangle: Rectangle) -> Rectangle
+        requires { ⌜ (1 ≤ rectangle .level) × (1 ≤ rectangle .rows .end) × (1 ≤ rectangle .columns .end) ⌝ }
+        ensures { λ r. ⌜ r ≡ parentsOf self rectangle ⌝ }
+    {
+        let level = rectangle.level;
+        let rows = rectangle.rows;
+        let columns = rectangle.columns;
+        let up = self.coarser_span(rows);
+        let across = self.coarser_span(columns);
+        Rectangle {
+            level: level - 1,
+            rows: up,
+            columns: across,
+        }
+    }
+
     // The neighbourhood of the cell at a place.
     pub fn neighbourhood(self, place: Place) -> Rectangle
         requires { ⌜ InRange self ⌝ }
@@ -650,6 +682,6 @@ impl Plan {
         requires { ⌜ HasNeighbourhood self (place .level) ⌝ }
         ensures { λ r. ⌜ r ≡ neighbourhood self place ⌝ }
     {
-        self.around(self.ancestor_of(place))
+        self.parents_of(self.around(self.ancestor_of(place)))
     }
 }

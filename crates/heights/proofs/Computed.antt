@@ -13,7 +13,7 @@ use Rattle.exact.specs.Sums.{sumℤ}
 use Rattle.grid.specs.declared.Plan.{Plan}
 use Rattle.grid.specs.Numbering.{offset, number, levelOf, placeOn, place}
 use Rattle.grid.specs.Knots.{isSet, isCorner, cornersTo, times, knotFrom, knot, beyond, functions, covers, together}
-use Rattle.grid.specs.Plan.{between, numbersInRange, cornersInRange, inRange, tooLarge, ratio, grown, above, below, parent, child, lastLevel, supportedAt, supported, ancestor, nearAt, near, planOf}
+use Rattle.grid.specs.Plan.{between, numbersInRange, cornersInRange, inRange, tooLarge, ratio, grown, above, below, parent, child, lastLevel, supportedAt, supported, ancestor, commonAt, nearAt, near, planOf}
 use Rattle.mesh.specs.Mesh.{absent, active, refined, children, cellFits, isMesh, isAdmissible, tableOf, labelOf, labels, isLabelled, refusal3, refusal6, check}
 use Rattle.splines.specs.Values.{rise, fall, box, basis, scale, cellOf, value, valueIn, valueOn}
 use Rattle.heights.specs.declared.Height.{Height}
@@ -161,7 +161,7 @@ pub worked :
     ∷ Refused 1
     ∷ Refused 4
     ∷ []
-unfolding odd ofBits heightsOf some every elem tabulate over dyadic sumℤ offset number levelOf placeOn place between numbersInRange cornersInRange inRange tooLarge ratio grown above below parent child lastLevel covers together supportedAt supported ancestor nearAt near absent active refined children cellFits isMesh isAdmissible tableOf labelOf labels isLabelled refusal3 refusal6 check isSet isCorner cornersTo times knotFrom knot beyond functions rise fall box basis scale cellOf value valueIn valueOn eighths onMesh valueAt productOf heightSum inexact low allLow heightsRefusal refusal answer lowOn
+unfolding odd ofBits heightsOf some every elem tabulate over dyadic sumℤ offset number levelOf placeOn place between numbersInRange cornersInRange inRange tooLarge ratio grown above below parent child lastLevel covers together supportedAt supported ancestor commonAt nearAt near absent active refined children cellFits isMesh isAdmissible tableOf labelOf labels isLabelled refusal3 refusal6 check isSet isCorner cornersTo times knotFrom knot beyond functions rise fall box basis scale cellOf value valueIn valueOn eighths onMesh valueAt productOf heightSum inexact low allLow heightsRefusal refusal answer lowOn
 worked = refl
 
 -- ---- with corners; the answers were worked out in fractions
@@ -222,5 +222,5 @@ pub cornered :
     ∷ bits 0
     ∷ bits 0x3ff8_0000_0000_0000
     ∷ []
-unfolding odd ofBits heightsOf some every elem tabulate over dyadic sumℤ offset number levelOf placeOn place between numbersInRange cornersInRange inRange tooLarge ratio grown above below parent child lastLevel covers together supportedAt supported ancestor nearAt near absent active refined children cellFits isMesh isAdmissible tableOf labelOf labels isLabelled refusal3 refusal6 check isSet isCorner cornersTo times knotFrom knot beyond functions rise fall box basis scale cellOf value valueIn valueOn eighths onMesh valueAt productOf heightSum inexact low allLow heightsRefusal refusal answer lowOn
+unfolding odd ofBits heightsOf some every elem tabulate over dyadic sumℤ offset number levelOf placeOn place between numbersInRange cornersInRange inRange tooLarge ratio grown above below parent child lastLevel covers together supportedAt supported ancestor commonAt nearAt near absent active refined children cellFits isMesh isAdmissible tableOf labelOf labels isLabelled refusal3 refusal6 check isSet isCorner cornersTo times knotFrom knot beyond functions rise fall box basis scale cellOf value valueIn valueOn eighths onMesh valueAt productOf heightSum inexact low allLow heightsRefusal refusal answer lowOn
 cornered = refl

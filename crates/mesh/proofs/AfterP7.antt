@@ -13,7 +13,7 @@ use Rattle.mesh.specs.Mesh.{absent, active, refined, tableOf, labelOf}
 abbrev pub W2 : Plan
 W2 = record { columns = 3; rows = 1; levels = 3; «degree_across» = 1; «degree_up» = 1; class = 2; «corners_across» = 0; «corners_up» = 0 }
 
--- the labels of functions 0 and 8 of W2 with cells 0, 1 and 3 refined
-pub after-P7 : (let cells = tableOf W2 (λ c. elem c (0 ∷ 1 ∷ 3 ∷ [])) in labelOf W2 cells 0 ∷ labelOf W2 cells 8 ∷ []) ≡ 2 ∷ 2 ∷ []
+-- the labels of functions 0 and 8 of W2 with cells 0 and 3 refined
+pub after-P7 : (let cells = tableOf W2 (λ c. elem c (0 ∷ 3 ∷ [])) in labelOf W2 cells 0 ∷ labelOf W2 cells 8 ∷ []) ≡ 2 ∷ 2 ∷ []
 unfolding some every elem tabulate offset number levelOf placeOn place ratio grown above parent isSet isCorner cornersTo times knotFrom knot beyond functions covers supportedAt supported absent active refined tableOf labelOf
 after-P7 = refl

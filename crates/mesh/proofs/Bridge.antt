@@ -320,7 +320,7 @@ module _ (p : Plan) (cs fs : List ℕ) where
     pub functions : length fs ≡ functionTotal p
 
   -- and what 4 to 6 leave
-  record Checked : Type 0 where
+  pub record Checked : Type 0 where
     pub passed : Passed
     pub mesh : T (isMesh p cs)
     pub admissible : T (isAdmissible p cs)
@@ -351,7 +351,7 @@ module _ (p : Plan) (cs fs : List ℕ) where
   pub check-passed : check p cs fs ≡ 0 → Passed
   check-passed e = checked e .passed
 
-  unchecked : Checked → check p cs fs ≡ 0
+  pub unchecked : Checked → check p cs fs ≡ 0
   unfolding check refusal3 refusal6 tooLarge
   unchecked k =
       rw (
@@ -437,6 +437,18 @@ module _ (p : Plan) (cs : List ℕ) (f : ℕ) where
   pub passive-i : (c : ℕ) → c < cellTotal p → T (supported p f c) → T (absent cs c) → labelOf p cs f ≡ 0
   unfolding labelOf
   passive-i c i s a = rw (T-true some-absent (some-i (cellTotal p) (λ c. supported p f c && absent cs c) c i (and-i (supported p f c) (absent cs c) s a))) refl
+
+  -- and one or the other where none is
+  pub present-i : ((c : ℕ) → c < cellTotal p → T (supported p f c) → T (not (absent cs c))) → (1 ≤ labelOf p cs f) × (labelOf p cs f ≤ 2)
+  unfolding labelOf
+  present-i h = present-label some-absent all-refined (λ a.
+      let (c, i, u) = some-e (cellTotal p) (λ c. supported p f c && absent cs c) a in
+      not-e (absent cs c) (h c i (and-l (supported p f c) _ u)) (and-r (supported p f c) (absent cs c) u))
+    where
+      present-label : (a b : Bool) → (T a → ⊥) → (1 ≤ cond a 0 (cond b 2 1)) × (cond a 0 (cond b 2 1) ≤ 2)
+      present-label true b n = absurd (n tt)
+      present-label false true n = (omega arith, omega arith)
+      present-label false false n = (omega arith, omega arith)
 
 -- deactivated functions only grow with the refined cells
 pub deactivated-grow : (p : Plan) (old new : List ℕ) → ((c : ℕ) → c < cellTotal p → T (refined old c) → T (refined new c))

@@ -3,3 +3,4 @@ pub mod Bridge
 pub mod Label
 pub mod Area
 pub mod Fresh
+pub mod HAdmissible

@@ -7,7 +7,7 @@ use Rattle.facts.specs.Numbers.{elem, all, listed, tabulate, stored, first}
 use Rattle.hierarchy.specs.Hierarchy.{reach, needs, closure}
 use Rattle.grid.specs.declared.Plan.{Plan}
 use Rattle.grid.specs.Numbering.{offset, number, levelOf, placeOn, place}
-use Rattle.grid.specs.Plan.{between, numbersInRange, cornersInRange, inRange, ratio, grown, tooLarge, planRefusal, lastLevel, above, below, parent, child, supportedAt, supported, ancestor, nearAt, near}
+use Rattle.grid.specs.Plan.{between, numbersInRange, cornersInRange, inRange, ratio, grown, tooLarge, planRefusal, lastLevel, above, below, parent, child, supportedAt, supported, ancestor, commonAt, nearAt, near}
 use Rattle.grid.specs.Knots.{isSet, isCorner, cornersTo, times, knotFrom, knot, beyond, functions as functionCount, covers, apart, together}
 use Rattle.mesh.specs.Mesh.{absent, active, refined, children, cellFits, isMesh, isAdmissible, reactivable, tableOf, labelOf, labels, isLabelled, refusal3, refusal6, check, freshCells, freshFunctions, openMesh}
 use Rattle.outcomes.specs.Calls.{cells, functions, eligible, isTooDeep, markRefusal, underMarked, underKept, selected, base, smallest, changed, written, refused, settle, newCells, refusal, outcome}
@@ -46,15 +46,22 @@ table =
     ∷ row (outside 6 0) fresh1 [] (plans 0 ∷ checks 0 ∷ [])
     ∷ []
 
--- class 2: after split 0, split 3 splits cell 1 before it, which a function covers together with cell 0. None covers 0 and 2, so that cell 2
--- is left, although it is at most p from 0
+-- class 2: after split 0, split 3, of level 1 and column 0, splits no other cell, although column 2, which stands on cell 1, is at most p from
+-- it: the corner lies between, and no function covers both. One covers columns 1 and 2, so that split 4 splits cell 1 before it
 pub graded : List Row
-graded = let plan = cornered 3 2 1 2 in row plan (refining plan (0 ∷ [])) (split cells (3 ∷ []) 0 (1 ∷ 3 ∷ []) (2 ∷ 8 ∷ 12 ∷ []) ∷ []) [] ∷ []
+graded = let plan = cornered 3 2 1 2 in row plan (refining plan (0 ∷ [])) (split cells (3 ∷ []) 0 (3 ∷ []) (12 ∷ []) ∷ []) [] ∷ []
+
+pub graded-across : List Row
+graded-across = let plan = cornered 3 2 1 2 in row plan (refining plan (0 ∷ [])) (split cells (4 ∷ []) 0 (1 ∷ 4 ∷ []) (2 ∷ 8 ∷ []) ∷ []) [] ∷ []
 
 pub worked : T (allHold table)
-unfolding table planRefusal some every sum elem all listed tabulate stored first reach needs closure offset number levelOf placeOn place between numbersInRange cornersInRange inRange ratio grown tooLarge lastLevel above below parent child isSet isCorner cornersTo times knotFrom knot beyond functionCount covers apart together supportedAt supported ancestor nearAt near absent active refined children cellFits isMesh isAdmissible labelOf labels isLabelled refusal3 refusal6 check freshCells freshFunctions openMesh reactivable eligible isTooDeep markRefusal underMarked underKept selected base tableOf smallest changed written refused settle newCells refusal outcome covered
+unfolding table planRefusal some every sum elem all listed tabulate stored first reach needs closure offset number levelOf placeOn place between numbersInRange cornersInRange inRange ratio grown tooLarge lastLevel above below parent child isSet isCorner cornersTo times knotFrom knot beyond functionCount covers apart together supportedAt supported ancestor commonAt nearAt near absent active refined children cellFits isMesh isAdmissible labelOf labels isLabelled refusal3 refusal6 check freshCells freshFunctions openMesh reactivable eligible isTooDeep markRefusal underMarked underKept selected base tableOf smallest changed written refused settle newCells refusal outcome covered
 worked = tt
 
 pub worked-graded : T (allHold graded)
-unfolding graded some every sum elem all listed tabulate stored first reach needs closure offset number levelOf placeOn place between numbersInRange cornersInRange inRange ratio grown tooLarge lastLevel above below parent child isSet isCorner cornersTo times knotFrom knot beyond functionCount covers apart together supportedAt supported ancestor nearAt near absent active refined children cellFits isMesh isAdmissible labelOf labels isLabelled refusal3 refusal6 check freshCells freshFunctions openMesh reactivable eligible isTooDeep markRefusal underMarked underKept selected base tableOf smallest changed written refused settle newCells refusal outcome covered
+unfolding graded some every sum elem all listed tabulate stored first reach needs closure offset number levelOf placeOn place between numbersInRange cornersInRange inRange ratio grown tooLarge lastLevel above below parent child isSet isCorner cornersTo times knotFrom knot beyond functionCount covers apart together supportedAt supported ancestor commonAt nearAt near absent active refined children cellFits isMesh isAdmissible labelOf labels isLabelled refusal3 refusal6 check freshCells freshFunctions openMesh reactivable eligible isTooDeep markRefusal underMarked underKept selected base tableOf smallest changed written refused settle newCells refusal outcome covered
 worked-graded = tt
+
+pub worked-across : T (allHold graded-across)
+unfolding graded-across some every sum elem all listed tabulate stored first reach needs closure offset number levelOf placeOn place between numbersInRange cornersInRange inRange ratio grown tooLarge lastLevel above below parent child isSet isCorner cornersTo times knotFrom knot beyond functionCount covers apart together supportedAt supported ancestor commonAt nearAt near absent active refined children cellFits isMesh isAdmissible labelOf labels isLabelled refusal3 refusal6 check freshCells freshFunctions openMesh reactivable eligible isTooDeep markRefusal underMarked underKept selected base tableOf smallest changed written refused settle newCells refusal outcome covered
+worked-across = tt

@@ -42,7 +42,7 @@ pub both-steps :
 unfolding some every elem tabulate listed offset number levelOf placeOn place between ratio grown above below parent isSet isCorner cornersTo times knotFrom knot beyond functionCount covers supportedAt supported absent active refined tableOf labelOf labels changed written roomRefusal settleCells relabel inSteps
 both-steps = refl
 
--- ---- each step, on P7's second split, of 3: cells 1 and 3 become refined, functions 1, 5 and 8 deactivated
+-- ---- each step, on W2 after split 0, split 4: cells 1 and 4 become refined, functions 1 and 5 deactivated
 
 -- document 01's W0 and W2, by their class, and the cells of the wall in which just these are refined
 abbrev W : ℕ → Plan
@@ -63,10 +63,10 @@ seenRelabelled r = (r .count ∷ []) ∷ listed 94 (refined (r .functions)) ∷ 
 
 pub relabelled :
     -- from the settled cells; from the cells as they were nothing changes
-    seenRelabelled (relabel (W 2) (wall (0 ∷ 1 ∷ 3 ∷ [])) (labelled (0 ∷ [])) (7 ∷ 7 ∷ 7 ∷ 7 ∷ []))
+    seenRelabelled (relabel (W 2) (wall (0 ∷ 1 ∷ 4 ∷ [])) (labelled (0 ∷ [])) (7 ∷ 7 ∷ 7 ∷ 7 ∷ []))
     ∷ seenRelabelled (relabel (W 2) (wall (0 ∷ [])) (labelled (0 ∷ [])) (7 ∷ 7 ∷ 7 ∷ 7 ∷ []))
     ∷ []
-    ≡ ((3 ∷ []) ∷ (0 ∷ 1 ∷ 4 ∷ 5 ∷ 8 ∷ []) ∷ (1 ∷ 5 ∷ 8 ∷ 7 ∷ []) ∷ [])
+    ≡ ((2 ∷ []) ∷ (0 ∷ 1 ∷ 4 ∷ 5 ∷ []) ∷ (1 ∷ 5 ∷ 7 ∷ 7 ∷ []) ∷ [])
     ∷ ((0 ∷ []) ∷ (0 ∷ 4 ∷ []) ∷ (7 ∷ 7 ∷ 7 ∷ 7 ∷ []) ∷ [])
     ∷ []
 unfolding some every elem tabulate listed offset number levelOf placeOn place between ratio grown above below parent isSet isCorner cornersTo times knotFrom knot beyond functionCount covers supportedAt supported absent active refined tableOf labelOf labels changed written relabel
@@ -74,11 +74,11 @@ relabelled = refl
 
 pub settled :
     -- room for all, and one entry more in the cell list; a function list one entry short; a cell list one entry short, and then 10 comes first
-    seenSettled (settleCells (W 2) (wall (0 ∷ [])) (labelled (0 ∷ [])) (7 ∷ 7 ∷ 7 ∷ []) 3 (wall (0 ∷ 1 ∷ 3 ∷ [])))
-    ∷ seenSettled (settleCells (W 2) (wall (0 ∷ [])) (labelled (0 ∷ [])) (7 ∷ 7 ∷ 7 ∷ []) 2 (wall (0 ∷ 1 ∷ 3 ∷ [])))
-    ∷ seenSettled (settleCells (W 2) (wall (0 ∷ [])) (labelled (0 ∷ [])) (7 ∷ []) 2 (wall (0 ∷ 1 ∷ 3 ∷ [])))
+    seenSettled (settleCells (W 2) (wall (0 ∷ [])) (labelled (0 ∷ [])) (7 ∷ 7 ∷ 7 ∷ []) 2 (wall (0 ∷ 1 ∷ 4 ∷ [])))
+    ∷ seenSettled (settleCells (W 2) (wall (0 ∷ [])) (labelled (0 ∷ [])) (7 ∷ 7 ∷ 7 ∷ []) 1 (wall (0 ∷ 1 ∷ 4 ∷ [])))
+    ∷ seenSettled (settleCells (W 2) (wall (0 ∷ [])) (labelled (0 ∷ [])) (7 ∷ []) 1 (wall (0 ∷ 1 ∷ 4 ∷ [])))
     ∷ []
-    ≡ ((0 ∷ 2 ∷ 0 ∷ []) ∷ (0 ∷ 1 ∷ 3 ∷ []) ∷ (1 ∷ 3 ∷ 7 ∷ []) ∷ [])
+    ≡ ((0 ∷ 2 ∷ 0 ∷ []) ∷ (0 ∷ 1 ∷ 4 ∷ []) ∷ (1 ∷ 4 ∷ 7 ∷ []) ∷ [])
     ∷ ((11 ∷ 0 ∷ 0 ∷ []) ∷ (0 ∷ []) ∷ (7 ∷ 7 ∷ 7 ∷ []) ∷ [])
     ∷ ((10 ∷ 0 ∷ 0 ∷ []) ∷ (0 ∷ []) ∷ (7 ∷ []) ∷ [])
     ∷ []
@@ -105,12 +105,15 @@ pub printed :
     setsOf [] (0 ∷ []) (0 ∷ [])
     -- P2 W0 fresh, split 1: 1; none. Newly active: 11 18 25
     ∷ setsOf [] (1 ∷ []) (1 ∷ [])
-    -- P7 W2, split 0, then split 3: 1 3; 1 5 8. Function 0 stays deactivated, and its child 8 is not active
-    ∷ setsOf (0 ∷ []) (1 ∷ 3 ∷ []) (0 ∷ 1 ∷ 3 ∷ [])
+    -- W2, split 0, then split 4: 1 4; 1 5
+    ∷ setsOf (0 ∷ []) (1 ∷ 4 ∷ []) (0 ∷ 1 ∷ 4 ∷ [])
+    -- P7 W2, split 0, then split 3: 3; 8. Function 0 stays deactivated, and its child 8 is not active
+    ∷ setsOf (0 ∷ []) (3 ∷ []) (0 ∷ 3 ∷ [])
     ∷ []
     ≡ ((3 ∷ 4 ∷ 9 ∷ 10 ∷ []) ∷ (0 ∷ []) ∷ (1 ∷ 2 ∷ 3 ∷ 4 ∷ 9 ∷ 10 ∷ []) ∷ (0 ∷ 4 ∷ []) ∷ (8 ∷ 9 ∷ 15 ∷ 16 ∷ 22 ∷ 23 ∷ []) ∷ (1 ∷ 2 ∷ 3 ∷ 5 ∷ 6 ∷ 7 ∷ 8 ∷ 9 ∷ 15 ∷ 16 ∷ 22 ∷ 23 ∷ []) ∷ (0 ∷ 4 ∷ []) ∷ [])
     ∷ ((5 ∷ 6 ∷ 11 ∷ 12 ∷ []) ∷ (1 ∷ []) ∷ (0 ∷ 2 ∷ 5 ∷ 6 ∷ 11 ∷ 12 ∷ []) ∷ [] ∷ (11 ∷ 18 ∷ 25 ∷ []) ∷ (0 ∷ 1 ∷ 2 ∷ 3 ∷ 4 ∷ 5 ∷ 6 ∷ 7 ∷ 11 ∷ 18 ∷ 25 ∷ []) ∷ [] ∷ [])
-    ∷ ((5 ∷ 6 ∷ 11 ∷ 12 ∷ 15 ∷ 16 ∷ 27 ∷ 28 ∷ []) ∷ (0 ∷ 1 ∷ 3 ∷ []) ∷ (2 ∷ 4 ∷ 5 ∷ 6 ∷ 9 ∷ 10 ∷ 11 ∷ 12 ∷ []) ∷ (1 ∷ 5 ∷ 8 ∷ []) ∷ (10 ∷ 11 ∷ 17 ∷ 18 ∷ 24 ∷ 25 ∷ 29 ∷ 30 ∷ 42 ∷ 43 ∷ []) ∷ (2 ∷ 3 ∷ 6 ∷ 7 ∷ 9 ∷ 10 ∷ 11 ∷ 15 ∷ 16 ∷ 17 ∷ 18 ∷ 22 ∷ 23 ∷ 24 ∷ 25 ∷ []) ∷ (0 ∷ 1 ∷ 4 ∷ 5 ∷ 8 ∷ []) ∷ [])
+    ∷ ((5 ∷ 6 ∷ 11 ∷ 12 ∷ 17 ∷ 18 ∷ 29 ∷ 30 ∷ []) ∷ (0 ∷ 1 ∷ 4 ∷ []) ∷ (2 ∷ 3 ∷ 5 ∷ 6 ∷ 9 ∷ 10 ∷ 11 ∷ 12 ∷ []) ∷ (1 ∷ 5 ∷ []) ∷ (10 ∷ 11 ∷ 17 ∷ 18 ∷ 24 ∷ 25 ∷ 32 ∷ 45 ∷ []) ∷ (2 ∷ 3 ∷ 6 ∷ 7 ∷ 8 ∷ 9 ∷ 10 ∷ 11 ∷ 15 ∷ 16 ∷ 17 ∷ 18 ∷ 22 ∷ 23 ∷ 24 ∷ 25 ∷ []) ∷ (0 ∷ 1 ∷ 4 ∷ 5 ∷ []) ∷ [])
+    ∷ ((15 ∷ 16 ∷ 27 ∷ 28 ∷ []) ∷ (0 ∷ 3 ∷ []) ∷ (1 ∷ 2 ∷ 4 ∷ 9 ∷ 10 ∷ []) ∷ (8 ∷ []) ∷ (29 ∷ 30 ∷ 42 ∷ 43 ∷ []) ∷ (1 ∷ 2 ∷ 3 ∷ 5 ∷ 6 ∷ 7 ∷ 9 ∷ 15 ∷ 16 ∷ 22 ∷ 23 ∷ []) ∷ (0 ∷ 4 ∷ 8 ∷ []) ∷ [])
     ∷ []
 unfolding some every elem tabulate listed offset number levelOf placeOn place between ratio grown above below parent isSet isCorner cornersTo times knotFrom knot beyond functionCount covers supportedAt supported absent active refined tableOf labelOf labels isNew isActiveCell isDeactivatedCell isToDeactivate isCandidate isActiveFunction isDeactivatedFunction
 printed = refl

@@ -12,7 +12,7 @@ use Rattle.facts.proofs.Tests.{T-true}
 use Rattle.hierarchy.specs.Hierarchy.{reach, needs, closure}
 use Rattle.grid.specs.declared.Plan.{Plan}
 use Rattle.grid.specs.Numbering.{offset, number, levelOf, placeOn, place}
-use Rattle.grid.specs.Plan.{between, numbersInRange, cornersInRange, inRange, ratio, grown, tooLarge, planRefusal, lastLevel, above, below, parent, child, supportedAt, supported, ancestor, nearAt, near, cellTotal, functionTotal}
+use Rattle.grid.specs.Plan.{between, numbersInRange, cornersInRange, inRange, ratio, grown, tooLarge, planRefusal, lastLevel, above, below, parent, child, supportedAt, supported, ancestor, commonAt, nearAt, near, cellTotal, functionTotal}
 use Rattle.grid.specs.Knots.{isSet, isCorner, cornersTo, times, knotFrom, knot, beyond, functions as functionCount, covers, apart, together}
 use Rattle.mesh.specs.Mesh.{Opened, absent, active, refined, children, cellFits, isMesh, isAdmissible, reactivable, tableOf, labelOf, labels, isLabelled, refusal3, refusal6, check, freshCells, freshFunctions, openMesh}
 use Rattle.outcomes.specs.Calls.{Direction, refine, coarsen, By, cells, functions, Outcome, eligible, isTooDeep, markRefusal, underMarked, underKept, selected, base, smallest, changed, written, refused, settle, newCells, refusal, outcome, refineCells, refineFunctions, coarsenCells, coarsenFunctions}
@@ -186,7 +186,7 @@ table =
     let fresh2 = fresh W2 in
     let afterP2 = refining W0 (1 ∷ []) in
     let afterP3 = refining W0 (0 ∷ 1 ∷ []) in
-    let afterP7 = refining W2 (0 ∷ 1 ∷ 3 ∷ []) in
+    let afterP7 = refining W2 (0 ∷ 3 ∷ []) in
     -- P1 W0 fresh, split 0: 0; 0 4. Functions newly active: 8 9 15 16 22 23.
     row W0 fresh0 (split cells (0 ∷ []) 0 (0 ∷ []) (0 ∷ 4 ∷ []) ∷ []) (newlyActive (8 ∷ 9 ∷ 15 ∷ 16 ∷ 22 ∷ 23 ∷ []) ∷ [])
     -- P2 W0 fresh, split 1: 1; none. Newly active: 11 18 25.
@@ -199,14 +199,17 @@ table =
     ∷ row W0 afterP3 (join functions (1 ∷ 5 ∷ []) 0 (1 ∷ []) (1 ∷ 5 ∷ []) ∷ []) (are (refining W0 (0 ∷ [])) ∷ [])
     -- P6 after P3, join by functions 0 1 4 5: 0 1; 0 1 4 5, and the wall is fresh.
     ∷ row W0 afterP3 (join functions (0 ∷ 1 ∷ 4 ∷ 5 ∷ []) 0 (0 ∷ 1 ∷ []) (0 ∷ 1 ∷ 4 ∷ 5 ∷ []) ∷ []) (are fresh0 ∷ [])
-    -- P7 W2, split 0, then split 3: 1 3; 1 5 8. Function 0 stays deactivated, and its child 8 is not active.
-    ∷ row W2 fresh2 (split cells (0 ∷ []) 0 (0 ∷ []) (0 ∷ 4 ∷ []) ∷ split cells (3 ∷ []) 0 (1 ∷ 3 ∷ []) (1 ∷ 5 ∷ 8 ∷ []) ∷ []) (are afterP7 ∷ deactivated (0 ∷ 1 ∷ 4 ∷ 5 ∷ 8 ∷ []) ∷ [])
-    -- P8 after P7, join 1: none; none. Cell 3 needs it. (Lists of no entries are long enough.)
-    ∷ row W2 afterP7 (lending 0 0 coarsen cells (1 ∷ []) 0 [] [] ∷ []) (are afterP7 ∷ [])
+    -- P7 W2, split 0: 0; 0 4. Then split 3: 3; 8 (Req 12). Function 0 stays deactivated, and its child 8 is not active.
+    ∷ row W2 fresh2 (split cells (0 ∷ []) 0 (0 ∷ []) (0 ∷ 4 ∷ []) ∷ split cells (3 ∷ []) 0 (3 ∷ []) (8 ∷ []) ∷ []) (are afterP7 ∷ deactivated (0 ∷ 4 ∷ 8 ∷ []) ∷ [])
+    -- P8 after P7, join 1: refusal 8.
+    ∷ row W2 afterP7 (join cells (1 ∷ []) 8 [] [] ∷ []) []
     -- P9 after P7, join 0: refusal 8.
     ∷ row W2 afterP7 (join cells (0 ∷ []) 8 [] [] ∷ []) []
-    -- P10 after P7, join 1 3: 1 3; 1 5 8.
-    ∷ row W2 afterP7 (join cells (1 ∷ 3 ∷ []) 0 (1 ∷ 3 ∷ []) (1 ∷ 5 ∷ 8 ∷ []) ∷ []) (are (refining W2 (0 ∷ [])) ∷ [])
+    -- P10 after P7, join 1 3: refusal 8. (Join 3: 3; 8.)
+    ∷ row W2 afterP7 (join cells (1 ∷ 3 ∷ []) 8 [] [] ∷ join cells (3 ∷ []) 0 (3 ∷ []) (8 ∷ []) ∷ []) (are (refining W2 (0 ∷ [])) ∷ [])
+    -- "A marked cell that the others need stays split": W2 with 0, 1 and 4 split, join 1: none; none. Cell 4 needs it. (Lists of no entries are
+    -- long enough.) Join 1 4: 1 4; 1 5.
+    ∷ row W2 (refining W2 (0 ∷ 1 ∷ 4 ∷ [])) (lending 0 0 coarsen cells (1 ∷ []) 0 [] [] ∷ join cells (1 ∷ 4 ∷ []) 0 (1 ∷ 4 ∷ []) (1 ∷ 5 ∷ []) ∷ []) (are (refining W2 (0 ∷ [])) ∷ [])
     -- P11 W0, split 1 (P2), split by function 1, join by functions 0 1 4 5: cells 0 and 1 are joined, so the earlier wall is not
     -- regained. Hence the premise of the mission's third demand: the first wall does not have it.
     ∷ row W0 afterP2 [] (notCovered ∷ [])
@@ -228,9 +231,9 @@ table =
     ∷ row W0 (tables (fresh0 .cells) (take 93 (fresh0 .functions))) (split cells (0 ∷ []) 3 [] [] ∷ []) (opens 3 ∷ checks 3 ∷ [])
     -- 4: the cell bytes are not a wall. W0 fresh, cell 0 set to 0.
     ∷ row W0 (tables (set (fresh0 .cells) 0 0) (fresh0 .functions)) (split cells (0 ∷ []) 4 [] [] ∷ []) (checks 4 ∷ [])
-    -- 5: the wall is not graded for its class. W2, cells 0 and 3 split, 1 active; W0 takes these tables.
-    ∷ row W2 (refining W2 (0 ∷ 3 ∷ [])) (split cells (1 ∷ []) 5 [] [] ∷ []) (checks 5 ∷ [])
-    ∷ row W0 (refining W2 (0 ∷ 3 ∷ [])) [] (checks 0 ∷ [])
+    -- 5: the wall is not graded for its class. W2, cells 0 and 4 split, 1 active (Req 12); W0 takes these tables.
+    ∷ row W2 (refining W2 (0 ∷ 4 ∷ [])) (split cells (1 ∷ []) 5 [] [] ∷ []) (checks 5 ∷ [])
+    ∷ row W0 (refining W2 (0 ∷ 4 ∷ [])) [] (checks 0 ∷ [])
     -- 6: a function byte is not the one fixed above. W0 fresh, function 0 set to 2.
     ∷ row W0 (tables (fresh0 .cells) (set (fresh0 .functions) 0 2)) (split cells (0 ∷ []) 6 [] [] ∷ []) (checks 6 ∷ [])
     -- 7: a mark is T (or F) or more. W0, split 63; join by function 94.
@@ -247,14 +250,15 @@ table =
     ∷ row W0 fresh0 (split cells (0 ∷ 63 ∷ 3 ∷ []) 7 [] [] ∷ split cells (0 ∷ 3 ∷ 63 ∷ []) 8 [] [] ∷ []) []
     -- "Marks may repeat; repeats mean one mark; no marks at all is accepted." The lists rise, whatever the order of the marks.
     ∷ row W0 fresh0 (split cells [] 0 [] [] ∷ split cells (2 ∷ 0 ∷ 2 ∷ []) 0 (0 ∷ 2 ∷ []) (0 ∷ 3 ∷ 4 ∷ 7 ∷ []) ∷ []) []
-    -- Grading is not against edge neighbours alone: 2 2 3 1 1 2, after split 0, split 4: cell 3, which the ancestor 0 meets in a point,
+    -- Grading is not against edge neighbours alone: 2 2 3 1 1 2, after split 0, split 9, of level 1, row 1, column 1: cell 3, which the parent 0
+    -- meets in a point, has a child beside it and is split too.
+    ∷ row (plan 2 2 3 1 1 2) (refining (plan 2 2 3 1 1 2) (0 ∷ [])) (split cells (9 ∷ []) 0 (1 ∷ 2 ∷ 3 ∷ 9 ∷ []) (1 ∷ 2 ∷ 3 ∷ 4 ∷ 5 ∷ 6 ∷ 7 ∷ 8 ∷ []) ∷ []) []
+    -- Nor against all cells beside the parent: W2, after split 2, split 8, of level 1, row 0, column 5, the last: 8; 14. Split 7, of column 4: cell 1
     -- is split too.
-    ∷ row (plan 2 2 3 1 1 2) (refining (plan 2 2 3 1 1 2) (0 ∷ [])) (split cells (4 ∷ []) 0 (1 ∷ 2 ∷ 3 ∷ 4 ∷ []) (1 ∷ 2 ∷ 3 ∷ 4 ∷ 5 ∷ 6 ∷ 7 ∷ 8 ∷ 9 ∷ []) ∷ []) []
-    -- Nor around the cell's own column: W2, after split 2, split 8, of level 1, row 0, column 5. Its ancestor's column is 2, so cell 1
-    -- is split too.
-    ∷ row W2 (refining W2 (2 ∷ [])) (split cells (8 ∷ []) 0 (1 ∷ 8 ∷ []) (2 ∷ 6 ∷ 14 ∷ []) ∷ []) []
+    ∷ row W2 (refining W2 (2 ∷ [])) (split cells (8 ∷ []) 0 (8 ∷ []) (14 ∷ []) ∷ []) []
+    ∷ row W2 (refining W2 (2 ∷ [])) (split cells (7 ∷ []) 0 (1 ∷ 7 ∷ []) (2 ∷ 6 ∷ []) ∷ []) []
     ∷ []
 
 pub worked : T (allHold table)
-unfolding table planRefusal some every sum elem all listed tabulate stored first reach needs closure offset number levelOf placeOn place between numbersInRange cornersInRange inRange ratio grown tooLarge lastLevel above below parent child isSet isCorner cornersTo times knotFrom knot beyond functionCount covers apart together supportedAt supported ancestor nearAt near absent active refined children cellFits isMesh isAdmissible labelOf labels isLabelled refusal3 refusal6 check freshCells freshFunctions openMesh reactivable eligible isTooDeep markRefusal underMarked underKept selected base tableOf smallest changed written refused settle newCells refusal outcome covered
+unfolding table planRefusal some every sum elem all listed tabulate stored first reach needs closure offset number levelOf placeOn place between numbersInRange cornersInRange inRange ratio grown tooLarge lastLevel above below parent child isSet isCorner cornersTo times knotFrom knot beyond functionCount covers apart together supportedAt supported ancestor commonAt nearAt near absent active refined children cellFits isMesh isAdmissible labelOf labels isLabelled refusal3 refusal6 check freshCells freshFunctions openMesh reactivable eligible isTooDeep markRefusal underMarked underKept selected base tableOf smallest changed written refused settle newCells refusal outcome covered
 worked = tt

@@ -13,7 +13,7 @@ use Rattle.hierarchy.specs.Hierarchy.{reach, needs, closure}
 use Rattle.grid.specs.declared.Plan.{Plan}
 use Rattle.grid.specs.Numbering.{offset, number, levelOf, placeOn, place}
 use Rattle.grid.specs.Knots.{isSet, isCorner, cornersTo, times, knotFrom, knot, beyond, functions as functionCount, covers, apart, together}
-use Rattle.grid.specs.Plan.{between, numbersInRange, cornersInRange, inRange, tooLarge, planRefusal, ratio, grown, above, below, parent, child, lastLevel, supportedAt, supported, ancestor, nearAt, near, functionTotal}
+use Rattle.grid.specs.Plan.{between, numbersInRange, cornersInRange, inRange, tooLarge, planRefusal, ratio, grown, above, below, parent, child, lastLevel, supportedAt, supported, ancestor, commonAt, nearAt, near, functionTotal}
 use Rattle.mesh.specs.declared.Count.{Count}
 use Rattle.mesh.specs.Mesh.{absent, active, refined, reactivable, children, cellFits, isMesh, isAdmissible, tableOf, labelOf, labels, isLabelled, refusal6, check, freshCells, freshFunctions, openMesh, tally, areaOf, count}
 use Rattle.mesh.specs.Mesh.{refusal3 as byteRefusal3}
@@ -122,9 +122,13 @@ begun p = found p (7 ∷ []) (0 ∷ []) (fresh p .functions)
 abbrev split0 : Plan → Found
 split0 p = found p (0x61f ∷ []) (1 ∷ []) (refining p (0 ∷ []) .functions)
 
--- P7: with 0, 1 and 3 refined, 5, 6, 11 and 12 are present, and 15, 16, 27 and 28
+-- P7: with 0 and 3 refined, 15, 16, 27 and 28 are present as well
 abbrev P7 : Found
-P7 = found W2 (0x1801_9e7f ∷ []) (0xb ∷ []) (refining W2 (0 ∷ 1 ∷ 3 ∷ []) .functions)
+P7 = found W2 (0x1801_861f ∷ []) (9 ∷ []) (refining W2 (0 ∷ 3 ∷ []) .functions)
+
+-- with 0, 1 and 4 refined, 5, 6, 11 and 12 are present, and 17, 18, 29 and 30. Cell 4 needs cell 1
+abbrev needing : Found
+needing = found W2 (0x6006_1e7f ∷ []) (0x13 ∷ []) (refining W2 (0 ∷ 1 ∷ 4 ∷ []) .functions)
 
 -- B with 0 and 15 refined: 16, 17, 24 and 25 are present, and 70, 71, 78 and 79, which are bits 6, 7, 14 and 15 of the second word
 abbrev corners : Found
@@ -160,9 +164,9 @@ table =
     ∷ checks (found W0 (0x8000_0000_0000_0007 ∷ []) (0 ∷ []) (fresh W0 .functions)) 4
     ∷ checks (found W0 (7 ∷ []) (0x8000_0000_0000_0000 ∷ []) (fresh W0 .functions)) 4
     ∷ checks (found W0 (0x8000_0000_0000_0007 ∷ []) (0x8000_0000_0000_0000 ∷ []) (fresh W0 .functions)) 4
-    -- then what check says of the bytes: cell 1 absent; 0 and 3 refined, 1 active; a function's byte
+    -- then what check says of the bytes: cell 1 absent; 0 and 4 refined, 1 active; a function's byte
     ∷ checks (found W0 (5 ∷ []) (0 ∷ []) (fresh W0 .functions)) 4
-    ∷ checks (found W2 (0x1801_861f ∷ []) (9 ∷ []) (fresh W0 .functions)) 5
+    ∷ checks (found W2 (0x6006_061f ∷ []) (0x11 ∷ []) (fresh W0 .functions)) 5
     ∷ checks (found W0 (7 ∷ []) (0 ∷ []) (set (fresh W0 .functions) 0 2)) 6
     ∷ counts (begun W0) 3 0 8 48
     ∷ counts (split0 W0) 6 1 12 48
@@ -172,11 +176,13 @@ table =
     ∷ onesOf (begun W0) 3 0
     ∷ onesOf (split0 W0) 6 1
     ∷ onesOf (found S (0xcf ∷ 6 ∷ []) (1 ∷ 4 ∷ []) []) 6 2
-    -- P1; P7's second split, P8 and P10; P3 and P6
+    -- P1; P7's second split, and 3 joined again; a marked cell that another needs stays refined, and not where that one is marked too; P3
+    -- and P6
     ∷ changes refine cells (begun W0) (0 ∷ []) 2 3 (0 ∷ []) (0 ∷ 4 ∷ []) (0x61f ∷ []) (1 ∷ []) (0 ∷ 4 ∷ [])
-    ∷ changes refine cells (split0 W2) (3 ∷ []) 3 4 (1 ∷ 3 ∷ []) (1 ∷ 5 ∷ 8 ∷ []) (0x1801_9e7f ∷ []) (0xb ∷ []) (0 ∷ 1 ∷ 4 ∷ 5 ∷ 8 ∷ [])
-    ∷ changes coarsen cells P7 (1 ∷ []) 0 0 [] [] (0x1801_9e7f ∷ []) (0xb ∷ []) (0 ∷ 1 ∷ 4 ∷ 5 ∷ 8 ∷ [])
-    ∷ changes coarsen cells P7 (1 ∷ 3 ∷ []) 2 3 (1 ∷ 3 ∷ []) (1 ∷ 5 ∷ 8 ∷ []) (0x61f ∷ []) (1 ∷ []) (0 ∷ 4 ∷ [])
+    ∷ changes refine cells (split0 W2) (3 ∷ []) 3 4 (3 ∷ []) (8 ∷ []) (0x1801_861f ∷ []) (9 ∷ []) (0 ∷ 4 ∷ 8 ∷ [])
+    ∷ changes coarsen cells P7 (3 ∷ []) 2 3 (3 ∷ []) (8 ∷ []) (0x61f ∷ []) (1 ∷ []) (0 ∷ 4 ∷ [])
+    ∷ changes coarsen cells needing (1 ∷ []) 0 0 [] [] (0x6006_1e7f ∷ []) (0x13 ∷ []) (0 ∷ 1 ∷ 4 ∷ 5 ∷ [])
+    ∷ changes coarsen cells needing (1 ∷ 4 ∷ []) 2 3 (1 ∷ 4 ∷ []) (1 ∷ 5 ∷ []) (0x61f ∷ []) (1 ∷ []) (0 ∷ 4 ∷ [])
     ∷ changes refine functions (begun W0) (1 ∷ []) 2 4 (0 ∷ 1 ∷ []) (0 ∷ 1 ∷ 4 ∷ 5 ∷ []) (0x1e7f ∷ []) (3 ∷ []) (0 ∷ 1 ∷ 4 ∷ 5 ∷ [])
     ∷ changes coarsen functions (found W0 (0x1e7f ∷ []) (3 ∷ []) (refining W0 (0 ∷ 1 ∷ []) .functions)) (0 ∷ 1 ∷ 4 ∷ 5 ∷ []) 2 4 (0 ∷ 1 ∷ []) (0 ∷ 1 ∷ 4 ∷ 5 ∷ []) (7 ∷ []) (0 ∷ []) []
     -- planes of two words
@@ -189,6 +195,10 @@ table =
     ∷ refuses coarsen cells (found W0 (7 ∷ []) (0 ∷ []) (set (fresh W0 .functions) 0 2)) (63 ∷ []) 0 0 6
     ∷ refuses refine cells (begun W0) (0 ∷ 63 ∷ []) 2 3 7
     ∷ refuses refine cells (begun W0) (0 ∷ 3 ∷ []) 2 3 8
+    -- P8, P9 and P10
+    ∷ refuses coarsen cells P7 (1 ∷ []) 2 3 8
+    ∷ refuses coarsen cells P7 (0 ∷ []) 2 3 8
+    ∷ refuses coarsen cells P7 (1 ∷ 3 ∷ []) 2 3 8
     ∷ refuses refine functions (found (one 1 1) (1 ∷ []) (0 ∷ []) (replicate 4 1)) (0 ∷ []) 1 1 9
     ∷ refuses refine cells (begun W0) (0 ∷ []) 0 3 10
     ∷ refuses refine cells (begun W0) (0 ∷ []) 1 1 11
@@ -206,5 +216,5 @@ table =
     ∷ []
 
 pub worked : T (allHold table)
-unfolding table some every sum everyFrom elem all listed tabulate stored first reach needs closure offset number levelOf placeOn place between numbersInRange cornersInRange inRange tooLarge planRefusal ratio grown lastLevel above below parent child isSet isCorner cornersTo times knotFrom knot beyond functionCount covers apart together supportedAt supported ancestor nearAt near absent active refined reactivable children cellFits isMesh isAdmissible tableOf labelOf labels isLabelled byteRefusal3 refusal6 check freshCells freshFunctions openMesh tally areaOf count eligible isTooDeep markRefusal underMarked underKept selected base smallest changed written refused settle newCells refusal outcome bit inPlane wordsFor byteOf bytesOf wordFrom wordAt planeOf isPresent presentOf refinedOf smallAt areSmall noSpare within inOrder activeOnes onesAt planesLength sized sizeRefusal refusal3 orderRefusal refusal4 openPlanes checkPlanes countPlanes held refusedPlanes onPlanes cellsRefusal packRefusal packed unpackRefusal unpacked ones onesIn
+unfolding table some every sum everyFrom elem all listed tabulate stored first reach needs closure offset number levelOf placeOn place between numbersInRange cornersInRange inRange tooLarge planRefusal ratio grown lastLevel above below parent child isSet isCorner cornersTo times knotFrom knot beyond functionCount covers apart together supportedAt supported ancestor commonAt nearAt near absent active refined reactivable children cellFits isMesh isAdmissible tableOf labelOf labels isLabelled byteRefusal3 refusal6 check freshCells freshFunctions openMesh tally areaOf count eligible isTooDeep markRefusal underMarked underKept selected base smallest changed written refused settle newCells refusal outcome bit inPlane wordsFor byteOf bytesOf wordFrom wordAt planeOf isPresent presentOf refinedOf smallAt areSmall noSpare within inOrder activeOnes onesAt planesLength sized sizeRefusal refusal3 orderRefusal refusal4 openPlanes checkPlanes countPlanes held refusedPlanes onPlanes cellsRefusal packRefusal packed unpackRefusal unpacked ones onesIn
 worked = tt

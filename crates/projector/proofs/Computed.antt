@@ -13,7 +13,7 @@ use Rattle.exact.specs.Dyadic.{over, dyadic}
 use Rattle.exact.specs.Sums.{sumℤ}
 use Rattle.grid.specs.Numbering.{offset, number, levelOf, placeOn, place}
 use Rattle.grid.specs.Knots.{isSet, isCorner, cornersTo, times, knotFrom, knot, beyond, functions, covers, together}
-use Rattle.grid.specs.Plan.{between, numbersInRange, cornersInRange, inRange, tooLarge, ratio, grown, above, below, parent, child, lastLevel, supportedAt, supported, ancestor, nearAt, near, planOf}
+use Rattle.grid.specs.Plan.{between, numbersInRange, cornersInRange, inRange, tooLarge, ratio, grown, above, below, parent, child, lastLevel, supportedAt, supported, ancestor, commonAt, nearAt, near, planOf}
 use Rattle.mesh.specs.Mesh.{absent, active, refined, children, cellFits, isMesh, isAdmissible, tableOf, labelOf, labels, isLabelled, refusal3, refusal6, check}
 use Rattle.splines.specs.Values.{rise, fall, box, basis, scale, cellOf, value, valueIn, valueOn}
 use Rattle.heights.specs.Heights.{eighths, valueAt, productOf, heightSum, inexact, low, allLow, heightsRefusal, lowOn}
@@ -87,7 +87,7 @@ pub afterP3 :
     ∷ n4 ∷ n2 ∷ m0·5 ∷ n6 ∷ n2 ∷ n1·75 ∷ n4 ∷ n4 ∷ n0 ∷ n6 ∷ n4 ∷ n0
     ∷ n6 ∷ n2 ∷ n1·75 ∷ n8 ∷ n2 ∷ n3·5 ∷ n6 ∷ n4 ∷ n0 ∷ n8 ∷ n4 ∷ n0
     ∷ lent ∷ lent ∷ []
-unfolding odd span climb size toBits heightsOf some every elem tabulate listed flatMap over dyadic sumℤ offset number levelOf placeOn place between numbersInRange cornersInRange inRange tooLarge ratio grown above below parent child lastLevel covers together supportedAt supported ancestor nearAt near absent active refined children cellFits isMesh isAdmissible tableOf labelOf labels isLabelled refusal3 refusal6 check isSet isCorner cornersTo times knotFrom knot beyond functions rise fall box basis scale cellOf value valueIn valueOn eighths valueAt productOf heightSum inexact low allLow heightsRefusal lowOn lineAt cornerAt cornerOf cornersOf corners planRefusal meshRefusal refusal refused filled project
+unfolding odd span climb size toBits heightsOf some every elem tabulate listed flatMap over dyadic sumℤ offset number levelOf placeOn place between numbersInRange cornersInRange inRange tooLarge ratio grown above below parent child lastLevel covers together supportedAt supported ancestor commonAt nearAt near absent active refined children cellFits isMesh isAdmissible tableOf labelOf labels isLabelled refusal3 refusal6 check isSet isCorner cornersTo times knotFrom knot beyond functions rise fall box basis scale cellOf value valueIn valueOn eighths valueAt productOf heightSum inexact low allLow heightsRefusal lowOn lineAt cornerAt cornerOf cornersOf corners planRefusal meshRefusal refusal refused filled project
 afterP3 = refl
 
 -- ---- the answers
@@ -117,7 +117,7 @@ pub memory :
     ∷ said 3 0
     ∷ said 3 0
     ∷ []
-unfolding odd span climb size toBits heightsOf some every elem tabulate listed flatMap over dyadic sumℤ offset number levelOf placeOn place between numbersInRange cornersInRange inRange tooLarge ratio grown above below parent child lastLevel covers together supportedAt supported ancestor nearAt near absent active refined children cellFits isMesh isAdmissible tableOf labelOf labels isLabelled refusal3 refusal6 check isSet isCorner cornersTo times knotFrom knot beyond functions rise fall box basis scale cellOf value valueIn valueOn eighths valueAt productOf heightSum inexact low allLow heightsRefusal lowOn lineAt cornerAt cornerOf cornersOf corners planRefusal meshRefusal refusal refused filled project
+unfolding odd span climb size toBits heightsOf some every elem tabulate listed flatMap over dyadic sumℤ offset number levelOf placeOn place between numbersInRange cornersInRange inRange tooLarge ratio grown above below parent child lastLevel covers together supportedAt supported ancestor commonAt nearAt near absent active refined children cellFits isMesh isAdmissible tableOf labelOf labels isLabelled refusal3 refusal6 check isSet isCorner cornersTo times knotFrom knot beyond functions rise fall box basis scale cellOf value valueIn valueOn eighths valueAt productOf heightSum inexact low allLow heightsRefusal lowOn lineAt cornerAt cornerOf cornersOf corners planRefusal meshRefusal refusal refused filled project
 memory = refl
 
 -- one cell of two levels has 13 functions with degrees 1 and 1
@@ -142,10 +142,10 @@ pub answers :
     ∷ said 14 0
     ∷ said 4 0
     ∷ []
-unfolding odd span climb size toBits heightsOf some every elem tabulate listed flatMap over dyadic sumℤ offset number levelOf placeOn place between numbersInRange cornersInRange inRange tooLarge ratio grown above below parent child lastLevel covers together supportedAt supported ancestor nearAt near absent active refined children cellFits isMesh isAdmissible tableOf labelOf labels isLabelled refusal3 refusal6 check isSet isCorner cornersTo times knotFrom knot beyond functions rise fall box basis scale cellOf value valueIn valueOn eighths valueAt productOf heightSum inexact low allLow heightsRefusal lowOn lineAt cornerAt cornerOf cornersOf corners planRefusal meshRefusal refusal refused filled project
+unfolding odd span climb size toBits heightsOf some every elem tabulate listed flatMap over dyadic sumℤ offset number levelOf placeOn place between numbersInRange cornersInRange inRange tooLarge ratio grown above below parent child lastLevel covers together supportedAt supported ancestor commonAt nearAt near absent active refined children cellFits isMesh isAdmissible tableOf labelOf labels isLabelled refusal3 refusal6 check isSet isCorner cornersTo times knotFrom knot beyond functions rise fall box basis scale cellOf value valueIn valueOn eighths valueAt productOf heightSum inexact low allLow heightsRefusal lowOn lineAt cornerAt cornerOf cornersOf corners planRefusal meshRefusal refusal refused filled project
 answers = refl
 
 -- with a refusal the words stay, one word short too
 pub kept : projectTo (1 ∷ 1 ∷ 1 ∷ 1 ∷ 1 ∷ 0 ∷ []) [] 4 (only 0 (pos 3)) 11 .out ≡ replicate 11 lent
-unfolding odd span climb size toBits heightsOf some every elem tabulate listed flatMap over dyadic sumℤ offset number levelOf placeOn place between numbersInRange cornersInRange inRange tooLarge ratio grown above below parent child lastLevel covers together supportedAt supported ancestor nearAt near absent active refined children cellFits isMesh isAdmissible tableOf labelOf labels isLabelled refusal3 refusal6 check isSet isCorner cornersTo times knotFrom knot beyond functions rise fall box basis scale cellOf value valueIn valueOn eighths valueAt productOf heightSum inexact low allLow heightsRefusal lowOn lineAt cornerAt cornerOf cornersOf corners planRefusal meshRefusal refusal refused filled project
+unfolding odd span climb size toBits heightsOf some every elem tabulate listed flatMap over dyadic sumℤ offset number levelOf placeOn place between numbersInRange cornersInRange inRange tooLarge ratio grown above below parent child lastLevel covers together supportedAt supported ancestor commonAt nearAt near absent active refined children cellFits isMesh isAdmissible tableOf labelOf labels isLabelled refusal3 refusal6 check isSet isCorner cornersTo times knotFrom knot beyond functions rise fall box basis scale cellOf value valueIn valueOn eighths valueAt productOf heightSum inexact low allLow heightsRefusal lowOn lineAt cornerAt cornerOf cornersOf corners planRefusal meshRefusal refusal refused filled project
 kept = refl

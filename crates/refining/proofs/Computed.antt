@@ -15,7 +15,7 @@ use Rattle.exact.specs.Sums.{sumℤ}
 use Rattle.grid.specs.declared.Plan.{Plan}
 use Rattle.grid.specs.Numbering.{offset, number, levelOf, placeOn, place}
 use Rattle.grid.specs.Knots.{isSet, isCorner, cornersTo, times, knotFrom, knot, beyond, functions as functionCount, covers, apart, together}
-use Rattle.grid.specs.Plan.{between, numbersInRange, cornersInRange, inRange, tooLarge, ratio, grown, above, below, parent, child, lastLevel, supportedAt, supported, ancestor, nearAt, near, planOf, functionTotal}
+use Rattle.grid.specs.Plan.{between, numbersInRange, cornersInRange, inRange, tooLarge, ratio, grown, above, below, parent, child, lastLevel, supportedAt, supported, ancestor, commonAt, nearAt, near, planOf, functionTotal}
 use Rattle.mesh.specs.Mesh.{absent, active, refined, reactivable, children, cellFits, isMesh, isAdmissible, tableOf, labelOf, labels, isLabelled, refusal3, refusal6, check}
 use Rattle.outcomes.specs.Calls.{coarsen, cells as byCells, functions as byFunctions, underKept, eligible, isTooDeep, markRefusal, underMarked, selected, base, smallest, changed, written, refused, settle, newCells, refusal, outcome}
 use Rattle.outcomes.specs.Runs.{Tables, LentLists, Entry, result}
@@ -63,14 +63,14 @@ atLimit h = refineWith (2 ∷ 1 ∷ 2 ∷ 1 ∷ 1 ∷ 0 ∷ []) (0 ∷ []) (two 
 pub accepted :
     tables (atLimit (pos 1048568) (1 ∷ []) 2 5)
     ≡ (0 ∷ 1 ∷ 4 ∷ []) ∷ (0 ∷ 1 ∷ []) ∷ (0 ∷ 1 ∷ 2 ∷ 3 ∷ 4 ∷ 5 ∷ []) ∷ (1 ∷ 77 ∷ []) ∷ (1 ∷ 2 ∷ 4 ∷ 5 ∷ 77 ∷ []) ∷ []
-unfolding some every elem listed tabulate stored first reach needs closure offset number levelOf placeOn place between numbersInRange cornersInRange inRange ratio grown tooLarge lastLevel above below parent child isSet isCorner cornersTo times knotFrom knot beyond functionCount covers apart together supportedAt supported ancestor nearAt near absent active refined children cellFits isMesh isAdmissible tableOf labelOf labels isLabelled refusal3 refusal6 check eligible isTooDeep markRefusal underMarked selected base smallest changed written refused settle newCells refusal outcome rise fall box basis scale cellOf inexact low lowOn allLow heightsRefusal coefficient quarters sixteenths heightsOf passOn carried onlyActive carry tablesRefusal refusedWith carryInto outcomeWithHeights
+unfolding some every elem listed tabulate stored first reach needs closure offset number levelOf placeOn place between numbersInRange cornersInRange inRange ratio grown tooLarge lastLevel above below parent child isSet isCorner cornersTo times knotFrom knot beyond functionCount covers apart together supportedAt supported ancestor commonAt nearAt near absent active refined children cellFits isMesh isAdmissible tableOf labelOf labels isLabelled refusal3 refusal6 check eligible isTooDeep markRefusal underMarked selected base smallest changed written refused settle newCells refusal outcome rise fall box basis scale cellOf inexact low lowOn allLow heightsRefusal coefficient quarters sixteenths heightsOf passOn carried onlyActive carry tablesRefusal refusedWith carryInto outcomeWithHeights
 accepted = refl
 
 -- a sixteenth of a millimetre above the limit: nothing is changed
 pub kept :
     tables (atLimit (pos 1048569) (1 ∷ []) 2 5)
     ≡ (17 ∷ 0 ∷ 0 ∷ []) ∷ (0 ∷ []) ∷ (0 ∷ 3 ∷ []) ∷ (77 ∷ 77 ∷ []) ∷ (77 ∷ 77 ∷ 77 ∷ 77 ∷ 77 ∷ []) ∷ []
-unfolding some every elem listed tabulate stored first reach needs closure offset number levelOf placeOn place between numbersInRange cornersInRange inRange ratio grown tooLarge lastLevel above below parent child isSet isCorner cornersTo times knotFrom knot beyond functionCount covers apart together supportedAt supported ancestor nearAt near absent active refined children cellFits isMesh isAdmissible tableOf labelOf labels isLabelled refusal3 refusal6 check eligible isTooDeep markRefusal underMarked selected base smallest changed written refused settle newCells refusal outcome rise fall box basis scale cellOf inexact low lowOn allLow heightsRefusal coefficient quarters sixteenths heightsOf passOn carried onlyActive carry tablesRefusal refusedWith carryInto outcomeWithHeights
+unfolding some every elem listed tabulate stored first reach needs closure offset number levelOf placeOn place between numbersInRange cornersInRange inRange ratio grown tooLarge lastLevel above below parent child isSet isCorner cornersTo times knotFrom knot beyond functionCount covers apart together supportedAt supported ancestor commonAt nearAt near absent active refined children cellFits isMesh isAdmissible tableOf labelOf labels isLabelled refusal3 refusal6 check eligible isTooDeep markRefusal underMarked selected base smallest changed written refused settle newCells refusal outcome rise fall box basis scale cellOf inexact low lowOn allLow heightsRefusal coefficient quarters sixteenths heightsOf passOn carried onlyActive carry tablesRefusal refusedWith carryInto outcomeWithHeights
 kept = refl
 
 -- degrees 2 and 1, three levels, cell 0 is refined already; cell 1 and four cells of level 1 are marked. Function 9 of level 1 becomes
@@ -89,7 +89,7 @@ pub worked :
     ∷ (pos 1 ∷ pos 1048569 ∷ pos 0 ∷ [])
     ∷ (pos 0 ∷ pos 0 ∷ pos 98304 ∷ pos 32768 ∷ pos 8912896 ∷ pos 13369344 ∷ pos 4456448 ∷ [])
     ∷ []
-unfolding some every elem listed tabulate stored first reach needs closure offset number levelOf placeOn place between numbersInRange cornersInRange inRange ratio grown tooLarge lastLevel above below parent child isSet isCorner cornersTo times knotFrom knot beyond functionCount covers apart together supportedAt supported ancestor nearAt near absent active refined children cellFits isMesh isAdmissible tableOf labelOf labels isLabelled refusal3 refusal6 check eligible isTooDeep markRefusal underMarked selected base smallest changed written refused settle newCells refusal outcome rise fall box basis scale cellOf inexact low lowOn allLow heightsRefusal coefficient quarters sixteenths heightsOf passOn carried onlyActive carry tablesRefusal refusedWith carryInto outcomeWithHeights some-of
+unfolding some every elem listed tabulate stored first reach needs closure offset number levelOf placeOn place between numbersInRange cornersInRange inRange ratio grown tooLarge lastLevel above below parent child isSet isCorner cornersTo times knotFrom knot beyond functionCount covers apart together supportedAt supported ancestor commonAt nearAt near absent active refined children cellFits isMesh isAdmissible tableOf labelOf labels isLabelled refusal3 refusal6 check eligible isTooDeep markRefusal underMarked selected base smallest changed written refused settle newCells refusal outcome rise fall box basis scale cellOf inexact low lowOn allLow heightsRefusal coefficient quarters sixteenths heightsOf passOn carried onlyActive carry tablesRefusal refusedWith carryInto outcomeWithHeights some-of
 worked = refl
 
 -- which refusal is given: 10 and 11 before 17; 15 before the marks; 14 and 3 before 15; one of check before all of them
@@ -113,7 +113,7 @@ pub order :
     ∷ numberOf (refineCellsWithHeights (planOf (1 ∷ 1 ∷ 1 ∷ 1 ∷ 1 ∷ 0 ∷ [])) (1 ∷ []) (2 ∷ 1 ∷ 1 ∷ 1 ∷ []) (heightsOf 4 (λ f. pos 65537)) [] [] [])
     ∷ []
     ≡ 17 ∷ 11 ∷ 10 ∷ 7 ∷ 15 ∷ 14 ∷ 3 ∷ 6 ∷ []
-unfolding some every elem listed tabulate stored first reach needs closure offset number levelOf placeOn place between numbersInRange cornersInRange inRange ratio grown tooLarge lastLevel above below parent child isSet isCorner cornersTo times knotFrom knot beyond functionCount covers apart together supportedAt supported ancestor nearAt near absent active refined children cellFits isMesh isAdmissible tableOf labelOf labels isLabelled refusal3 refusal6 check eligible isTooDeep markRefusal underMarked selected base smallest changed written refused settle newCells refusal outcome rise fall box basis scale cellOf inexact low lowOn allLow heightsRefusal coefficient quarters sixteenths heightsOf passOn carried onlyActive carry tablesRefusal refusedWith carryInto outcomeWithHeights
+unfolding some every elem listed tabulate stored first reach needs closure offset number levelOf placeOn place between numbersInRange cornersInRange inRange ratio grown tooLarge lastLevel above below parent child isSet isCorner cornersTo times knotFrom knot beyond functionCount covers apart together supportedAt supported ancestor commonAt nearAt near absent active refined children cellFits isMesh isAdmissible tableOf labelOf labels isLabelled refusal3 refusal6 check eligible isTooDeep markRefusal underMarked selected base smallest changed written refused settle newCells refusal outcome rise fall box basis scale cellOf inexact low lowOn allLow heightsRefusal coefficient quarters sixteenths heightsOf passOn carried onlyActive carry tablesRefusal refusedWith carryInto outcomeWithHeights
 order = refl
 
 -- degrees 1 and 1, three levels: function 7 of level 1, 65,536 mm, gets half as much again from function 1 and becomes deactivated too; it
@@ -123,7 +123,7 @@ pub became :
     ∷ numberOf (refineWith (2 ∷ 1 ∷ 3 ∷ 1 ∷ 1 ∷ 0 ∷ []) (0 ∷ []) (two 1 (pos 65536) 7 (pos 524288)) (1 ∷ 2 ∷ 3 ∷ 6 ∷ 7 ∷ []) 42 66)
     ∷ []
     ≡ 17 ∷ 0 ∷ []
-unfolding some every elem listed tabulate stored first reach needs closure offset number levelOf placeOn place between numbersInRange cornersInRange inRange ratio grown tooLarge lastLevel above below parent child isSet isCorner cornersTo times knotFrom knot beyond functionCount covers apart together supportedAt supported ancestor nearAt near absent active refined children cellFits isMesh isAdmissible tableOf labelOf labels isLabelled refusal3 refusal6 check eligible isTooDeep markRefusal underMarked selected base smallest changed written refused settle newCells refusal outcome rise fall box basis scale cellOf inexact low lowOn allLow heightsRefusal coefficient quarters sixteenths heightsOf passOn carried onlyActive carry tablesRefusal refusedWith carryInto outcomeWithHeights
+unfolding some every elem listed tabulate stored first reach needs closure offset number levelOf placeOn place between numbersInRange cornersInRange inRange ratio grown tooLarge lastLevel above below parent child isSet isCorner cornersTo times knotFrom knot beyond functionCount covers apart together supportedAt supported ancestor commonAt nearAt near absent active refined children cellFits isMesh isAdmissible tableOf labelOf labels isLabelled refusal3 refusal6 check eligible isTooDeep markRefusal underMarked selected base smallest changed written refused settle newCells refusal outcome rise fall box basis scale cellOf inexact low lowOn allLow heightsRefusal coefficient quarters sixteenths heightsOf passOn carried onlyActive carry tablesRefusal refusedWith carryInto outcomeWithHeights
 became = refl
 
 -- ---- the same height, to the bit: degrees 2 and 1, three columns with a corner before the second, all of which become refined. Functions 1 and
@@ -148,7 +148,7 @@ pub stays :
     ≡ At (ofBits binary64 0x403a_3400_0000_0000)
     ∷ At (ofBits binary64 0x403a_3400_0000_0000)
     ∷ []
-unfolding some every elem listed tabulate stored first reach needs closure offset number levelOf placeOn place between numbersInRange cornersInRange inRange ratio grown tooLarge lastLevel above below parent child isSet isCorner cornersTo times knotFrom knot beyond functionCount covers apart together supportedAt supported ancestor nearAt near absent active refined children cellFits isMesh isAdmissible tableOf labelOf labels isLabelled refusal3 refusal6 check eligible isTooDeep markRefusal underMarked selected base smallest changed written refused settle newCells refusal outcome rise fall box basis scale cellOf inexact low lowOn allLow heightsRefusal coefficient quarters sixteenths heightsOf passOn carried onlyActive carry tablesRefusal refusedWith carryInto outcomeWithHeights value valueIn valueOn eighths onMesh valueAt productOf heightSum pointRefusal answer sumℤ over dyadic odd ofBits
+unfolding some every elem listed tabulate stored first reach needs closure offset number levelOf placeOn place between numbersInRange cornersInRange inRange ratio grown tooLarge lastLevel above below parent child isSet isCorner cornersTo times knotFrom knot beyond functionCount covers apart together supportedAt supported ancestor commonAt nearAt near absent active refined children cellFits isMesh isAdmissible tableOf labelOf labels isLabelled refusal3 refusal6 check eligible isTooDeep markRefusal underMarked selected base smallest changed written refused settle newCells refusal outcome rise fall box basis scale cellOf inexact low lowOn allLow heightsRefusal coefficient quarters sixteenths heightsOf passOn carried onlyActive carry tablesRefusal refusedWith carryInto outcomeWithHeights value valueIn valueOn eighths onMesh valueAt productOf heightSum pointRefusal answer sumℤ over dyadic odd ofBits
 stays = refl
 
 -- ---- a season: a refinement with heights, one that is refused with 15, and a coarsening without heights
@@ -182,5 +182,5 @@ pub seasons :
     ∷ ((15 ∷ []) ∷ [] ∷ [] ∷ [])
     ∷ ((0 ∷ []) ∷ (0 ∷ []) ∷ (0 ∷ 3 ∷ []) ∷ [])
     ∷ []
-unfolding some every elem listed tabulate stored first reach needs closure offset number levelOf placeOn place between numbersInRange cornersInRange inRange ratio grown tooLarge lastLevel above below parent child isSet isCorner cornersTo times knotFrom knot beyond functionCount covers apart together supportedAt supported ancestor nearAt near absent active refined children cellFits isMesh isAdmissible tableOf labelOf labels isLabelled refusal3 refusal6 check eligible isTooDeep markRefusal underMarked selected base smallest changed written refused settle newCells refusal outcome rise fall box basis scale cellOf inexact low lowOn allLow heightsRefusal coefficient quarters sixteenths heightsOf passOn carried onlyActive carry tablesRefusal refusedWith carryInto outcomeWithHeights reactivable underKept result directionOf resultOf afterIt entryOf runs.finalOf runs.logOf keptOf
+unfolding some every elem listed tabulate stored first reach needs closure offset number levelOf placeOn place between numbersInRange cornersInRange inRange ratio grown tooLarge lastLevel above below parent child isSet isCorner cornersTo times knotFrom knot beyond functionCount covers apart together supportedAt supported ancestor commonAt nearAt near absent active refined children cellFits isMesh isAdmissible tableOf labelOf labels isLabelled refusal3 refusal6 check eligible isTooDeep markRefusal underMarked selected base smallest changed written refused settle newCells refusal outcome rise fall box basis scale cellOf inexact low lowOn allLow heightsRefusal coefficient quarters sixteenths heightsOf passOn carried onlyActive carry tablesRefusal refusedWith carryInto outcomeWithHeights reactivable underKept result directionOf resultOf afterIt entryOf runs.finalOf runs.logOf keptOf
 seasons = refl

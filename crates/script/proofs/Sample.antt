@@ -7,7 +7,7 @@ use Rattle.facts.specs.Bounded.{some, every, sum}
 use Rattle.facts.specs.Numbers.{elem, all, listed, tabulate, stored, first}
 use Rattle.hierarchy.specs.Hierarchy.{reach, needs, closure}
 use Rattle.grid.specs.Numbering.{offset, number, levelOf, placeOn, place}
-use Rattle.grid.specs.Plan.{between, numbersInRange, cornersInRange, inRange, ratio, grown, tooLarge, lastLevel, above, below, parent, child, supportedAt, supported, ancestor, nearAt, near}
+use Rattle.grid.specs.Plan.{between, numbersInRange, cornersInRange, inRange, ratio, grown, tooLarge, lastLevel, above, below, parent, child, supportedAt, supported, ancestor, commonAt, nearAt, near}
 use Rattle.grid.specs.Knots.{isSet, isCorner, cornersTo, times, knotFrom, knot, beyond, functions, covers, apart, together}
 use Rattle.mesh.specs.Mesh.{absent, active, refined, children, cellFits, isMesh, isAdmissible, reactivable, tableOf, labelOf, labels, isLabelled, refusal3, refusal6, check, freshCells, freshFunctions, openMesh}
 use Rattle.outcomes.specs.Calls.{eligible, isTooDeep, markRefusal, underMarked, underKept, selected, base, smallest, changed, written, refused, settle, newCells, refusal, outcome}
@@ -29,10 +29,10 @@ allHold (r ∷ rs) = let rest = allHold rs in holds r && rest
 
 pub table : List Row
 table =
-    -- document 01's sample
-    prints "wall 3 1 3 1 1 2\nsplit 0\nsplit 3\njoin 1\n" "0;;\n0;0;0 4\n0;1 3;1 5 8\n0;;\n"
+    -- document 01's sample, as Req 12 has it
+    prints "wall 3 1 3 1 1 2\nsplit 0\nsplit 3\njoin 1\n" "0;;\n0;0;0 4\n0;3;8\n8;;\n"
     -- the README's, examples/session.txt: the last line takes the third back
-    ∷ prints "wall 3 1 3 1 1 2\nsplit 0\nsplit 3\njoin 1\njoin 1 3\n" "0;;\n0;0;0 4\n0;1 3;1 5 8\n0;;\n0;1 3;1 5 8\n"
+    ∷ prints "wall 3 1 3 1 1 2\nsplit 0\nsplit 4\njoin 1\njoin 1 4\n" "0;;\n0;0;0 4\n0;1 4;1 5\n0;;\n0;1 4;1 5\n"
     -- no input, and a line that cannot be read; a mark line before any wall
     ∷ prints "" ""
     ∷ prints "\nsplit 0" "?\n?\n"
@@ -49,5 +49,5 @@ table =
     ∷ []
 
 pub sample : T (allHold table)
-unfolding table opening calling stepOf repliesFrom replies joined session parts isDigit allDigits valueAfter isNumber allNumbers same kindOf meaningOf lastDigits digits spaced items answer some every sum elem all listed tabulate stored first reach needs closure offset number levelOf placeOn place between numbersInRange cornersInRange inRange ratio grown tooLarge lastLevel above below parent child isSet isCorner cornersTo times knotFrom knot beyond functions covers apart together supportedAt supported ancestor nearAt near absent active refined children cellFits isMesh isAdmissible labelOf labels isLabelled refusal3 refusal6 check freshCells freshFunctions openMesh reactivable eligible isTooDeep markRefusal underMarked underKept selected base tableOf smallest changed written refused settle newCells refusal outcome
+unfolding table opening calling stepOf repliesFrom replies joined session parts isDigit allDigits valueAfter isNumber allNumbers same kindOf meaningOf lastDigits digits spaced items answer some every sum elem all listed tabulate stored first reach needs closure offset number levelOf placeOn place between numbersInRange cornersInRange inRange ratio grown tooLarge lastLevel above below parent child isSet isCorner cornersTo times knotFrom knot beyond functions covers apart together supportedAt supported ancestor commonAt nearAt near absent active refined children cellFits isMesh isAdmissible labelOf labels isLabelled refusal3 refusal6 check freshCells freshFunctions openMesh reactivable eligible isTooDeep markRefusal underMarked underKept selected base tableOf smallest changed written refused settle newCells refusal outcome
 sample = tt

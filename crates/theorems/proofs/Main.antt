@@ -27,7 +27,8 @@ use Rattle.cost.specs.Cost.{mostOf}
 use Rattle.cost.proofs.Cost.{call-cost}
 use Rattle.basis.specs.Basis.{Published}
 use Rattle.basis.proofs.Published.{checked-published}
-use Rattle.basis.proofs.FewLevels.{few-levels}
+use Rattle.mesh.proofs.HAdmissible.{still-checked}
+use Rattle.basis.proofs.Presence.{present}
 use Rattle.theorems.specs.Main.{once, Main}
 use Rattle.theorems.proofs.Repeats.{call-repeats, call-reordered}
 
@@ -73,7 +74,8 @@ main = record {
   printedCall = call-as-printed;
   area = count-area;
   opened = opened-checked;
-  fewLevels = λ p cs fs checked classed. few-levels p cs fs checked (omega (arith, classed));
+  presentLevels = λ p cs fs checked classed. present p cs fs checked (omega (arith, classed));
+  oldPass = still-checked;
   byKnots = λ p t. plan-by-knots p (in-range p t);
   smoothPlan = λ p k. (smooth (acrossAt p k), smooth (upAt p k));
   innerCorners = range-inner;

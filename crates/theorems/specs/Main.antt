@@ -13,6 +13,7 @@ use Rattle.grid.specs.declared.Plan.{Plan}
 use Rattle.grid.specs.Plan.{numbersInRange, inRange, acrossAt, upAt, functionTotal, cellLevel}
 use Rattle.grid.specs.Claims.{ByKnots, Smooth, OnlyInner}
 use Rattle.mesh.specs.Mesh.{check, openMesh, count}
+use Rattle.mesh.specs.HAdmissible.{hCheck}
 use Rattle.outcomes.specs.Calls.{Direction, refine, By, cells, functions, Outcome, refused, newCells, refusal, outcome}
 use Rattle.outcomes.specs.Steps.{relabel, inSteps, relabelledBy}
 use Rattle.outcomes.specs.Printed.{AsPrinted}
@@ -20,7 +21,7 @@ use Rattle.outcomes.specs.Demands.{Accepted, Refused}
 use Rattle.outcomes.specs.Runs.{Tables, LentLists, Call, log, backwards, LongEnough, Undone, covered, RefinesByFunctions}
 use Rattle.cost.specs.Cost.{mostOf, Cost}
 use Rattle.basis.specs.Basis.{Published}
-use Rattle.basis.specs.Levels.{FewLevels}
+use Rattle.basis.specs.Levels.{Present}
 
 -- ---- marks that repeat
 
@@ -87,9 +88,11 @@ pub record Main : Type 0 where
   -- Demand 3 begins with a "wall that check passes": one that was opened is such a wall, for every plan that open does not refuse
   pub opened : (p : Plan) (cs fs : List ℕ) → openMesh p cs fs .number ≡ 0
       → check p (openMesh p cs fs .cells) (openMesh p cs fs .functions) ≡ 0
-  -- Document 02, Req 02: "For a graded wall, show that the active functions over an active cell of level k all have levels from k-m+1
-  -- to k". Graded: check passes, with a class other than 0; so it is after every accepted call (`acceptedCall`, `.checked`)
-  pub fewLevels : (p : Plan) (cs fs : List ℕ) → check p cs fs ≡ 0 → p .class ≢ 0 → FewLevels p cs fs
+  -- Document 02, Req 12, in place of Req 02: "every function of level k-m+1 that covers an active cell of level k (k at least m) is active or
+  -- deactivated". Of a graded wall: check passes, with a class other than 0; so it is after every accepted call (`acceptedCall`, `.checked`)
+  pub presentLevels : (p : Plan) (cs fs : List ℕ) → check p cs fs ≡ 0 → p .class ≢ 0 → Present p cs fs
+  -- Req 12: "Old graded walls pass": what check passed by the rule before, it passes
+  pub oldPass : (p : Plan) (cs fs : List ℕ) → hCheck p cs fs ≡ 0 → check p cs fs ≡ 0
   -- Document 02, Req 05: "supports follow from the knots", across and up, on every level of a plan that refusal 1 does not meet
   pub byKnots : (p : Plan) → T (inRange p) → (k : ℕ) → ByKnots (acrossAt p k) × ByKnots (upAt p k)
   -- and a direction without corners is as document 01 has it, whatever the other has

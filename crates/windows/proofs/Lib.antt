@@ -3,6 +3,7 @@ pub mod Slides
 pub mod Placed
 pub mod Levels
 pub mod Under
+pub mod OneUp
 pub mod Rooms
 pub mod Values
 pub mod Near

@@ -4,7 +4,7 @@ use mathlib.Core.Path.{_≡_, refl, sym, ap, subst, _∙_}
 use mathlib.Core.Bool.{not, cond}
 use mathlib.Core.List.{List}
 use Prim.Native.Nat.{ℕ, _+_, _-_, _*_, _≤_, _<_}
-use native.Mathlib.Nat.{le-refl, le-of-eq, le-antisymm, mul-le-mul-right}
+use native.Mathlib.Nat.{le-refl, le-of-eq, le-trans, le-antisymm, le-add-right, mul-le-mul, mul-le-mul-right}
 use native.Mathlib.Omega.{arith}
 use lib.Dec.{T, eqb, eqb→eq, leb, leb→le, le→leb}
 use lib.ListN.{length, getD}
@@ -15,17 +15,21 @@ use Rattle.facts.proofs.Bounded.{every-i, every-e}
 use Rattle.facts.proofs.Least.{least-le, least-top, least-ge}
 use Rattle.grid.specs.declared.Plan.{Plan}
 use Rattle.grid.specs.declared.Place.{Place}
-use Rattle.grid.specs.Plan.{cellTotal, cellPlace, cellNumber, cellLevel, CellInside, acrossAt, upAt, near}
+use Rattle.grid.specs.Plan.{columnsAt, rowsAt, cellTotal, cellPlace, cellNumber, cellLevel, CellInside, acrossAt, upAt, near}
 use Rattle.grid.specs.Range.{InRange, HasNeighbourhood}
-use Rattle.grid.specs.Side.{firstOver}
-use Rattle.grid.specs.Spans.{nearLevel, ancestorOf}
+use Rattle.grid.specs.declared.Side.{Side}
+use Rattle.grid.specs.Knots.{beyond}
+use Rattle.grid.specs.Side.{firstOver, functions, firsts}
+use Rattle.grid.specs.Spans.{ancestorLevel, ancestorOf}
 use Rattle.grid.proofs.Laws.{cell-number-lt, cell-place-number, near-in}
 use Rattle.grid.proofs.Rectangles.{ancestor-level}
 use Rattle.grid.proofs.Sides.{across-in, up-in, first-lt}
-use Rattle.grid.proofs.Spans.{ancestor-in, near-neighbourhood}
-use Rattle.windows.specs.Level.{leastUnder, levelLeast, wide, high, LevelRoom, NearRoom}
+use Rattle.grid.proofs.Spans.{level-below, ancestor-in, near-neighbourhood}
+use Rattle.windows.specs.Windows.{windowLeast, LevelIn}
+use Rattle.windows.specs.Level.{placed, PlaceIn, leastIn, parentByte, parentTable, tableIn, wide, high, NearRoom}
 use Rattle.windows.specs.Near.{hasNear, leastNear, nearIndex, nearByte, NearTable}
-use Rattle.windows.proofs.Levels.{under-top, level-at}
+use Rattle.windows.proofs.Levels.{in-top, table-least, table-at}
+use Rattle.windows.proofs.OneUp.{parents-at}
 use Rattle.windows.proofs.Under.{near-le, near-ge}
 
 -- ---- the test whether there is one
@@ -78,10 +82,10 @@ module _ (p : Plan) (range : InRange p) (cells : List ℕ) (q : ℕ) where
 
   -- the window that ends the degrees after the ancestor's first functions
   window-near : q < cellTotal p → HasNeighbourhood p (cellLevel p q) → let a = ancestorOf p (cellPlace p q) in
-      leastUnder p cells (a .level) (2 * p .«degree_across») (2 * p .«degree_up») (firstOver (upAt p (a .level)) (a .row) + p .«degree_up») (firstOver (acrossAt p (a .level)) (a .column) + p .«degree_across»)
+      leastIn p (a .level) (parentByte p cells (a .level)) (2 * p .«degree_across») (2 * p .«degree_up») (firstOver (upAt p (a .level)) (a .row) + p .«degree_up») (firstOver (acrossAt p (a .level)) (a .column) + p .«degree_across»)
       ≡ leastNear p cells q
   window-near b has = le-antisymm
-      (least-near-ge _ (under-top p cells _ _ _ _ _) (near-le p range cells q b has))
+      (least-near-ge _ (in-top p _ _ _ _ _ _) (near-le p range cells q b has))
       (near-ge p range cells q b has _ least-near-top least-near-le)
 
 -- ---- the place where it is read
@@ -91,7 +95,7 @@ module _ (p : Plan) (range : InRange p) (x : Place) (i : CellInside p x) (has : 
   a = ancestorOf p x
 
   pub above-in : CellInside p a
-  above-in = ancestor-in p x has i
+  above-in = ancestor-in p range x has i
 
   row-in : firstOver (upAt p (a .level)) (a .row) + p .«degree_up» < high p (a .level) (2 * p .«degree_up»)
   row-in = omega (arith, first-lt (upAt p (a .level)) (up-in p range (a .level) (above-in .level<)) (a .row) (above-in .row<))
@@ -99,9 +103,9 @@ module _ (p : Plan) (range : InRange p) (x : Place) (i : CellInside p x) (has : 
   column-in : firstOver (acrossAt p (a .level)) (a .column) + p .«degree_across» < wide p (a .level) (2 * p .«degree_across»)
   column-in = omega (arith, first-lt (acrossAt p (a .level)) (across-in p range (a .level) (above-in .level<)) (a .column) (above-in .column<))
 
-  -- on a level with two finer ones
-  above-deep : x .level + 1 < p .levels → a .level < p .levels - 2
-  above-deep deep = rw (ancestor-level p x) (omega (arith, has .class≢, has .level≥, range .class≢))
+  -- on a level with a finer one
+  above-deep : x .level + 1 < p .levels → a .level < p .levels - 1
+  above-deep deep = rw (ancestor-level p x) (omega arith)
 
   pub index-fits : x .level + 1 < p .levels → {n : ℕ} → NearRoom p n → nearIndex p a < n
   unfolding nearIndex
@@ -112,38 +116,66 @@ module _ (p : Plan) (range : InRange p) (x : Place) (i : CellInside p x) (has : 
 
   -- in the table of the windows over the ancestor's level
   read-is : x .level + 1 < p .levels → (cells found start : List ℕ) → NearRoom p (length start)
-      → found ≡ filled 0 (high p (a .level) (2 * p .«degree_up») * wide p (a .level) (2 * p .«degree_across»)) (levelLeast p cells (a .level) (2 * p .«degree_across») (2 * p .«degree_up»)) start
+      → found ≡ filled 0 (high p (a .level) (2 * p .«degree_up») * wide p (a .level) (2 * p .«degree_across»)) (tableIn p (a .level) (parentByte p cells (a .level)) (2 * p .«degree_across») (2 * p .«degree_up»)) start
       → getD found (nearIndex p a) 0 ≡ leastNear p cells (cellNumber p x)
   unfolding nearIndex
   read-is deep cells found start room e =
       let q : cellPlace p (cellNumber p x) ≡ x = cell-place-number p range x i in
-      level-at p cells found start (a .level) (2 * p .«degree_across») (2 * p .«degree_up») e (room .enough (a .level) (above-deep deep)) _ _ row-in column-in
+      table-at p (parentByte p cells (a .level)) found start (a .level) (2 * p .«degree_across») (2 * p .«degree_up») e (room .enough (a .level) (above-deep deep)) _ _ row-in column-in
       ∙ (rw q at (window-near p range cells (cellNumber p x) (cell-number-lt p range x i) (subst (λ (y : Place). HasNeighbourhood p (y .level)) (sym q) has)))
 
 -- ---- the table of a level
 
+cells-firsts : (s : Side) → s .cells ≤ firsts s
+unfolding firsts functions beyond
+cells-firsts s = omega arith
+
 module _ (p : Plan) (range : InRange p) (cells : List ℕ) (j : ℕ) (l : j + 1 < p .levels) where
-  pub near-room-level : {n m : ℕ} → HasNeighbourhood p j → cellTotal p ≤ length cells → NearRoom p n → NearRoom p m
-      → LevelRoom p (nearLevel p j) (length cells) m n (2 * p .«degree_across») (2 * p .«degree_up»)
-  near-room-level has s x y =
-      let d : nearLevel p j < p .levels - 2 = omega (arith, has .class≢, has .level≥, range .class≢) in
-      record {
-        range = range;
-        level< = omega arith;
-        cells≤ = s;
-        scratch≤ = y .enough (nearLevel p j) d;
-        out≤ = x .enough (nearLevel p j) d;
-      }
+  abbrev k : ℕ
+  k = ancestorLevel p j
+
+  -- what its parts ask
+  module _ (has : HasNeighbourhood p j) where
+    pub fine-level : (0 < k) × (k < p .levels - 1)
+    fine-level = (omega (arith, level-below p j range has), omega arith)
+
+    pub near-parents-in : {n : ℕ} → NearRoom p n → rowsAt p k * columnsAt p k ≤ n
+    near-parents-in room = le-trans (mul-le-mul (le-trans (cells-firsts (upAt p k)) (le-add-right _ (2 * p .«degree_up»))) (le-trans (cells-firsts (acrossAt p k)) (le-add-right _ (2 * p .«degree_across»)))) (room .enough k (fine-level .1))
+
+    fine-lt : k < p .levels
+    fine-lt = omega (arith, fine-level)
+
+    pub near-place-in : {m n : ℕ} → NearRoom p m → NearRoom p n → PlaceIn (acrossAt p k) (upAt p k) m n (2 * p .«degree_across»)
+    near-place-in x y = record {
+      across-in = across-in p range k fine-lt;
+      up-in = up-in p range k fine-lt;
+      from≤ = near-parents-in x;
+      out≤ = le-trans (mul-le-mul-right (wide p k (2 * p .«degree_across»)) (le-add-right (firsts (upAt p k)) (2 * p .«degree_up»))) (y .enough k (fine-level .1));
+    }
+
+    pub near-level-in : {m n : ℕ} → NearRoom p m → NearRoom p n → LevelIn m n (firsts (acrossAt p k)) (firsts (upAt p k)) (2 * p .«degree_across») (2 * p .«degree_up»)
+    near-level-in x y = record {
+      columns≥ = omega (arith, first-lt (acrossAt p k) (across-in p range k fine-lt) 0 (across-in p range k fine-lt .cells≥));
+      rows≥ = omega (arith, first-lt (upAt p k) (up-in p range k fine-lt) 0 (up-in p range k fine-lt .cells≥));
+      scratch≤ = le-trans (mul-le-mul-right (wide p k (2 * p .«degree_across»)) (le-add-right (firsts (upAt p k)) (2 * p .«degree_up»))) (x .enough k (fine-level .1));
+      out≤ = y .enough k (fine-level .1);
+    }
+
+    -- the windows over the parents' bytes
+    pub parents-windows : (from start : List ℕ) → from ≡ filled 0 (rowsAt p k * columnsAt p k) (parentTable p cells k) start → rowsAt p k * columnsAt p k ≤ length start → (t : ℕ)
+        → windowLeast (placed (acrossAt p k) (upAt p k) from) (firsts (acrossAt p k)) (firsts (upAt p k)) (2 * p .«degree_across») (2 * p .«degree_up») t
+        ≡ tableIn p k (parentByte p cells k) (2 * p .«degree_across») (2 * p .«degree_up») t
+    parents-windows from start e r t = table-least p range k fine-lt (2 * p .«degree_across») (2 * p .«degree_up») from (parentByte p cells k) (λ y x a b. parents-at p cells k from start e r y x a b) refl refl t
 
   pub near-table : T (hasNear p j) → (found start : List ℕ) → NearRoom p (length start)
-      → found ≡ filled 0 (high p (nearLevel p j) (2 * p .«degree_up») * wide p (nearLevel p j) (2 * p .«degree_across»)) (levelLeast p cells (nearLevel p j) (2 * p .«degree_across») (2 * p .«degree_up»)) start
+      → found ≡ filled 0 (high p k (2 * p .«degree_up») * wide p k (2 * p .«degree_across»)) (tableIn p k (parentByte p cells k) (2 * p .«degree_across») (2 * p .«degree_up»)) start
       → NearTable p cells found j
   unfolding nearByte
   near-table has found start room e = record {
     made = λ x i q.
         let h : T (hasNear p (x .level)) = subst (λ (n : ℕ). T (hasNear p n)) (sym q) has in
-        let k : nearLevel p j ≡ ancestorOf p x .level = ap (nearLevel p) (sym q) ∙ sym (ancestor-level p x) in
-        rw (T-true (hasNear p (x .level)) h) (read-is p range x i (has-fact p (x .level) h) (omega (arith, q)) cells found start room (rw k at e));
+        let n : ancestorLevel p j ≡ ancestorOf p x .level = ap (ancestorLevel p) (sym q) ∙ sym (ancestor-level p x) in
+        rw (T-true (hasNear p (x .level)) h) (read-is p range x i (has-fact p (x .level) h) (omega (arith, q)) cells found start room (rw n at e));
   }
 
   pub near-table-none : (T (hasNear p j) → ⊥) → (found : List ℕ) → NearTable p cells found j

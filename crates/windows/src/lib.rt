@@ -8,9 +8,9 @@ ghost use Prim.Native.Nat.{min, _+_, _*_, _≤_, _<_};
 ghost use lib.ListN.{length, getD};
 ghost use Rattle.facts.specs.Mapped.{filled};
 ghost use Rattle.windows.specs.Windows.{always, lowered, slid, inRows, rowSlid, Windowed, SlideIn, RowsIn, LevelIn};
-ghost use Rattle.windows.specs.Level.{placedRow, placed, Twos, PlaceIn, levelLeast, wide, high, LevelRoom, ValueRoom, NearRoom, ValueTable};
+ghost use Rattle.windows.specs.Level.{placedRow, placed, Twos, PlaceIn, levelLeast, wide, high, LevelRoom, ValueRoom, NearRoom, ParentsIn, parentsRow, parentTable, ValueTable};
 ghost use Rattle.windows.specs.Near.{hasNear, nearByte, NearTable};
-ghost use Rattle.grid.specs.Plan.{cellTotal, functionTotal, CellInside};
+ghost use Rattle.grid.specs.Plan.{columnsAt, rowsAt, cellTotal, functionTotal, CellInside};
 ghost use Rattle.grid.specs.Range.{InRange};
 ghost use Rattle.grid.specs.Side.{SideIn, firsts};
 
@@ -195,18 +195,65 @@ fn has_near(plan: Plan, level: u32) -> bool
     (class != 0) & (class <= level + 1)
 }
 
-// The table of the neighbourhoods of a level's cells, where they have some: the windows of twice the degrees over the level in which
-// these lie.
+// A row of n cells, each with the byte of the column on which it stands.
+fn parents_row(plan: Plan, from: &[u8], out: &mut [u8], n: u32)
+    requires { ⌜ ParentsIn plan n (length (now from)) (length (now out)) ⌝ }
+    ensures { λ _. ⌜ now (out .exit) ≡ filled 0 n (parentsRow plan (now (from .entry))) (now (out .entry)) ⌝ }
+{
+    let mut x = 0;
+    while x < n {
+        let above = plan.coarser(x, 1) as usize;
+        let here = x as usize;
+        out[here] = from[above];
+        x += 1;
+    }
+}
+
+// The cells of a level, each with its parent's byte.
+fn parents(plan: Plan, cells: &[u8], level: u32, out: &mut [u8])
+    requires { ⌜ (InRange plan) × (0 < level) × (level < plan .levels) ⌝ }
+    requires { ⌜ (cellTotal plan ≤ length (now cells)) × (rowsAt plan level * columnsAt plan level ≤ length (now out)) ⌝ }
+    ensures { λ _. ⌜ now (out .exit) ≡ filled 0 (rowsAt plan level * columnsAt plan level) (parentTable plan (now (cells .entry)) level) (now (out .entry)) ⌝ }
+{
+    let above = level - 1;
+    let coarse = plan.columns_at(above) as usize;
+    let here = plan.cell_offset(above) as usize;
+    let columns = plan.columns_at(level);
+    let rows = plan.rows_at(level);
+    let width = columns as usize;
+    let mut at = 0;
+    let mut row = 0;
+    while row < rows {
+        let first = here + plan.coarser(row, 1) as usize * coarse;
+        parents_row(plan, &cells[first..], &mut out[at..], columns);
+        at += width;
+        row += 1;
+    }
+}
+
+// The table of the neighbourhoods of a level's cells, where they have some: the windows of twice the degrees over the level of their
+// ancestors, in which each cell has its parent's byte.
 pub fn neighbourhoods(plan: Plan, cells: &[u8], fine: u32, scratch: &mut [u8], near: &mut [u8])
     requires { ⌜ (InRange plan) × (fine + 1 < plan .levels) × (cellTotal plan ≤ length (now cells)) ⌝ }
     requires { ⌜ (NearRoom plan (length (now scratch))) × (NearRoom plan (length (now near))) ⌝ }
     ensures { λ _. ⌜ NearTable plan (now (cells .entry)) (now (near .exit)) fine ⌝ }
 {
     if has_near(plan, fine) {
-        let above = fine - (plan.class - 1);
+        let level = fine - (plan.class - 2);
+        let columns = plan.across_at(level);
+        let rows = plan.up_at(level);
         let across = (2 * plan.degree_across) as usize;
         let up = (2 * plan.degree_up) as usize;
-        level(plan, cells, above, scratch, near, across, up);
+        parents(plan, cells, level, scratch);
+        place(columns, rows, scratch, near, across);
+        windows(
+            scratch,
+            near,
+            columns.firsts() as usize,
+            rows.firsts() as usize,
+            across,
+            up,
+        );
     }
 }
 

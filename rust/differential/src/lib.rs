@@ -372,7 +372,7 @@ impl Tables {
             Ok(opened) => {
                 assert_eq!(number, 0, "{}", said());
                 (self.cells, self.functions) = opened;
-                self.expect_few_levels(&said);
+                self.expect_present_levels(&said);
             }
         }
         cells.expect(&self.cells, "cell table", &said);
@@ -457,7 +457,7 @@ impl Tables {
         lent_file.expect(file, "file", &said);
         *self = Tables { plan, cells: new_cells, functions: new_functions };
         if number == 0 {
-            self.expect_few_levels(&|| format!("read of {plan:?}"));
+            self.expect_present_levels(&|| format!("read of {plan:?}"));
         }
         number
     }
@@ -602,9 +602,8 @@ impl Tables {
                 (0..self.plan.levels).filter(move |level| levels >> level & 1 == 1)
             };
             let k = over.cell.level;
-            let few = levels_with(model::ACTIVE).all(|l| k < l + class && l <= k)
-                && levels_with(model::ACTIVE).count() <= class as usize
-                && levels_with(model::PASSIVE).all(|l| k < l + class)
+            let few = levels_with(model::PASSIVE).all(|l| k + 1 < l + class)
+                && levels_with(model::ACTIVE).all(|l| l <= k)
                 && levels_with(model::DEACTIVATED).all(|l| l <= k);
             assert!(few, "{over:?} after {}", said());
         }

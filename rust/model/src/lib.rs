@@ -204,18 +204,21 @@ impl Plan {
         rows.flat_map(move |row| columns.clone().map(move |column| Cell { level, row, column }))
     }
 
-    /// The cells that must be refined where this one, of level j, is: those of level j-m+1 that
-    /// are, in both directions, covered by a common function of that level with its ancestor there.
+    /// The cells that must be refined where this one, of level j, is: those of level j-m+1 that have a
+    /// child that is, in both directions, covered by a common function of level j-m+2 with its
+    /// ancestor there.
     pub fn neighbourhood(self, cell: Cell) -> Vec<Cell> {
         if self.class == 0 || cell.level + 1 < self.class {
             return Vec::new();
         }
-        let ancestor = self.ancestor(cell, self.class - 1);
+        let ancestor = self.ancestor(cell, self.class - 2);
         let level = ancestor.level;
         let (rows, columns) =
             (self.up(level).near(ancestor.row), self.across(level).near(ancestor.column));
-        rows.flat_map(|row| columns.clone().map(move |column| Cell { level, row, column }))
-            .collect()
+        let children =
+            rows.flat_map(|row| columns.clone().map(move |column| Cell { level, row, column }));
+        let parents: BTreeSet<Cell> = children.filter_map(|child| self.parent(child)).collect();
+        parents.into_iter().collect()
     }
 
     /// The points of a cell. Regions of whole cells of any levels are compared by points: these are
@@ -666,29 +669,32 @@ mod tests {
                 assert!(plan.support(function).eq(plan.cells().filter(covered)), "{function:?}");
             }
             for cell in plan.cells().filter(|cell| cell.level > 0) {
-                // Class 2, so that the neighbourhood is one of the parent.
-                let parent = plan.parent(cell).expect("a level above");
+                // Class 2, so that the ancestor below the neighbourhood is the cell itself: a child of
+                // the other has row and column at most the degrees from it.
+                let close =
+                    |a: u32, b: u32, d: u32| (2 * a).abs_diff(b).min((2 * a + 1).abs_diff(b)) <= d;
                 let near = |other: &Cell| {
-                    other.level == parent.level
-                        && other.row.abs_diff(parent.row) <= q
-                        && other.column.abs_diff(parent.column) <= p
+                    other.level + 1 == cell.level
+                        && close(other.row, cell.row, q)
+                        && close(other.column, cell.column, p)
                 };
                 assert!(plan.neighbourhood(cell).into_iter().eq(plan.cells().filter(near)));
             }
         }
     }
 
-    /// In words: a cell is near where some function of its level has both cells in its support.
+    /// In words: a cell is near where some function of the next level has a child of it and the cell
+    /// in its support.
     #[test]
     fn neighbourhoods_are_those_of_common_functions() {
         for plan in plans().into_iter().filter(|plan| plan.cell_total() <= 63) {
             for cell in plan.cells().filter(|cell| cell.level > 0) {
-                let parent = plan.parent(cell).expect("a level above");
                 let near: BTreeSet<Cell> = plan
                     .functions()
-                    .filter(|function| function.level == parent.level)
-                    .filter(|&function| plan.support(function).any(|cell| cell == parent))
+                    .filter(|function| function.level == cell.level)
+                    .filter(|&function| plan.support(function).any(|other| other == cell))
                     .flat_map(|function| plan.support(function))
+                    .filter_map(|child| plan.parent(child))
                     .collect();
                 assert!(plan.neighbourhood(cell).into_iter().eq(near), "{plan:?} {cell:?}");
             }

@@ -227,7 +227,7 @@ mod tests {
     #[test]
     fn refusals_in_order() {
         let good = plan([3, 1, 3, 1, 1, 0, 0, 0]);
-        let (cells, functions) = tables(good, &[0, 3]);
+        let (cells, functions) = tables(good, &[0, 4]);
         let refused = |plan, cells: &[u8], functions: &[u8], heights: &[i32], number| {
             assert_eq!(corners(plan, cells, functions, heights, 0).err(), Some(number));
         };
