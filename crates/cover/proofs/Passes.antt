@@ -41,6 +41,8 @@ module _ (p : Plan) (range : InRange p) (k : ℕ) (l : k < p .levels) where
       record {
         range = range;
         level< = l;
+        across≥ = range .across≥;
+        up≥ = range .up≥;
         cells≤ = omega (arith, kinds .size);
         scratch≤ = rw size (omega arith);
         out≤ = rw size (omega arith);

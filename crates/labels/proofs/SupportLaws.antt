@@ -67,6 +67,8 @@ module _ (p : Plan) (cells : List ℕ) (table : MeshTable p cells) (level : ℕ)
         record {
           range = table .sized .range;
           level< = l;
+          across≥ = table .sized .range .across≥;
+          up≥ = table .sized .range .up≥;
           cells≤ = omega arith;
           scratch≤ = rw (part-size p (table .sized .range) cells level l) (omega arith);
           out≤ = rw (part-size p (table .sized .range) cells level l) (omega arith);

@@ -137,6 +137,8 @@ module _ (p : Plan) (range : InRange p) (cells : List ℕ) (k : ℕ) (l : k < p 
       record {
         columns≥ = omega (arith, first-lt cols (across-in p range k l) 0 (across-in p range k l .cells≥));
         rows≥ = omega (arith, first-lt rows (up-in p range k l) 0 (up-in p range k l .cells≥));
+        across≥ = x .across≥;
+        up≥ = x .up≥;
         scratch≤ = omega (arith, mul-le-mul-right (firsts cols + across) (le-add-right (firsts rows) up));
         out≤ = o;
       }

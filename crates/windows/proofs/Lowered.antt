@@ -3,7 +3,7 @@ use mathlib.Core.Path.{_≡_, refl, sym, ap, _∙_}
 use mathlib.Core.Bool.{true, false, cond}
 use mathlib.Core.List.{List}
 use Prim.Native.Nat.{ℕ, min, _+_, _-_, _*_, _≤_, _<_}
-use native.Mathlib.Nat.{min-eq-left}
+use native.Mathlib.Nat.{min-eq-left, min-le-left, min-le-right}
 use native.Mathlib.Omega.{arith}
 use lib.ListN.{length, getD, set, length-set}
 use lib.Seq.{getD-set-same, getD-set-other}
@@ -12,8 +12,8 @@ use Rattle.facts.specs.Least.{least}
 use Rattle.facts.specs.Mapped.{inRun, mapped, filled}
 use Rattle.facts.proofs.Least.{least-top}
 use Rattle.facts.proofs.Ranges.{least-more}
-use Rattle.facts.proofs.Mapped.{run-in, run-before, run-after, run-e, mapped-length, mapped-at, mapped-is, mapped-more, mapped-part}
-use Rattle.windows.specs.Windows.{always, lowered, moved, slid}
+use Rattle.facts.proofs.Mapped.{run-in, run-before, run-after, run-e, part-at, mapped-length, mapped-at, mapped-is, mapped-more, mapped-part}
+use Rattle.windows.specs.Windows.{always, lowered, leastOf, moved, slid}
 
 -- ---- entry by entry
 
@@ -86,16 +86,63 @@ module _ (from xs ys : List ℕ) (n step d at size : ℕ) (e : ys ≡ filled 0 s
       (λ u. rw (run-after 0 n j u, run-after at n (at + j) (omega arith))))
       ∙ shifted
 
+sub-zero : (t : ℕ) → t - 0 ≡ t
+sub-zero t = omega arith
+
 -- the first one
 slid-start : (from xs : List ℕ) (n step size : ℕ) → filled 0 size (always 2) xs ≡ filled 0 size (slid from n step 0) xs
 unfolding always slid least
 slid-start from xs n step size = refl
-
-sub-zero : (t : ℕ) → t - 0 ≡ t
-sub-zero t = omega arith
 
 pub slid-first : (from xs ys : List ℕ) (n step size : ℕ) → ys ≡ filled 0 size (always 2) xs → n ≤ size → lowered n from ys ≡ filled 0 size (slid from n step 1) xs
 unfolding lowered
 slid-first from xs ys n step size e l =
     sym (mapped-is _ ys _ (mapped-length _ ys) (λ t m. mapped-at _ ys t m ∙ ap (λ o. cond (inRun 0 n t) (min (getD ys t 0) (getD from o 0)) (getD ys t 0)) (sub-zero t)))
     ∙ shifted from xs ys n step 0 0 size (e ∙ slid-start from xs n step size) (omega arith) (omega arith)
+
+-- ---- the first two in one pass
+
+-- capped at 2, an entry is the least of both where the other is not there
+twice : (a : ℕ) → min (min 2 a) a ≡ min (min 2 a) 2
+twice a = min-eq-left (min-le-right 2 a) ∙ sym (min-eq-left (min-le-left 2 a))
+
+other : (a : ℕ) → min (min 2 a) a ≡ min (min 2 2) a
+other a = min-eq-left (min-le-right 2 a)
+
+module _ (from : List ℕ) (n step : ℕ) (s : step ≤ n) where
+  slid-two : (t : ℕ) → slid from n step 2 t ≡ min (min 2 (moved from n 0 t)) (moved from n step t)
+  unfolding slid least
+  slid-two t =
+      let z : 0 * step ≡ 0 = omega arith in
+      let o : 1 * step ≡ step = omega arith in
+      rw (z, o)
+
+  both-there : (t a b : ℕ) → moved from n 0 t ≡ a → moved from n step t ≡ b → min (min 2 a) b ≡ slid from n step 2 t
+  both-there t a b d e = sym (slid-two t ∙ (ap (λ (x : ℕ). min (min 2 x) (moved from n step t)) d ∙ ap (λ (x : ℕ). min (min 2 a) x) e))
+
+  pub pair-head : (j : ℕ) → j < step → leastOf from from j ≡ slid from n step 2 j
+  unfolding leastOf
+  pair-head j l =
+      twice (getD from j 0)
+      ∙ both-there j _ _ (moved-in from n 0 j (run-in 0 n j (omega arith) (omega arith)) ∙ ap (λ (x : ℕ). getD from x 0) (sub-zero j)) (moved-out from n step j (run-before step n j l))
+
+  pub pair-middle : (j : ℕ) → j < n - step → leastOf (midOf step (length from - step) from) from j ≡ slid from n step 2 (step + j)
+  unfolding leastOf
+  pair-middle j l =
+      let e : step + j - step ≡ j = omega arith in
+      ap (λ (x : ℕ). min (min 2 x) (getD from j 0)) (part-at step from j)
+      ∙ both-there (step + j) _ _ (moved-in from n 0 (step + j) (run-in 0 n (step + j) (omega arith) (omega arith)) ∙ ap (λ (x : ℕ). getD from x 0) (sub-zero (step + j)))
+      (moved-in from n step (step + j) (run-in step n (step + j) (omega arith) (omega arith)) ∙ ap (λ (x : ℕ). getD from x 0) e)
+
+  pub pair-tail : (j : ℕ) → j < step → leastOf (midOf (n - step) (length from - (n - step)) from) (midOf (n - step) (length from - (n - step)) from) j ≡ slid from n step 2 (n + j)
+  unfolding leastOf
+  pair-tail j l =
+      let e : n + j - step ≡ n - step + j = omega arith in
+      other _
+      ∙ (ap (λ (x : ℕ). min (min 2 2) x) (part-at (n - step) from j)
+      ∙ both-there (n + j) _ _ (moved-out from n 0 (n + j) (run-after 0 n (n + j) (omega arith)))
+      (moved-in from n step (n + j) (run-in step n (n + j) (omega arith) (omega arith)) ∙ ap (λ (x : ℕ). getD from x 0) e))
+
+  pub pair-rest : (j : ℕ) → always 2 j ≡ slid from n step 2 (n + step + j)
+  unfolding always
+  pair-rest j = both-there (n + step + j) 2 2 (moved-out from n 0 (n + step + j) (run-after 0 n (n + step + j) (omega arith))) (moved-out from n step (n + step + j) (run-after step n (n + step + j) (omega arith)))

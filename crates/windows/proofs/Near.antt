@@ -157,6 +157,8 @@ module _ (p : Plan) (range : InRange p) (cells : List ℕ) (j : ℕ) (l : j + 1 
     near-level-in x y = record {
       columns≥ = omega (arith, first-lt (acrossAt p k) (across-in p range k fine-lt) 0 (across-in p range k fine-lt .cells≥));
       rows≥ = omega (arith, first-lt (upAt p k) (up-in p range k fine-lt) 0 (up-in p range k fine-lt .cells≥));
+      across≥ = omega (arith, range .across≥);
+      up≥ = omega (arith, range .up≥);
       scratch≤ = le-trans (mul-le-mul-right (wide p k (2 * p .«degree_across»)) (le-add-right (firsts (upAt p k)) (2 * p .«degree_up»))) (x .enough k (fine-level .1));
       out≤ = y .enough k (fine-level .1);
     }

@@ -130,6 +130,8 @@ module _ (p : Plan) (range : InRange p) (values : List ℕ) (k : ℕ) (l : k < p
         record {
           columns≥ = omega arith;
           rows≥ = omega arith;
+          across≥ = range .across≥;
+          up≥ = range .up≥;
           scratch≤ = omega (arith, mul-le-mul-right (FW + p .«degree_across») (le-add-right FH (p .«degree_up»)));
           out≤ = b;
         },

@@ -69,6 +69,8 @@ levelLeast p cells k across up t = leastUnder p cells k across up (t / wide p k 
 pub record LevelRoom (p : Plan) (k size room place across up : ℕ) : Type 0 where
   pub range : InRange p
   pub level< : k < p .levels
+  pub across≥ : 1 ≤ across
+  pub up≥ : 1 ≤ up
   pub cells≤ : cellTotal p ≤ size
   pub scratch≤ : high p k up * wide p k across ≤ room
   pub out≤ : high p k up * wide p k across ≤ place

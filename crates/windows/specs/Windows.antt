@@ -15,6 +15,10 @@ always v i = v
 unfoldable pub lowered : ℕ → List ℕ → List ℕ → List ℕ
 lowered n from xs = mapped (λ i x. cond (inRun 0 n i) (min x (getD from i 0)) x) xs
 
+-- the least of 2 and the entries of both at i
+unfoldable pub leastOf : List ℕ → List ℕ → ℕ → ℕ
+leastOf a b i = min (min 2 (getD a i 0)) (getD b i 0)
+
 -- what stands o places before t, of the first n entries; 2 where nothing does
 unfoldable pub moved : List ℕ → ℕ → ℕ → ℕ → ℕ
 moved from n o t = cond (inRun o n t) (getD from (t - o) 0) 2
@@ -24,6 +28,8 @@ unfoldable pub slid : List ℕ → ℕ → ℕ → ℕ → ℕ → ℕ
 slid from n step count t = least 2 count (λ d. moved from n (d * step) t)
 
 pub record SlideIn (size room n step times : ℕ) : Type 0 where
+  pub times≥ : 1 ≤ times
+  pub step≤ : step ≤ n
   pub from≤ : n ≤ size
   pub out≤ : n + times * step ≤ room
 
@@ -62,5 +68,7 @@ Windowed spread out columns rows across up =
 pub record LevelIn (room place columns rows across up : ℕ) : Type 0 where
   pub columns≥ : 1 ≤ columns
   pub rows≥ : 1 ≤ rows
+  pub across≥ : 1 ≤ across
+  pub up≥ : 1 ≤ up
   pub scratch≤ : rows * (columns + across) ≤ room
   pub out≤ : (rows + up) * (columns + across) ≤ place

@@ -7,7 +7,7 @@ ghost use mathlib.Core.Path.{_≡_};
 ghost use Prim.Native.Nat.{min, _+_, _*_, _≤_, _<_};
 ghost use lib.ListN.{length, getD};
 ghost use Rattle.facts.specs.Mapped.{filled};
-ghost use Rattle.windows.specs.Windows.{always, lowered, slid, inRows, rowSlid, Windowed, SlideIn, RowsIn, LevelIn};
+ghost use Rattle.windows.specs.Windows.{always, lowered, leastOf, slid, inRows, rowSlid, Windowed, SlideIn, RowsIn, LevelIn};
 ghost use Rattle.windows.specs.Level.{placedRow, placed, Twos, PlaceIn, levelLeast, wide, high, LevelRoom, ValueRoom, NearRoom, ParentsIn, parentsRow, parentTable, ValueTable};
 ghost use Rattle.windows.specs.Near.{hasNear, nearByte, NearTable};
 ghost use Rattle.grid.specs.Plan.{columnsAt, rowsAt, cellTotal, functionTotal, CellInside};
@@ -44,15 +44,37 @@ pub fn fill(out: &mut [u8], n: usize, value: u8)
     }
 }
 
+// Each of the first n entries becomes the least of 2 and those of `a` and `b`.
+fn least_of(out: &mut [u8], a: &[u8], b: &[u8], n: usize)
+    requires { ⌜ (n ≤ length (now out)) × (n ≤ length (now a)) × (n ≤ length (now b)) ⌝ }
+    ensures { λ _. ⌜ now (out .exit) ≡ filled 0 n (leastOf (now (a .entry)) (now (b .entry))) (now (out .entry)) ⌝ }
+{
+    let mut i = 0;
+    while i < n {
+        out[i] = smaller(smaller(2, a[i]), b[i]);
+        i += 1;
+    }
+}
+
+// Entry t is the least of those of `from` at t and t - step, as far as there are such, in one pass; where `slide` goes on it is 2.
+fn pair(from: &[u8], out: &mut [u8], n: usize, step: usize, times: usize)
+    requires { ⌜ SlideIn (length (now from)) (length (now out)) n step times ⌝ }
+    ensures { λ _. ⌜ now (out .exit) ≡ filled 0 (n + times * step) (slid (now (from .entry)) n step 2) (now (out .entry)) ⌝ }
+{
+    least_of(out, from, from, step);
+    least_of(&mut out[step..], &from[step..], from, n - step);
+    least_of(&mut out[n..], &from[n - step..], &from[n - step..], step);
+    fill(&mut out[n + step..], (times - 1) * step, 2);
+}
+
 // One direction: entry t is the least of those of `from` at t, t - step, .., t - times * step, as far as there are such.
 fn slide(from: &[u8], out: &mut [u8], n: usize, step: usize, times: usize)
     requires { ⌜ SlideIn (length (now from)) (length (now out)) n step times ⌝ }
     ensures { λ _. ⌜ now (out .exit) ≡ filled 0 (n + times * step) (slid (now (from .entry)) n step (times + 1)) (now (out .entry)) ⌝ }
 {
-    fill(out, n + times * step, 2);
-    lower(out, from, n);
-    let mut at = 0;
-    let mut d = 0;
+    pair(from, out, n, step, times);
+    let mut at = step;
+    let mut d = 1;
     while d < times {
         at += step;
         lower(&mut out[at..], from, n);

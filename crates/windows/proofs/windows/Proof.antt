@@ -28,10 +28,13 @@ slide-requires : tie.Need-slide-requires
 slide-requires c κs =
     let s = c .before .before .before .before in
     let o = one s in
-    record { from≤ = omega arith; out≤ = omega (arith, s .pre .scratch≤) }
+    record { times≥ = s .pre .across≥; step≤ = omega (arith, s .pre .columns≥); from≤ = omega arith; out≤ = omega (arith, s .pre .scratch≤) }
 
 slide-requires-2 : tie.Need-slide-requires-2
-slide-requires-2 c κs = search needs
+slide-requires-2 c κs =
+    let s = c .before .before .before .before .before .before .before .before .before in
+    let o = one s in
+    record { times≥ = s .pre .up≥; step≤ = o .0; from≤ = omega arith; out≤ = omega arith }
 
 same-length : tie.Need-same-length
 same-length c = search needs
