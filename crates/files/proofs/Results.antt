@@ -15,8 +15,9 @@ use Rattle.grid.specs.declared.Plan.{Plan}
 use Rattle.grid.specs.Plan.{inRange, tooLarge, cellTotal, functionTotal}
 use Rattle.mesh.specs.Mesh.{isMesh, isAdmissible, labels, refusal3, check}
 use Rattle.mesh.proofs.Bridge.{check-good, check-passed, chain}
+use Rattle.mesh.proofs.HAdmissible.{still-checked}
 use Rattle.files.specs.File.{File, badFile, gotFile, decodeFile, fileOf, rebuilt, refusal13, readRefusal, noPlan, answeredPlan, ReadOutcome, readFile, readMesh, WriteOutcome, unwritten, writeText, writeMesh}
-use Rattle.files.specs.Demands.{Written, Unwritten, Rebuilt, Refused, Files}
+use Rattle.files.specs.Demands.{Written, Unwritten, Rebuilt, Refused, Kept, Files}
 use Rattle.files.proofs.Longest.{file-short}
 use Rattle.files.proofs.Meshes.{same-lengths, file-read, same-table, passes13, unsized, rebuilt-checked, rebuilt-only}
 
@@ -190,6 +191,9 @@ module _ (p : Plan) (cs fs : List ℕ) (e : check p cs fs ≡ 0) where
 
 -- ---- all of it
 
+kept-file : (p : Plan) (cs fs : List ℕ) → check p cs fs ≡ 0 → Kept p cs fs
+kept-file p cs fs e = record { back = back p cs fs e; sized = sized p cs fs e; short = file-short p cs fs e }
+
 pub files : Files
 files = record {
   written = λ p cs fs file. written-of p cs fs file (writeMesh p cs fs file) (wrote p cs fs file);
@@ -199,6 +203,7 @@ files = record {
   back = λ p cs fs file z cells functions a b.
       let w = written-of p cs fs file (writeMesh p cs fs file) (wrote p cs fs file) z in
       ap (λ (t : List ℕ). readMesh t cells functions) (w .bytes) ∙ back p cs fs (w .checked) cells functions a b;
-  kept = λ p cs fs e. record { back = back p cs fs e; sized = sized p cs fs e; short = file-short p cs fs e };
+  kept = kept-file;
+  keptBefore = λ p cs fs e. kept-file p cs fs (still-checked p cs fs e);
   again = λ s cs fs file z h. again s file (readMesh s cs fs) (rebuilt-of s cs fs (readMesh s cs fs) (read s cs fs) z) h;
 }

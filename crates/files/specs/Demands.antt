@@ -9,6 +9,7 @@ use Rattle.facts.specs.Numbers.{elem}
 use Rattle.grid.specs.declared.Plan.{Plan}
 use Rattle.grid.specs.Plan.{cellTotal, functionTotal}
 use Rattle.mesh.specs.Mesh.{check}
+use Rattle.mesh.specs.HAdmissible.{hCheck}
 use Rattle.files.specs.Bounds.{mostFileBytes}
 use Rattle.files.specs.File.{gotFile, decodeFile, fileOf, noPlan, ReadOutcome, readMesh, WriteOutcome, writeMesh}
 
@@ -64,6 +65,8 @@ pub record Files : Type 0 where
   pub rebuilt : (s cs fs : List ℕ) → readMesh s cs fs .answer .number ≡ 0 → Rebuilt s (readMesh s cs fs)
   pub refused : (s cs fs : List ℕ) → readMesh s cs fs .answer .number ≢ 0 → Refused s cs fs (readMesh s cs fs)
   pub kept : (p : Plan) (cs fs : List ℕ) → check p cs fs ≡ 0 → Kept p cs fs
+  -- Req 12: "Old graded walls pass", and so the file of a mesh that check took by the rule before is read: `fileOf` has not changed
+  pub keptBefore : (p : Plan) (cs fs : List ℕ) → hCheck p cs fs ≡ 0 → Kept p cs fs
   -- what writing gave, read into any tables of the right lengths
   pub back : (p : Plan) (cs fs file : List ℕ) → writeMesh p cs fs file .answer .number ≡ 0
       → (cells functions : List ℕ) → length cells ≡ cellTotal p → length functions ≡ functionTotal p

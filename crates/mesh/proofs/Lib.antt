@@ -1,4 +1,5 @@
 pub mod AfterP7
+pub mod Computed
 pub mod Bridge
 pub mod Label
 pub mod Area

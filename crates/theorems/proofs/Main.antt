@@ -82,6 +82,7 @@ main = record {
   repeats = call-repeats;
   reordered = call-reordered;
   oneMark = λ p cs fs marks cl fl c _ h z. omega (arith, one-mark p cs fs marks cl fl c h z);
+  oneMarkTruncated = λ p cs fs marks cl fl c _ h z. omega (arith, one-mark p cs fs marks cl fl c h z);
   severalMarks = several-marks;
   marksCost = call-cost;
 }

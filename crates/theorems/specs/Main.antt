@@ -114,6 +114,10 @@ pub record Main : Type 0 where
       → outcome refine cells p cs fs marks cl fl .answer .number ≡ 0
       → outcome refine cells p cs fs marks cl fl .answer .cells
       ≤ 1 + cellLevel p c / (p .class - 1) * (4 * p .«degree_across» + 1) * (4 * p .«degree_up» + 1)
+  -- Req 12: "Req 09's bound [is] read with this neighbourhood". With it 2p+1 and 2q+1 are enough
+  pub oneMarkTruncated : (p : Plan) (cs fs marks cl fl : List ℕ) (c : ℕ) → p .class ≢ 0 → ((x : ℕ) → T (elem x marks) → x ≡ c)
+      → outcome refine cells p cs fs marks cl fl .answer .number ≡ 0
+      → outcome refine cells p cs fs marks cl fl .answer .cells ≤ 1 + cellLevel p c / (p .class - 1) * (2 * p .«degree_across» + 1) * (2 * p .«degree_up» + 1)
   -- several marks: at most the sum of their bounds, each cell counted once
   pub severalMarks : (p : Plan) (cs fs marks cl fl : List ℕ) → outcome refine cells p cs fs marks cl fl .answer .number ≡ 0
       → outcome refine cells p cs fs marks cl fl .answer .cells ≤ mostOf p (once marks)
