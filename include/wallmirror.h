@@ -56,29 +56,38 @@
  * cell itself). Without corners such a child's column differs by at most degree_across, and its row
  * by at most degree_up, from those of the ancestor; with them there may be fewer. A mesh is
  * admissible where the neighbourhood of every refined cell is refined. In class 0 every mesh is.
+ * A mesh that was admissible before version 0.12, when neighbourhoods were larger, still is. In the
+ * example above, with three levels and class 2, a mesh with cells 0 and 4 refined and cell 1 active
+ * is not admissible: cell 4 is in column 1 of level 1, a function covers it and cell 5 in column 2,
+ * and cell 5 is a child of cell 1. With cells 0 and 3 refined and cell 1 active it is.
  *
  * Levels over a cell. A function is over a cell where its support and the cell have a point in
- * common, whatever their levels. In class m, not 0, the active functions over an active cell of
- * level k all have levels from k - m + 1 to k. Functions of finer levels are passive there, those
- * of coarser ones deactivated. So a program that draws or sums the functions over a cell has at
- * most m levels to look at, and on each the functions over the cell's ancestor there:
- * degree_across + 1 of them in a row across and degree_up + 1 up. Those over column x begin with
- * function x + (degree_across - 1) * c, where c corners are on lines 1 to x of that level; up it is
- * the same.
+ * common, whatever their levels. In class m, not 0, let k be the level of an active cell. Functions
+ * over it of finer levels than k are passive. If k is at least m, every function of level k - m + 1
+ * over it is active or deactivated, and so is every function over it of a coarser level. That is
+ * for truncated functions: those of coarser levels than k - m + 1 vanish over the cell then, and a
+ * program that works with the truncated basis has at most m levels to look at there. The functions
+ * of this library are not truncated, and active ones of all levels from 0 to k may be over the
+ * cell. A program that draws or sums them looks at these levels, and on each at the functions over
+ * the cell's ancestor there: degree_across + 1 of them in a row across and degree_up + 1 up. Those
+ * over column x begin with function x + (degree_across - 1) * c, where c corners are on lines 1 to
+ * x of that level; up it is the same. In the example above, with three levels, class 2 and cells 0
+ * and 3 refined, cell 15 of level 2 is active, and active functions of three levels are over it: 1,
+ * 9 and 29 are among them.
  *
  * What a mark can cost. In class m, not 0, one marked cell of level j refines, itself included, at
  * most
- *   1 + j / (m - 1) * (4 * degree_across + 1) * (4 * degree_up + 1)
+ *   1 + j / (m - 1) * (2 * degree_across + 1) * (2 * degree_up + 1)
  * cells, with / as in C. They are the marked cell and, on each level j - i * (m - 1) for i from 1
- * to j / (m - 1), cells that are at most 2 * degree_across columns and 2 * degree_up rows from its
- * ancestor there. With r rows on level j and s on the coarser one, the ancestor of a cell in row x
- * is in row x / (r / s), and its column is found likewise. Several marks refine at most the sum of
- * their bounds, repeats counted once, and each cell that they refine is one that one of them can
- * reach. A marked function counts as the cells that it stands for. In class 0 just the cells that
- * the marks stand for become refined. All of it holds on every mesh, with corners and without, and
- * of the calls with heights too. Example: columns 8, rows 1, levels 5, both degrees 1, class 2,
- * cell 3 refined. Cell 15 is in column 7 of level 1, so its bound is 26, and besides itself it can
- * reach columns 1 to 5 of level 0. Marked, it refines 2, 4 and 15.
+ * to j / (m - 1), cells that are at most degree_across columns and degree_up rows from its ancestor
+ * there. With r rows on level j and s on the coarser one, the ancestor of a cell in row x is in row
+ * x / (r / s), and its column is found likewise. Several marks refine at most the sum of their
+ * bounds, repeats counted once, and each cell that they refine is one that one of them can reach. A
+ * marked function counts as the cells that it stands for. In class 0 just the cells that the marks
+ * stand for become refined. All of it holds on every mesh, with corners and without, and of the
+ * calls with heights too. Example: columns 8, rows 1, levels 5, both degrees 1, class 2, cell 3
+ * refined. Cell 15 is in column 7 of level 1, so its bound is 10, and besides itself it can reach
+ * columns 2 to 4 of level 0. Marked, it refines 4 and 15.
  *
  * Undo. Keep the lists of each call, cut to the answered lengths. To take a run of calls back, give
  * the kept cell lists from the last call to the first, as marks, each to the opposite call by
@@ -273,9 +282,9 @@ extern "C" {
 /* The version of this header, and the same as one number: major * 1000000 + minor * 1000 + patch.
  * The library answers its own with wallmirror_version. */
 #define WALLMIRROR_VERSION_MAJOR 0
-#define WALLMIRROR_VERSION_MINOR 11
+#define WALLMIRROR_VERSION_MINOR 12
 #define WALLMIRROR_VERSION_PATCH 0
-#define WALLMIRROR_VERSION "0.11.0"
+#define WALLMIRROR_VERSION "0.12.0"
 #define WALLMIRROR_VERSION_NUMBER \
     (WALLMIRROR_VERSION_MAJOR * 1000000 + WALLMIRROR_VERSION_MINOR * 1000 + \
      WALLMIRROR_VERSION_PATCH)
@@ -366,7 +375,8 @@ enum WallmirrorRefusal {
      * of the last level; of the calls on planes also, and first: a spare bit is set, or a bit of
      * refined where that of present is not */
     WALLMIRROR_NOT_A_MESH = 4,
-    /* the mesh is not admissible for the class of the plan */
+    /* the mesh is not admissible for the class of the plan: a refined cell has a neighbourhood that
+     * is not all refined */
     WALLMIRROR_NOT_ADMISSIBLE = 5,
     /* a function byte is not the one that the cells fix */
     WALLMIRROR_WRONG_FUNCTION_BYTE = 6,
