@@ -253,7 +253,7 @@ static void try_accepted(int kind, const struct lent *lent)
 /* The mesh that is said above, and lists that are long enough. */
 static void lend_mesh(struct lent *lent, WallmirrorPlan plan)
 {
-    static const uint32_t marks[2] = {0, 3};
+    static const uint32_t marks[3] = {0, 1, 3}; /* each needs none that comes later */
     size_t i, t = wallmirror_cells_len(plan), f = wallmirror_functions_len(plan);
     lent->plan = plan;
     lent->cells_len = lent->cell_list_len = t;
@@ -265,8 +265,8 @@ static void lend_mesh(struct lent *lent, WallmirrorPlan plan)
     lent->function_list = (uint32_t *)end_of(FUNCTION_LIST, f * sizeof *lent->function_list);
     if (wallmirror_open(plan, lent->cells, t, lent->functions, f) != WALLMIRROR_ACCEPTED)
         wrong++;
-    for (i = 0; i < 2; i++)
-        if (refine_without(lent, wallmirror_refine_cells, marks + i, 1).cells != i + 1)
+    for (i = 0; i < 3; i++)
+        if (refine_without(lent, wallmirror_refine_cells, marks + i, 1).cells != 1)
             wrong++;
     for (i = 0; i < f; i++)
         lent->heights[i] = (int32_t)i % 7;
@@ -316,16 +316,16 @@ static void no_mesh(int kind, struct lent *lent, int variant)
     lent->cells[0] = 3;
 }
 
-/* Cell 1 is no longer refined, which cell 3 needs. */
+/* Cell 6 is refined too, which needs cell 2: it is in column 3 of level 1, beside column 4. */
 static void not_admissible(int kind, struct lent *lent, int variant)
 {
-    static const size_t children[4] = {5, 6, 11, 12};
+    static const size_t children[4] = {21, 22, 33, 34};
     int i;
     (void)kind;
     (void)variant;
-    lent->cells[1] = WALLMIRROR_CELL_ACTIVE;
+    lent->cells[6] = WALLMIRROR_CELL_REFINED;
     for (i = 0; i < 4; i++)
-        lent->cells[children[i]] = WALLMIRROR_CELL_ABSENT;
+        lent->cells[children[i]] = WALLMIRROR_CELL_ACTIVE;
 }
 
 /* 18, or 19. */
@@ -381,8 +381,9 @@ static void short_cell_list(int kind, struct lent *lent, int variant)
         lent->cell_list_len = 0;
 }
 
-/* Function 2, which becomes deactivated, passes half of its height to a function of level 1 that is
- * as high as it may be. */
+/* A function that becomes deactivated passes half of its height to one of the next level that is as
+ * high as it may be: of a mark of cell 2 that is function 2, and function 11 gets it; of a mark of
+ * function 10 it is function 9, which covers cells 3 and 4, and function 30 gets it. */
 static void great_carried(int kind, struct lent *lent, int variant)
 {
     size_t i;
@@ -391,6 +392,7 @@ static void great_carried(int kind, struct lent *lent, int variant)
     lent->heights[2] = WALLMIRROR_MAX_HEIGHT_MM;
     for (i = 8; i < 8 + 21; i++)
         lent->heights[i] = WALLMIRROR_MAX_HEIGHT_MM << 4;
+    lent->heights[30] = WALLMIRROR_MAX_HEIGHT_MM << 8;
 }
 
 enum { FAULTS = 14 };
@@ -457,11 +459,11 @@ static void try_read(WallmirrorDraft draft)
         {17, 1, 3, 1, 1, 2, 1, 62},              /* a column too many */
         {16, 16, 8, 1, 1, 2, 1, 62},             /* too many cells */
         {3, 1, 3, 1, 1, 2, 1, 63, 2, 0, 1},      /* there is no cell 63, and a byte follows */
-        {3, 1, 3, 1, 1, 2, 2, 0, 3, 2, 0, 1},    /* cell 3 needs cell 1, and a byte follows */
-        {3, 1, 3, 1, 1, 2, 1, 0, 2, 0, 1},       /* a byte follows */
-        {3, 1, 3, 1, 1, 2, 1, 0},                /* cell 0 */
+        {3, 1, 3, 1, 1, 2, 2, 0, 4, 2, 0, 1},    /* cell 4 needs cell 1, and a byte follows */
+        {3, 1, 3, 1, 1, 2, 2, 0, 3, 2, 0, 1},    /* a byte follows */
+        {3, 1, 3, 1, 1, 2, 2, 0, 3},             /* cells 0 and 3: cell 3 needs no other */
     };
-    static const size_t lengths[FILES] = {7, 8, 8, 11, 12, 11, 8};
+    static const size_t lengths[FILES] = {7, 8, 8, 11, 12, 12, 9};
     static const uint32_t numbers[FILES] = {
         WALLMIRROR_MALFORMED_FILE, WALLMIRROR_PLAN_OUT_OF_RANGE, WALLMIRROR_TOO_MANY_CELLS,
         WALLMIRROR_NOT_A_MESH,     WALLMIRROR_NOT_ADMISSIBLE,    WALLMIRROR_TRAILING_BYTES,

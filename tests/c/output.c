@@ -243,7 +243,7 @@ static void try_others(void)
                                 deep = WALLMIRROR_PLAN(3, 1, 5, 2, 2, 0),
                                 graded = WALLMIRROR_PLAN(3, 1, 3, 1, 1, 2);
     WallmirrorPlan cubic = WALLMIRROR_PLAN(4, 3, 4, 2, 3, 2), ungraded = graded;
-    static const uint32_t marks[2] = {0, 3}; /* class 2 would refine cell 1 too */
+    static const uint32_t marks[2] = {0, 4}; /* class 2 would refine cell 1 too */
     uint32_t cell_list[63], function_list[94];
     int i;
     open_mesh(large);

@@ -354,14 +354,14 @@ static void wrong_byte(int kind, struct lent *lent, int variant)
     lent->cells[variant % 2 == 0 ? 0 : lent->cells_len - 1] = bytes[variant];
 }
 
-/* Cell 1 is no longer refined, which cell 3 needs. */
+/* Cell 6 is refined too, which needs cell 2: it is in column 3 of level 1, beside column 4. */
 static void not_admissible(int kind, struct lent *lent, int variant)
 {
-    static const size_t children[4] = {5, 6, 11, 12};
+    static const size_t children[4] = {21, 22, 33, 34};
     int i;
     (void)kind;
     (void)variant;
-    flip(lent->refined, 1);
+    flip(lent->refined, 6);
     for (i = 0; i < 4; i++)
         flip(lent->present, children[i]);
 }
