@@ -30,7 +30,7 @@ static uint32_t levels_reached(uint32_t level)
 /* The most cells that a mark of this level refines, itself included. */
 static uint32_t most_refined(uint32_t level)
 {
-    return 1 + levels_reached(level) * (4 * plan.degree_across + 1) * (4 * plan.degree_up + 1);
+    return 1 + levels_reached(level) * (2 * plan.degree_across + 1) * (2 * plan.degree_up + 1);
 }
 
 /* Of the numbers below end, those that are at most radius from middle: the first, and the one after
@@ -62,8 +62,8 @@ static uint32_t reach(WallmirrorPlace at, struct window windows[MOST_WINDOWS])
     uint32_t many = levels_reached(at.level), i;
     windows[0] = window_of(at, at.level, 0, 0);
     for (i = 1; i <= many; i++)
-        windows[i] = window_of(at, at.level - i * (plan.admissibility_class - 1),
-                               2 * plan.degree_up, 2 * plan.degree_across);
+        windows[i] = window_of(at, at.level - i * (plan.admissibility_class - 1), plan.degree_up,
+                               plan.degree_across);
     return 1 + many;
 }
 
@@ -123,7 +123,7 @@ static int refine(uint32_t mark)
 
 int main(void)
 {
-    static const uint32_t marks[3] = {3, 15, 55}; /* 15 is a child of 3, and 55 of 15 */
+    static const uint32_t marks[3] = {3, 15, 87}; /* 15 is a child of 3, and 87 of 15 */
     uint32_t level;
     int i, good = 1;
     t = wallmirror_cells_len(plan);

@@ -108,10 +108,10 @@ static int load(struct mesh *mesh, const char *path)
     return read_mesh(mesh, bytes, length);
 }
 
-/* Opens a mesh of class 2 and refines cell 0 and then cell 3, which takes cell 1 along. */
+/* Opens a mesh of class 2 and refines cell 0 and then cell 4, which takes cell 1 along. */
 static int draw(struct mesh *mesh)
 {
-    static const uint32_t marks[2] = {0, 3};
+    static const uint32_t marks[2] = {0, 4};
     static uint32_t cell_list[WALLMIRROR_MAX_CELLS], function_list[WALLMIRROR_MAX_FUNCTIONS];
     WallmirrorPlan plan = WALLMIRROR_PLAN(3, 1, 3, 1, 1, 2);
     uint32_t number;

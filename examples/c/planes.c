@@ -9,8 +9,8 @@
 
 #include "wallmirror.h"
 
-/* In class 2, with degrees 1, a mark of level 3 refines at most 1 + 3 * 5 * 5 cells. */
-enum { MESHES = 300, CALLS = 3, ROOM = 76 };
+/* In class 2, with degrees 1, a mark of level 3 refines at most 1 + 3 * 3 * 3 cells. */
+enum { MESHES = 300, CALLS = 3, ROOM = 28 };
 enum { CELLS = 21845, WORDS = 342, FUNCTIONS = 22363 };
 
 static const WallmirrorPlan plan = WALLMIRROR_PLAN(1, 1, 8, 1, 1, 2);

@@ -1,6 +1,6 @@
 /*
  * Refines a mesh of class 2 twice, then takes both calls back by their own cell lists, last first.
- * The second call refines cell 1 besides the marked cell 3, because the mesh must stay admissible.
+ * The second call refines cell 1 besides the marked cell 4, because the mesh must stay admissible.
  * The output is to be that of undo.expected.
  */
 #include <stdio.h>
@@ -45,7 +45,7 @@ static void print_count(void)
 
 int main(void)
 {
-    static const uint32_t marks[CALLS] = {0, 3};
+    static const uint32_t marks[CALLS] = {0, 4};
     static struct record done[CALLS], undone;
     uint8_t cells_before[CELLS], functions_before[FUNCTIONS];
     int call;
