@@ -173,6 +173,26 @@ static void lay_sides(const struct layout *at, uint32_t level, struct side *acro
     lay_side(up, at->rows[level], level, at->up, at->corners_up);
 }
 
+/* Makes each span of cells that of their parents. */
+static void parents_of(struct span *spans, size_t n)
+{
+    size_t i;
+    for (i = 0; i < n; i++) {
+        spans[i].from = (uint16_t)(spans[i].from / 2);
+        spans[i].to = (uint16_t)((spans[i].to + 1) / 2);
+    }
+}
+
+/* Makes of the spans of two cells beside each other, children of one, the span of both. */
+static void of_both_children(struct span *spans, size_t parents)
+{
+    size_t i;
+    for (i = 0; i < parents; i++) {
+        spans[i].from = spans[2 * i].from;
+        spans[i].to = spans[2 * i + 1].to;
+    }
+}
+
 /*
  * Entry (j, i) of out, `stride` to a row, is the least byte of from within span j of its rows and
  * span i of its columns. from has `height` rows of `width`.
@@ -204,22 +224,35 @@ static void least_over(const uint8_t *from, size_t width, size_t height, const s
 /* ---- Supports and neighbourhoods ---- */
 
 /*
- * Entry (row + up, column + across) of out, with columns + across to a row, is the least byte of
- * the neighbourhood of a cell: the cells that differ by at most the degrees, or fewer at corners.
+ * For each cell of the next level the least byte of its neighbourhood on this one: of the parents
+ * of the cells that differ from it by at most the degrees, or fewer at corners. Without corners the
+ * parents of columns i - across to i + across are as many as a function covers, and the last of
+ * them is (i + across) / 2.
  */
 static void neighbourhoods(const struct layout *at, uint32_t level, const uint8_t *from,
                            uint8_t *out)
 {
-    uint8_t spare[ROOM];
+    uint8_t spare[ROOM], least[ROOM];
     struct side across, up;
     size_t columns = at->columns[level], rows = at->rows[level], width = columns + at->across;
-    if (!has_corners(at)) {
-        windows(from, columns, rows, at->across, 2 * at->across, 2 * at->up, spare, out);
+    size_t even = at->across / 2, odd = (at->across + 1) / 2, row, i;
+    if (has_corners(at)) {
+        lay_sides(at, level + 1, &across, &up);
+        parents_of(across.near, 2 * columns);
+        parents_of(up.near, 2 * rows);
+        least_over(from, columns, rows, across.near, 2 * columns, up.near, 2 * rows, out,
+                   2 * columns);
         return;
     }
-    lay_sides(at, level, &across, &up);
-    least_over(from, columns, rows, across.near, columns, up.near, rows,
-               out + at->up * width + at->across, width);
+    windows(from, columns, rows, at->across, at->across, at->up, spare, least);
+    for (row = 0; row < 2 * rows; row++) {
+        const uint8_t *restrict over = least + (row + at->up) / 2 * width;
+        uint8_t *restrict to = out + row * 2 * columns;
+        for (i = 0; i < columns; i++) {
+            to[2 * i] = over[i + even];
+            to[2 * i + 1] = over[i + odd];
+        }
+    }
 }
 
 /* For each function the least byte of its support, on a level with corners. */
@@ -312,16 +345,16 @@ static int is_admissible(const struct layout *at, const uint8_t *cells)
     if (at->back == 0)
         return 1;
     for (level = at->back; level + 1 < at->levels; level++) {
-        uint32_t above = level - at->back;
-        size_t n = at->columns[level], width = at->columns[above] + at->across, row, i;
+        /* the ancestors are on level above + 1, so many levels up */
+        uint32_t above = level - at->back, between = at->back - 1;
+        size_t n = at->columns[level], width = at->columns[above + 1], row, i;
         const uint8_t *here = cells + at->cells_at[level], *needed = 0;
         if (!memchr(here, 2, cells_of(at, level)))
             continue;
         neighbourhoods(at, above, cells + at->cells_at[above], near);
         for (row = 0; row < at->rows[level]; row++, here += n) {
-            if (row % ((size_t)1 << at->back) == 0)
-                needed = stretched(near + ((row >> at->back) + at->up) * width + at->across,
-                                   at->columns[above], at->back, buffers);
+            if (row % ((size_t)1 << between) == 0)
+                needed = stretched(near + (row >> between) * width, width, between, buffers);
             for (i = 0; i < n; i++)
                 wrong |= (uint8_t)((here[i] == 2) & (needed[i] != 2));
         }
@@ -440,21 +473,21 @@ static void flag_covered(const struct layout *at, const uint8_t *weights, const 
 
 /* ---- The smallest admissible mesh ---- */
 
-/* ancestors[i] = 1 where a cell `back` levels below has byte 1, else 2. */
-static void write_ancestors(const struct layout *at, uint32_t level, const uint8_t *below,
-                            uint8_t *ancestors)
+/* ancestors[i] = 1 where a cell `between` levels below has byte 1, else 2. */
+static void write_ancestors(const struct layout *at, uint32_t level, uint32_t between,
+                            const uint8_t *below, uint8_t *ancestors)
 {
-    uint32_t finer = level + at->back, step;
+    uint32_t finer = level + between, step;
     size_t n = at->columns[finer], columns = at->columns[level], row, i;
     uint8_t any[WIDEST_ROW];
     for (row = 0; row < at->rows[finer]; row++, below += n) {
-        if (row % ((size_t)1 << at->back) == 0)
+        if (row % ((size_t)1 << between) == 0)
             memset(any, 0, n);
         for (i = 0; i < n; i++)
             any[i] |= below[i] == 1;
-        if ((row + 1) % ((size_t)1 << at->back) != 0)
+        if ((row + 1) % ((size_t)1 << between) != 0)
             continue;
-        for (step = 1; step <= at->back; step++)
+        for (step = 1; step <= between; step++)
             for (i = 0; i < n >> step; i++)
                 any[i] = any[2 * i] | any[2 * i + 1];
         for (i = 0; i < columns; i++)
@@ -463,17 +496,39 @@ static void write_ancestors(const struct layout *at, uint32_t level, const uint8
     }
 }
 
+/*
+ * For each cell of a level the least byte of the cells of the next that have it in their
+ * neighbourhood: of those that differ by at most the degrees, or fewer at corners, from a child.
+ */
+static void near_children(const struct layout *at, uint32_t level, const uint8_t *finer,
+                          uint8_t *out)
+{
+    uint8_t spare[ROOM], least[ROOM];
+    struct side across, up;
+    size_t n = at->columns[level], rows = at->rows[level], width = 2 * n + at->across, row, i;
+    if (has_corners(at)) {
+        lay_sides(at, level + 1, &across, &up);
+        of_both_children(across.near, n);
+        of_both_children(up.near, rows);
+        least_over(finer, 2 * n, 2 * rows, across.near, n, up.near, rows, out, n);
+        return;
+    }
+    windows(finer, 2 * n, 2 * rows, at->across, 2 * at->across + 1, 2 * at->up + 1, spare, least);
+    for (row = 0; row < rows; row++)
+        for (i = 0; i < n; i++)
+            out[row * n + i] = least[(2 * row + 1 + at->up) * width + 2 * i + 1 + at->across];
+}
+
 /* needed[i] = 1 where the level has a cell that a cell of byte 1, `back` levels below, needs. */
 static void write_needed(const struct layout *at, uint32_t level, const uint8_t *below,
                          uint8_t *needed)
 {
     uint8_t ancestors[ROOM], near[ROOM];
-    size_t n = at->columns[level], width = n + at->across, row, i;
-    write_ancestors(at, level, below, ancestors);
-    neighbourhoods(at, level, ancestors, near);
-    for (row = 0; row < at->rows[level]; row++)
-        for (i = 0; i < n; i++)
-            needed[row * n + i] = near[(row + at->up) * width + at->across + i] == 1;
+    size_t i;
+    write_ancestors(at, level + 1, at->back - 1, below, ancestors);
+    near_children(at, level, ancestors, near);
+    for (i = 0; i < cells_of(at, level); i++)
+        needed[i] = near[i] == 1;
 }
 
 /*
