@@ -38,12 +38,12 @@ ghost use Rattle.outcomes.specs.Calls.{refine, coarsen};
 ghost use Rattle.drafts.specs.Drafts.{openDraft, dropDraft, addMarks, closeDraft, outcomeWithDraft, outcomeWithHeightsAndDraft, draftAfterOpen, draftAfterRead};
 ghost use Rattle.drafts.specs.Contracts.{leftByAdd, leftByClose, MeetsWithDraft, MeetsWithHeightsAndDraft};
 
-// 0.11.0, as major * 1,000,000 + minor * 1,000 + patch.
+// 0.12.0, as major * 1,000,000 + minor * 1,000 + patch.
 #[no_mangle]
 pub extern "C" fn wallmirror_version() -> u32
-    ensures { λ r. ⌜ r ≡ 11000 ⌝ }
+    ensures { λ r. ⌜ r ≡ 12000 ⌝ }
 {
-    11000
+    12000
 }
 
 #[no_mangle]
