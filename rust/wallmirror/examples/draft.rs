@@ -24,11 +24,11 @@ fn run() -> Result<(), Refusal> {
 
     season.open_draft()?;
     println!("a draft is open");
-    add(&mut season, "the first setter", &[Cell(3)]);
+    add(&mut season, "the first setter", &[Cell(4)]);
     look(&season)?;
-    add(&mut season, "the second setter", &[Cell(2), Cell(3)]);
-    // Cell 5 is absent, so cell 4 is not added either.
-    add(&mut season, "the first setter", &[Cell(4), Cell(5)]);
+    add(&mut season, "the second setter", &[Cell(2), Cell(4)]);
+    // Cell 5 is absent, so cell 3 is not added either.
+    add(&mut season, "the first setter", &[Cell(3), Cell(5)]);
     look(&season)?;
     if let Err(refusal) = season.refine_cells(&[Cell(2)]) {
         println!("refine: {refusal}");

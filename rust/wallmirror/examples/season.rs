@@ -42,10 +42,10 @@ fn run() -> Result<(), Refusal> {
 fn calls() -> [Call; 6] {
     [
         Call::RefineCells(vec![Cell(0)]),
-        Call::RefineCells(vec![Cell(3)]),  // a child of cell 0
-        Call::CoarsenCells(vec![Cell(0)]), // which is not possible while cell 3 is refined
+        Call::RefineCells(vec![Cell(3), Cell(4)]), // children of cell 0, and 4 needs cell 1
+        Call::CoarsenCells(vec![Cell(0)]),         // which is not possible while a child is refined
         Call::RefineFunctions(vec![Function(2)]),
-        Call::CoarsenFunctions(vec![Function(8)]), // over cell 3 alone
+        Call::CoarsenFunctions(vec![Function(8), Function(9)]), // over cells 3 and 4 alone
         Call::CoarsenCells(vec![Cell(0), Cell(2)]),
     ]
 }

@@ -16,10 +16,10 @@
 //! let plan = Plan { columns: 3, levels: 3, admissibility_class: 2, ..Plan::default() };
 //! let mut mesh = Mesh::open(plan)?;
 //! mesh.refine_cells(&[Cell(0)])?;
-//! let lists = mesh.refine_cells(&[Cell(3)])?;
+//! let lists = mesh.refine_cells(&[Cell(4)])?;
 //! // Cell 1 became refined too, because the mesh has to stay admissible.
-//! assert_eq!(lists.cells, [Cell(1), Cell(3)]);
-//! assert_eq!(lists.functions, [Function(1), Function(5), Function(8)]);
+//! assert_eq!(lists.cells, [Cell(1), Cell(4)]);
+//! assert_eq!(lists.functions, [Function(1), Function(5)]);
 //! # Ok::<(), wallmirror::Refusal>(())
 //! ```
 //!
@@ -72,12 +72,31 @@
 //! # Ok::<(), wallmirror::Refusal>(())
 //! ```
 //!
+//! # Admissible meshes
+//!
 //! In class m, not 0, a refined cell of level j with j - m + 1 at least 0 has a neighbourhood: the
-//! cells of level j - m + 1 that, across as well as up, are covered by a common function of that
-//! level with its ancestor there. Without corners these are the cells whose column differs by at
-//! most the degree across, and row by at most the degree up, from those of the ancestor; with them
-//! there may be fewer. A mesh is admissible where the neighbourhood of every refined cell is
-//! refined. In class 0 every mesh is.
+//! cells of level j - m + 1 that have a child which, across as well as up, is covered by a common
+//! function of level j - m + 2 with the cell's ancestor there (in class 2 the cell itself). Without
+//! corners such a child's column differs by at most the degree across, and its row by at most the
+//! degree up, from those of the ancestor; with them there may be fewer. A mesh is admissible where
+//! the neighbourhood of every refined cell is refined. In class 0 every mesh is.
+//!
+//! ```
+//! # use wallmirror::{Cell, Mesh, Plan};
+//! let plan = Plan { columns: 3, levels: 3, admissibility_class: 2, ..Plan::default() };
+//! let mut mesh = Mesh::open(plan)?;
+//! mesh.refine_cells(&[Cell(0)])?;
+//! // Cell 3 is in column 0 of level 1. Columns 0 and 1 are at most 1 from it, both of them in cell 0.
+//! assert_eq!(mesh.refine_cells(&[Cell(3)])?.cells, [Cell(3)]);
+//! // Cell 4 is in column 1. Column 2 is at most 1 from it too, and is in cell 1.
+//! assert_eq!(mesh.refine_cells(&[Cell(4)])?.cells, [Cell(1), Cell(4)]);
+//! # Ok::<(), wallmirror::Refusal>(())
+//! ```
+//!
+//! This is the rule for truncated functions. Before version 0.12 it was the one for functions that
+//! are not truncated: there a neighbourhood had the cells of level j - m + 1 that a function of their
+//! own level covers with the ancestor, which are these and often more. A mesh that was admissible
+//! then is admissible now, and its file is read as before. The same marks may refine fewer cells.
 //!
 //! # Corners
 //!
@@ -105,13 +124,16 @@
 //! # Levels over a cell
 //!
 //! A function is over a cell where its support and the cell have a point in common, whatever their
-//! levels. In class m, not 0, the active functions over an active cell of level k all have levels
-//! from k - m + 1 to k. Functions of finer levels are passive there, those of coarser ones
-//! deactivated. So a program that draws or sums the functions over a cell has at most m levels to
-//! look at, and on each the functions over the cell's ancestor there: `degree_across` + 1 of them in
-//! a row across and `degree_up` + 1 up. Those over column x begin with function
-//! x + (`degree_across` - 1) · c, where c corners are on lines 1 to x of that level; up it is the
-//! same.
+//! levels. In class m, not 0, every function of level k - m + 1 or coarser that is over an active cell
+//! of level k is active or deactivated, and those of levels finer than k are passive. So truncated
+//! functions of levels coarser than k - m + 1 vanish over the cell, and a program that works with the
+//! truncated basis has at most m levels to look at there. The functions of the library are not
+//! truncated, and active ones of any coarser level may be over the cell.
+//!
+//! On each level from 0 to k the functions over the cell are those over its ancestor there:
+//! `degree_across` + 1 of them in a row across and `degree_up` + 1 up. Those over column x begin with
+//! function x + (`degree_across` - 1) · c, where c corners are on lines 1 to x of that level; up it is
+//! the same.
 //!
 //! ```
 //! # use wallmirror::{Cell, Function, Mesh, Plan};
@@ -119,28 +141,35 @@
 //! # let mut mesh = Mesh::open(plan)?;
 //! # mesh.refine_cells(&[Cell(0)])?;
 //! # mesh.refine_cells(&[Cell(3)])?;
-//! // Cells 0, 1 and 3 are refined. Cell 15 is active, the first of level 2.
+//! // Cells 0 and 3 are refined. Cell 15 is active, the first of level 2.
 //! let cell = plan.place(Cell(15)).unwrap();
-//! let mut active = vec![vec![]; 3];
-//! for function in (0..94).filter(|&function| mesh.functions[function as usize] == 1) {
+//! let (mut active, mut deactivated) = (vec![vec![]; 3], vec![]);
+//! for function in 0..94 {
 //!     let support = plan.support(Function(function)).unwrap();
 //!     // The cell is of the last level, and so has an ancestor on every other.
 //!     let up = cell.level - support.level;
 //!     let (row, column) = (cell.row >> up, cell.column >> up);
 //!     if support.rows.contains(&row) && support.columns.contains(&column) {
-//!         active[support.level as usize].push(function);
+//!         match mesh.functions[function as usize] {
+//!             1 => active[support.level as usize].push(function),
+//!             2 => deactivated.push(function),
+//!             // Only functions of levels after 2 - 2 + 1 may be passive.
+//!             _ => assert!(support.level > 1),
+//!         }
 //!     }
 //! }
-//! assert_eq!(active, [vec![], vec![9, 15, 16], vec![29, 30, 42, 43]]);
+//! assert_eq!(deactivated, [0, 4, 8]);
+//! // Functions 1 and 5 are of level 0. Truncated they are 0 over the cell.
+//! assert_eq!(active, [vec![1, 5], vec![9, 15, 16], vec![29, 30, 42, 43]]);
 //! # Ok::<(), wallmirror::Refusal>(())
 //! ```
 //!
 //! # What a mark can cost
 //!
-//! In class m, not 0, one marked cell of level j refines at most 1 + ⌊j/(m-1)⌋·(4p+1)·(4q+1) cells,
+//! In class m, not 0, one marked cell of level j refines at most 1 + ⌊j/(m-1)⌋·(2p+1)·(2q+1) cells,
 //! itself included, where p and q are the degrees across and up: [`Plan::most_refined`]. They are
 //! the marked cell and, on each level j - i·(m-1) for i from 1 to ⌊j/(m-1)⌋, cells that are at most
-//! 2p columns and 2q rows from its ancestor there: [`Plan::reach`]. Several marks refine at most
+//! p columns and q rows from its ancestor there: [`Plan::reach`]. Several marks refine at most
 //! the sum of their bounds, repeats counted once, and each cell that they refine is within the
 //! reach of one of them. A marked function counts as the cells that it stands for. In class 0 just
 //! the cells that the marks stand for become refined. All of it holds on every mesh, with corners
@@ -153,9 +182,9 @@
 //! mesh.refine_cells(&[Cell(3)])?;
 //! // Cell 15 is of level 1, so it reaches one level more, level 0.
 //! let (most, reach) = (plan.most_refined(1).unwrap(), plan.reach(Cell(15)).unwrap());
-//! assert_eq!(most, 1 + (4 + 1) * (4 + 1));
+//! assert_eq!(most, 1 + (2 + 1) * (2 + 1));
 //! let refined = mesh.refine_cells(&[Cell(15)])?.cells;
-//! assert_eq!(refined, [2, 4, 15].map(Cell));
+//! assert_eq!(refined, [4, 15].map(Cell));
 //! assert!(refined.len() <= most);
 //! for cell in refined {
 //!     let place = plan.place(cell).unwrap();
@@ -217,23 +246,23 @@
 //! let mut season = Season::new(Mesh::open(plan)?)?;
 //! season.refine_cells(&[Cell(0)])?;
 //! season.open_draft()?;
-//! season.add_marks(&[Cell(3)])?; // one setter
-//! season.add_marks(&[Cell(2), Cell(3)])?; // another one
-//! // Cell 5 is absent, so cell 4 is not added either.
-//! assert_eq!(season.add_marks(&[Cell(4), Cell(5)]), Err(Refusal::MarkOfWrongKind));
-//! assert_eq!(season.mesh().draft, Some([3, 2, 3].map(Cell).to_vec()));
+//! season.add_marks(&[Cell(4)])?; // one setter
+//! season.add_marks(&[Cell(2), Cell(4)])?; // another one
+//! // Cell 5 is absent, so cell 3 is not added either.
+//! assert_eq!(season.add_marks(&[Cell(3), Cell(5)]), Err(Refusal::MarkOfWrongKind));
+//! assert_eq!(season.mesh().draft, Some([4, 2, 4].map(Cell).to_vec()));
 //! // Meanwhile the mesh is the one without the draft, and nothing else refines it.
 //! assert_eq!(season.mesh().count()?.refined_cells, 1);
 //! assert_eq!(season.refine_cells(&[Cell(1)]), Err(Refusal::DraftOpen));
 //! assert_eq!(season.undo(), Err(Refusal::DraftOpen));
 //! // Cell 1 becomes refined too, because the mesh has to stay admissible.
-//! assert_eq!(season.close_draft()?.cells, [1, 2, 3].map(Cell));
+//! assert_eq!(season.close_draft()?.cells, [1, 2, 4].map(Cell));
 //! assert_eq!(season.mesh().draft, None);
 //! assert_eq!(season.close_draft(), Err(Refusal::NoDraft));
 //! // It is one refinement, and is taken back as one.
 //! let undone = season.undo()?.unwrap();
-//! assert_eq!(undone.made.call, Call::RefineCells([3, 2, 3].map(Cell).to_vec()));
-//! assert_eq!(undone.opposite, Call::CoarsenCells([1, 2, 3].map(Cell).to_vec()));
+//! assert_eq!(undone.made.call, Call::RefineCells([4, 2, 4].map(Cell).to_vec()));
+//! assert_eq!(undone.opposite, Call::CoarsenCells([1, 2, 4].map(Cell).to_vec()));
 //! assert_eq!(season.mesh().count()?.refined_cells, 1);
 //! # Ok::<(), wallmirror::Refusal>(())
 //! ```
@@ -282,7 +311,7 @@
 //! assert_eq!(planes.count()?.active_cells, 6);
 //!
 //! let mut season = Season::new(planes.clone())?;
-//! assert_eq!(season.refine_cells(&[Cell(3)])?.cells, [Cell(1), Cell(3)]);
+//! assert_eq!(season.refine_cells(&[Cell(4)])?.cells, [Cell(1), Cell(4)]);
 //! season.undo_all()?;
 //! assert_eq!(season.mesh(), &planes);
 //!

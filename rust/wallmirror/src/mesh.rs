@@ -19,9 +19,9 @@ use crate::{
 /// let mut mesh = Mesh::open(plan)?;
 /// mesh.refine_cells(&[Cell(0)])?;
 /// // Cell 1 becomes refined too, because the mesh has to stay admissible.
-/// let lists = mesh.refine_cells(&[Cell(3)])?;
-/// assert_eq!(lists.cells, [Cell(1), Cell(3)]);
-/// assert_eq!(lists.functions, [Function(1), Function(5), Function(8)]);
+/// let lists = mesh.refine_cells(&[Cell(4)])?;
+/// assert_eq!(lists.cells, [Cell(1), Cell(4)]);
+/// assert_eq!(lists.functions, [Function(1), Function(5)]);
 /// // Given to the opposite call, the cells take it back.
 /// assert_eq!(mesh.coarsen_cells(&lists.cells)?, lists);
 /// # Ok::<(), wallmirror::Refusal>(())

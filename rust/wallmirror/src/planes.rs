@@ -21,10 +21,10 @@ use crate::{
 /// planes.refine_cells(&[Cell(0)])?;
 /// let mut mesh = planes.to_mesh()?;
 /// // Cell 1 becomes refined too, because the mesh has to stay admissible.
-/// let lists = planes.refine_cells(&[Cell(3)])?;
-/// assert_eq!(lists.cells, [Cell(1), Cell(3)]);
+/// let lists = planes.refine_cells(&[Cell(4)])?;
+/// assert_eq!(lists.cells, [Cell(1), Cell(4)]);
 /// // It is what the mesh does, and both are the same then.
-/// assert_eq!(mesh.refine_cells(&[Cell(3)])?, lists);
+/// assert_eq!(mesh.refine_cells(&[Cell(4)])?, lists);
 /// assert_eq!(planes, Planes::from_mesh(&mesh)?);
 /// // Given to the opposite call, the cells take it back.
 /// assert_eq!(planes.coarsen_cells(&lists.cells)?, lists);

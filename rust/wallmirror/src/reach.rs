@@ -16,9 +16,9 @@ impl Window {
     ///
     /// ```
     /// # use wallmirror::{Place, Window};
-    /// let window = Window { level: 0, rows: 0..1, columns: 1..6 };
-    /// assert!(window.contains(Place { level: 0, row: 0, column: 5 }));
-    /// assert!(!window.contains(Place { level: 1, row: 0, column: 5 }));
+    /// let window = Window { level: 0, rows: 0..1, columns: 2..5 };
+    /// assert!(window.contains(Place { level: 0, row: 0, column: 4 }));
+    /// assert!(!window.contains(Place { level: 1, row: 0, column: 4 }));
     /// ```
     pub fn contains(&self, place: Place) -> bool {
         place.level == self.level
@@ -29,29 +29,29 @@ impl Window {
 
 impl Plan {
     /// The most cells that one marked cell of this level refines, itself included:
-    /// 1 + ⌊j/(m-1)⌋·(4p+1)·(4q+1) for level j, class m and degrees p across and q up, and 1 in
+    /// 1 + ⌊j/(m-1)⌋·(2p+1)·(2q+1) for level j, class m and degrees p across and q up, and 1 in
     /// class 0. It holds on every mesh of the plan. What it means for several marks and for marked
     /// functions is said [above](crate#what-a-mark-can-cost). `None` where [`Plan::level`] is.
     ///
     /// ```
     /// # use wallmirror::Plan;
     /// let plan = Plan { columns: 8, levels: 5, admissibility_class: 2, ..Plan::default() };
-    /// assert_eq!([0, 1, 2].map(|level| plan.most_refined(level).unwrap()), [1, 26, 51]);
+    /// assert_eq!([0, 1, 2].map(|level| plan.most_refined(level).unwrap()), [1, 10, 19]);
     /// // In class 3 a mark reaches every second level.
     /// let plan = Plan { admissibility_class: 3, ..plan };
-    /// assert_eq!([0, 1, 2].map(|level| plan.most_refined(level).unwrap()), [1, 1, 26]);
+    /// assert_eq!([0, 1, 2].map(|level| plan.most_refined(level).unwrap()), [1, 1, 10]);
     /// assert_eq!(plan.most_refined(5), None);
     /// ```
     pub fn most_refined(self, level: u32) -> Option<usize> {
         self.level(level)?;
-        let across = 4 * self.degree_across as usize + 1;
-        let up = 4 * self.degree_up as usize + 1;
+        let across = 2 * self.degree_across as usize + 1;
+        let up = 2 * self.degree_up as usize + 1;
         Some(1 + self.levels_reached(level).count() * across * up)
     }
 
     /// Where the cells lie that one marked cell of level j can refine: first the cell itself, and
     /// then, on each of the levels j - (m-1), j - 2·(m-1), .. that there are, the cells that are at
-    /// most 2p columns and 2q rows from its ancestor there. It holds on every mesh of the plan. In
+    /// most p columns and q rows from its ancestor there. It holds on every mesh of the plan. In
     /// class 0 it is the cell alone. `None` where [`Plan::place`] is.
     ///
     /// ```
@@ -59,7 +59,7 @@ impl Plan {
     /// let plan = Plan { columns: 8, levels: 5, admissibility_class: 2, ..Plan::default() };
     /// // Cell 15 is in column 7 of level 1, and its parent in column 3 of level 0.
     /// let own = Window { level: 1, rows: 0..1, columns: 7..8 };
-    /// let coarser = Window { level: 0, rows: 0..1, columns: 1..6 };
+    /// let coarser = Window { level: 0, rows: 0..1, columns: 2..5 };
     /// assert_eq!(plan.reach(Cell(15)), Some(vec![own, coarser]));
     /// ```
     pub fn reach(self, cell: Cell) -> Option<Vec<Window>> {
@@ -73,8 +73,8 @@ impl Plan {
                 (fine.rows / coarse.rows, fine.columns / coarse.columns);
             windows.push(Window {
                 level,
-                rows: around(row / rows_in_it, 2 * self.degree_up, coarse.rows),
-                columns: around(column / columns_in_it, 2 * self.degree_across, coarse.columns),
+                rows: around(row / rows_in_it, self.degree_up, coarse.rows),
+                columns: around(column / columns_in_it, self.degree_across, coarse.columns),
             });
         }
         Some(windows)

@@ -8,7 +8,7 @@ pub const PLAN: Plan = Plan { columns: 3, levels: 3, admissibility_class: 2, ..P
 /// coarsened. Cell 10 can be refined too, with another outcome than function 10.
 pub fn worked() -> Mesh {
     let mut mesh = Mesh::open(PLAN).expect("a plan");
-    for mark in [0, 3] {
+    for mark in [0, 1, 3] {
         mesh.refine_cells(&[Cell(mark)]).expect("a cell to refine");
     }
     mesh
