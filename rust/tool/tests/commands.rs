@@ -32,7 +32,7 @@ fn after(lines: &[&str]) -> Folder {
 
 /// A wall of two calls.
 fn march() -> Folder {
-    after(&[NEW, "split march.wall 0", "split march.wall 3"])
+    after(&[NEW, "split march.wall 0", "split march.wall 3 4"])
 }
 
 fn mode(folder: &Folder, name: &str) -> u32 {
@@ -56,8 +56,9 @@ fn calls_and_the_way_back() {
     }
     for (line, printed) in [
         ("split march.wall 0", "0;0;0 4\n"),
-        ("split march.wall 3 3", "0;1 3;1 5 8\n"),
-        ("fjoin march.wall 8", "0;3;8\n"),
+        // Cell 4 needs cell 1: its column 1 and column 2, which stands on 1, are one apart.
+        ("split march.wall 4 3 4", "0;1 3 4;1 5 8 9\n"),
+        ("fjoin march.wall 8 9", "0;3 4;8 9\n"),
         ("fsplit march.wall 2", "0;2;2 3 6 7\n"),
         ("join march.wall 2 1", "0;1 2;1 2 3 5 6 7\n"),
         ("join march.wall", "0;;\n"),
@@ -169,16 +170,16 @@ fn reaches_that_are_wrong() {
     }
 }
 
-/// Cells 0, 1 and 3 are split, and the last level has the cells from 15 on.
+/// Cells 0, 1, 3 and 4 are split, and the last level has the cells from 15 on.
 #[test]
 fn reaches_of_all_cells_are_drawn() {
     let folder = march();
     let before = folder.all();
     for cell in 0..63 {
         let refused = match cell {
-            0 | 1 | 3 => Some("is split already"),
-            15 | 16 | 27 | 28 => Some("is of the last level"),
-            7 | 8 | 13 | 14 | 17..63 => Some("is absent"),
+            0 | 1 | 3 | 4 => Some("is split already"),
+            15..=18 | 27..=30 => Some("is of the last level"),
+            7 | 8 | 13 | 14 | 19..=26 | 31..63 => Some("is absent"),
             _ => None,
         };
         let picture = done(&folder, &format!("draw march.wall --reach {cell}"));
@@ -197,14 +198,14 @@ fn reaches_of_all_cells_are_drawn() {
 #[test]
 fn the_options_of_a_picture_in_any_order() {
     let folder = march();
-    let picture = done(&folder, "draw march.wall --functions --changed --reach 4");
+    let picture = done(&folder, "draw march.wall --functions --changed --reach 5");
     for id in ["functions", "split", "reach"] {
         assert!(picture.contains(&format!("<g id=\"{id}\"")), "{id}");
     }
     for line in [
-        "draw --reach 4 --changed march.wall --functions",
-        "draw --functions --reach 0004 --changed --changed -- march.wall",
-        "draw march.wall -o - --reach 4 --functions --changed",
+        "draw --reach 5 --changed march.wall --functions",
+        "draw --functions --reach 0005 --changed --changed -- march.wall",
+        "draw march.wall -o - --reach 5 --functions --changed",
     ] {
         assert_eq!(done(&folder, line), picture, "{line}");
     }
@@ -282,7 +283,7 @@ fn no_walls() -> Vec<(Vec<u8>, u32)> {
         (vec![16, 16, 5, 1, 1, 0, 0], 2),
         (vec![3, 1, 3, 1, 1, 0, 1, 3], 4),
         (vec![3, 1, 3, 1, 1, 0, 1, 63], 4),
-        (vec![3, 1, 3, 1, 1, 2, 2, 0, 3], 5),
+        (vec![3, 1, 3, 1, 1, 2, 2, 0, 4], 5),
         (vec![3, 2, 2, 2, 2, 2, 0, 2, 0, 5], 13),
         // Longer than any wall.
         ([&[3, 2, 2, 2, 2, 2, 0, 2, 0][..], &[5; 9000]].concat(), 13),
@@ -391,8 +392,8 @@ fn leftovers_do_no_harm() {
     bad(&folder, "split march.wall 0", &["march.wall' cannot be written: File exists", "; try "]);
 }
 
-/// The first mark at fault in list order is named. Cells 0, 1 and 3 are split; functions 0, 1, 4, 5
-/// and 8 are deactivated.
+/// The first mark at fault in list order is named. Cells 0, 1, 3 and 4 are split; functions 0, 1, 4,
+/// 5, 8 and 9 are deactivated.
 #[test]
 fn calls_that_are_refused() {
     let folder = march();
@@ -401,7 +402,7 @@ fn calls_that_are_refused() {
         ("split 2 99 0", 7, "99, where cells go from 0 to 62"),
         ("split 2 0 99", 8, "cell 0 is split already"),
         ("split 7", 8, "cell 7 is absent"),
-        ("split 17", 8, "cell 17 is absent"),
+        ("split 19", 8, "cell 19 is absent"),
         ("split 2 2 15 0 99", 9, "cell 15 is of the last level"),
         ("join 63", 7, "63, where cells go from 0 to 62"),
         ("join 3 2 0", 8, "cell 2 is active, not split"),
@@ -428,7 +429,7 @@ fn files_that_may_not_be_written() {
         let folder = march();
         set_mode(&folder, name, 0o444);
         for line in
-            ["split march.wall 2", "fjoin march.wall 8", "back march.wall 1", "back march.wall"]
+            ["split march.wall 2", "fjoin march.wall 8 9", "back march.wall 1", "back march.wall"]
         {
             bad(&folder, line, &[&format!("{name}' may not be written; 'chmod u+w' allows it")]);
         }
@@ -480,7 +481,7 @@ fn pictures_in_files() {
     fs::create_dir(folder.path("april")).expect("a folder");
     symlink("april/b", folder.path("link")).expect("a link");
     folder.write("april/b", "something longer than nothing");
-    for command in ["draw", "export", "draw --functions", "draw --changed", "draw --reach 4"] {
+    for command in ["draw", "export", "draw --functions", "draw --changed", "draw --reach 5"] {
         let printed = done(&folder, &format!("{command} march.wall"));
         assert_eq!(done(&folder, &format!("{command} march.wall -o -")), printed);
         for out in ["a", "a", "april/a", "./april/a", "link", "/dev/null"] {
@@ -579,8 +580,8 @@ fn walls_through_links_and_in_other_folders() {
     symlink("april/a.wall", folder.path("link")).expect("a link");
     symlink("april", folder.path("folder")).expect("a link");
     assert_eq!(done(&folder, "split link 0"), "0;0;0 4\n");
-    assert_eq!(done(&folder, "split april/a.wall 3"), "0;1 3;1 5 8\n");
-    assert_eq!(done(&folder, "fjoin folder/a.wall 8"), "0;3;8\n");
+    assert_eq!(done(&folder, "split april/a.wall 3 4"), "0;1 3 4;1 5 8 9\n");
+    assert_eq!(done(&folder, "fjoin folder/a.wall 8 9"), "0;3 4;8 9\n");
     let absolute = folder.path("april/../link").into_os_string().into_string().expect("text");
     assert_eq!(done(&folder, &format!("fsplit {absolute} 2")), "0;2;2 3 6 7\n");
     let names = ["april", "april/a.wall", "april/a.wall.journal", "folder", "link"];

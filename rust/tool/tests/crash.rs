@@ -48,19 +48,19 @@ const CHANGES: [Change; 13] = [
         damage: Damage::None,
         line: "fsplit march.wall 1",
     },
-    Change { before: &TWO, damage: Damage::None, line: "fjoin march.wall 8" },
+    Change { before: &TWO, damage: Damage::None, line: "fjoin march.wall 8 9" },
     Change { before: &TWO, damage: Damage::None, line: "back march.wall 1" },
     Change { before: &TWO, damage: Damage::None, line: "back march.wall" },
     Change { before: &TWO, damage: Damage::NoWall, line: "restore march.wall" },
-    Change { before: &TWO, damage: Damage::NoJournal, line: "join march.wall 1 3" },
+    Change { before: &TWO, damage: Damage::NoJournal, line: "join march.wall 1 3 4" },
     Change { before: &TWO, damage: Damage::NoJournal, line: "accept march.wall" },
     Change { before: &TWO, damage: Damage::OlderWall, line: "accept march.wall" },
     Change { before: &TWO, damage: Damage::HalfMade, line: "accept march.wall" },
-    Change { before: &TWO, damage: Damage::HalfMade, line: "join march.wall 1 3" },
+    Change { before: &TWO, damage: Damage::HalfMade, line: "join march.wall 1 3 4" },
     Change { before: &TWO, damage: Damage::HalfMade, line: "back march.wall 1" },
 ];
 
-const TWO: [&str; 3] = [NEW, "split march.wall 0", "split march.wall 3"];
+const TWO: [&str; 3] = [NEW, "split march.wall 0", "split march.wall 3 4"];
 
 /// Wall and journal, where they are there.
 #[derive(Clone, Debug, PartialEq, Eq, PartialOrd, Ord)]

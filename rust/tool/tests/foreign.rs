@@ -35,7 +35,7 @@ fn season(folder: &Folder, lines: &[&str]) -> Walls {
 
 /// Three calls. Cell 2 is active in all walls.
 fn march(folder: &Folder) -> Walls {
-    season(folder, &[NEW, "split march.wall 0", "split march.wall 3", "fjoin march.wall 8"])
+    season(folder, &[NEW, "split march.wall 0", "split march.wall 3 4", "fjoin march.wall 8 9"])
 }
 
 /// Another season of the same plan, one that leads to a wall which the first one never has.
@@ -520,19 +520,19 @@ fn a_wall_alone() {
 }
 
 /// Files that an earlier version of the command wrote: a wall that it made and never changed, one with
-/// a journal, and what it left when it was cut off.
+/// a journal whose lists are the same by the rule of before, and what it left when it was cut off.
 #[test]
 fn files_of_an_earlier_version() {
     let folder = Folder::new();
     folder.write("april.wall", [3, 1, 3, 1, 1, 2, 0]);
     assert!(done(&folder, "info april.wall").contains("season: nothing is known of it"));
     let text =
-        "wallmirror journal 1: 03 01 03 01 01 02 00\nsplit 0;0;0 4\nsplit 3;1 3;1 5 8\nback 1\n";
+        "wallmirror journal 1: 03 01 03 01 01 02 00\nsplit 0;0;0 4\nsplit 4;1 4;1 5\nback 1\n";
     let one_split = [3, 1, 3, 1, 1, 2, 1, 0];
     folder.write(WALL, one_split);
     folder.write(JOURNAL, text);
     assert!(done(&folder, "log march.wall").ends_with("      back 1\n1 call to walk back\n"));
-    folder.write(WALL, [3, 1, 3, 1, 1, 2, 3, 0, 1, 2]);
+    folder.write(WALL, [3, 1, 3, 1, 1, 2, 3, 0, 1, 3]);
     folder.write(HALF_MADE, one_split);
     assert!(run(&folder, words("split march.wall 2")).1.contains("it is finished now"));
     assert_eq!(folder.read(WALL), [3, 1, 3, 1, 1, 2, 2, 0, 2]);

@@ -18,11 +18,12 @@ pub fn plan(numbers: [u32; 8]) -> Plan {
     }
 }
 
-/// The worked wall P7, with what its last split changed.
+/// A worked wall: cell 0 is split, and then cell 4, which needs cell 1. With what the last split
+/// changed.
 pub fn worked() -> (Mesh, Lists) {
     let mut mesh = Mesh::open(plan([3, 1, 3, 1, 1, 2, 0, 0])).unwrap();
     mesh.refine_cells(&[Cell(0)]).unwrap();
-    let lists = mesh.refine_cells(&[Cell(3)]).unwrap();
+    let lists = mesh.refine_cells(&[Cell(4)]).unwrap();
     (mesh, lists)
 }
 

@@ -309,8 +309,9 @@ fn the_legend_counts() {
     assert_eq!(plain, ["level 0: 1 cell", "level 1: 7 cells", "level 2: 4 cells"]);
     let with_functions = texts(&read(&mesh, &WITH_FUNCTIONS).root, "legend");
     assert_eq!(with_functions[..3], ["level 0: 1 cell", "4 functions active", "4 deactivated"]);
-    assert_eq!(with_functions[3..6], ["level 1: 7 cells", "11 functions active", "1 deactivated"]);
-    assert_eq!(with_functions[6..9], ["level 2: 4 cells", "4 functions active", "0 deactivated"]);
+    // Of level 1 four columns are present, of level 2 columns 2 and 3 in rows 0 and 1.
+    assert_eq!(with_functions[3..6], ["level 1: 7 cells", "12 functions active", "0 deactivated"]);
+    assert_eq!(with_functions[6..9], ["level 2: 4 cells", "2 functions active", "0 deactivated"]);
     for mesh in &meshes() {
         let cells =
             |text: &String| text.split_once(": ")?.1.split_once(" cell")?.0.parse::<usize>().ok();

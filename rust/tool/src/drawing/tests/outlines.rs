@@ -161,12 +161,13 @@ fn a_number_is_not_in_the_outline_of_a_smaller_cell() {
     let first = Mesh::open(mesh.plan).unwrap();
     for functions in [false, true] {
         let joined = refined(&mesh);
-        assert_eq!(joined, [Cell(0), Cell(1), Cell(3)]);
+        assert_eq!(joined, [Cell(0), Cell(1), Cell(4)]);
         let changed = Some(Changes { split: &[], joined: &joined });
         let read = read(&first, &Options { functions, changed, ..PLAIN });
-        let (_, top, side) = read.place(&first, Cell(3));
-        let [left, _, _, bottom] = number_boxes(&read.root)[&0];
-        assert!(left > read.left + side || bottom < top);
+        // Cell 4 is the lower right quarter of cell 0.
+        let (left, top, _) = read.place(&first, Cell(4));
+        let [_, _, right, bottom] = number_boxes(&read.root)[&0];
+        assert!(right < left || bottom < top);
     }
 }
 

@@ -49,15 +49,15 @@ fn the_reach_of_a_cell_in_a_row() {
     let mesh = marked([8, 1, 5, 1, 1, 2, 0, 0], &[3]);
     let options = reaching(&mesh, 15);
     let own = Window { level: 1, rows: 0..1, columns: 7..8 };
-    let coarser = Window { level: 0, rows: 0..1, columns: 1..6 };
+    let coarser = Window { level: 0, rows: 0..1, columns: 2..5 };
     assert_eq!(windows(&mesh, &read(&mesh, &options)), [own, coarser]);
     assert_eq!(
         said(&mesh, &options),
         [
             "cell 15, of level 1",
-            "up to 5 cells of level 0",
-            "A split of cell 15 splits at most 26 cells, itself included.",
-            "Each lies in the outline of its level; the outlines hold 6 cells in all.",
+            "up to 3 cells of level 0",
+            "A split of cell 15 splits at most 10 cells, itself included.",
+            "Each lies in the outline of its level; the outlines hold 4 cells in all.",
         ]
     );
 }
@@ -69,16 +69,16 @@ fn each_level_has_an_outline() {
     let mesh = marked([8, 6, 4, 1, 1, 2, 0, 0], &[19, 118]);
     let options = reaching(&mesh, 508);
     let own = Window { level: 2, rows: 8..9, columns: 12..13 };
-    let next = Window { level: 1, rows: 2..7, columns: 4..9 };
-    let last = Window { level: 0, rows: 0..5, columns: 1..6 };
+    let next = Window { level: 1, rows: 3..6, columns: 5..8 };
+    let last = Window { level: 0, rows: 1..4, columns: 2..5 };
     assert_eq!(windows(&mesh, &read(&mesh, &options)), [own, next, last]);
     assert_eq!(
         said(&mesh, &options),
         [
             "cell 508, of level 2",
-            "up to 25 cells of level 1",
-            "up to 25 cells of level 0",
-            "A split of cell 508 splits at most 51 cells, itself included.",
+            "up to 9 cells of level 1",
+            "up to 9 cells of level 0",
+            "A split of cell 508 splits at most 19 cells, itself included.",
             "Each lies in the outline of its level.",
         ]
     );
@@ -90,9 +90,9 @@ fn levels_are_those_of_the_class() {
     for (class, level, levels, most) in [
         (3, 0, &[0][..], "this cell alone"),
         (3, 1, &[1], "this cell alone"),
-        (3, 2, &[2, 0], "at most 26 cells, itself included"),
-        (3, 3, &[3, 1], "at most 26 cells, itself included"),
-        (2, 3, &[3, 2, 1, 0], "at most 76 cells, itself included"),
+        (3, 2, &[2, 0], "at most 10 cells, itself included"),
+        (3, 3, &[3, 1], "at most 10 cells, itself included"),
+        (2, 3, &[3, 2, 1, 0], "at most 28 cells, itself included"),
         (0, 0, &[0], "this cell alone"),
         (0, 3, &[3], "this cell alone"),
     ] {
@@ -108,7 +108,8 @@ fn levels_are_those_of_the_class() {
     }
 }
 
-/// Cells 0, 1 and 3 are split, and 7 is absent. 3 and 7 are in columns 0 and 4 of six on level 1.
+/// Cells 0, 1 and 4 are split, and 7 is absent. 4 and 7 are in columns 1 and 4 of six on level 1, so
+/// the windows on level 0 are around columns 0 and 2 of three.
 #[test]
 fn a_split_that_is_refused_is_not_promised() {
     let (mesh, _) = worked();
@@ -116,21 +117,21 @@ fn a_split_that_is_refused_is_not_promised() {
     let refused = "A split is refused here: cell 0 is split already.";
     let once = "Where cell 0 is active, a split splits this cell alone.";
     assert_eq!(alone, ["cell 0, of level 0", refused, once]);
-    for (cell, state) in [(3, "is split already"), (7, "is absent")] {
+    for (cell, state) in [(4, "is split already"), (7, "is absent")] {
         let refused = format!("A split is refused here: cell {cell} {state}.");
-        let once = "is active, a split splits at most 26 cells, itself included.";
-        let edges = "Each lies in the outline of its level; the outlines hold 4 cells in all.";
+        let once = "is active, a split splits at most 10 cells, itself included.";
+        let edges = "Each lies in the outline of its level; the outlines hold 3 cells in all.";
         let said = said(&mesh, &reaching(&mesh, cell));
-        assert_eq!(said[..2], [&format!("cell {cell}, of level 1"), "up to 3 cells of level 0"]);
+        assert_eq!(said[..2], [&format!("cell {cell}, of level 1"), "up to 2 cells of level 0"]);
         assert_eq!(said[2..], [refused, format!("Where cell {cell} {once}"), edges.into()]);
     }
 }
 
-/// No cell of the last level is ever split. Cell 15 is active, and 17 is absent.
+/// No cell of the last level is ever split. Cell 17 is active, and 15 is absent.
 #[test]
 fn nothing_is_reached_from_the_last_level() {
     let (mesh, _) = worked();
-    for (cell, column, state) in [(15, 0, "is of the last level"), (17, 2, "is absent")] {
+    for (cell, column, state) in [(17, 2, "is of the last level"), (15, 0, "is absent")] {
         let options = reaching(&mesh, cell);
         let own = Window { level: 2, rows: 0..1, columns: column..column + 1 };
         assert_eq!(windows(&mesh, &read(&mesh, &options)), [own]);
@@ -276,12 +277,12 @@ fn corners_change_no_reach() {
     }
 }
 
-/// Cell 120 is row 4, column 8 of level 1, so the window on level 0 begins with column 2.
+/// Cell 120 is row 4, column 8 of level 1, so the window on level 0 begins with column 3.
 #[test]
 fn a_corner_is_seen_beside_a_reach() {
-    let mesh = marked([8, 6, 3, 1, 1, 2, 1 << 2, 0], &[20]);
+    let mesh = marked([8, 6, 3, 1, 1, 2, 1 << 3, 0], &[20]);
     let read = read(&mesh, &reaching(&mesh, 120));
-    let corner = read.left + 2.0 * read.side(&mesh, 0);
+    let corner = read.left + 3.0 * read.side(&mesh, 0);
     let from_corner = lines(&read, "reach")[0].left - corner;
     assert_eq!(from_corner, CORNER_LINE_WIDTH / 2.0);
 }
