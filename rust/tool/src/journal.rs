@@ -4,7 +4,7 @@
 //! ```text
 //! wallmirror journal 1: 03 01 03 01 01 02 00
 //! split 0;0;0 4
-//! split 3;1 3;1 5 8
+//! split 4;1 4;1 5
 //! back 1
 //! ```
 //!
@@ -65,6 +65,37 @@ fn numbers(text: &str) -> Option<Vec<u32>> {
     }
 }
 
+/// What is wrong with a journal, and what to do.
+#[derive(Debug)]
+pub struct Wrong {
+    pub said: String,
+    pub to_do: &'static str,
+}
+
+impl Wrong {
+    /// A call that has not its lists now, and may have had them by the rule of before.
+    fn other_rule() -> Wrong {
+        let said = "has other lists than its call gives, as after a version before 0.12, which graded by another rule";
+        Wrong { said: said.to_string(), to_do: "docs/TOOL.md says how to keep its season" }
+    }
+
+    fn in_line(self, number: usize) -> Wrong {
+        Wrong { said: format!("line {number} {}", self.said), ..self }
+    }
+}
+
+impl From<String> for Wrong {
+    fn from(said: String) -> Wrong {
+        Wrong { said, to_do: "put the right one back" }
+    }
+}
+
+impl From<&str> for Wrong {
+    fn from(said: &str) -> Wrong {
+        said.to_string().into()
+    }
+}
+
 /// A season with its journal.
 #[derive(Debug)]
 pub struct Journal {
@@ -91,7 +122,7 @@ impl Journal {
 
     /// Makes the calls of a journal once more, and answers the journal if they list what it says, or
     /// else what is wrong with it.
-    pub fn read(text: &[u8]) -> Result<Journal, String> {
+    pub fn read(text: &[u8]) -> Result<Journal, Wrong> {
         let text = std::str::from_utf8(text).map_err(|_| "it is not a text")?;
         let text = text.strip_suffix('\n').ok_or("its last line is cut off")?;
         let mut lines = text.split('\n').zip(1..);
@@ -106,27 +137,48 @@ impl Journal {
             if lines.peek().is_none() {
                 journal.before = Some(journal.season.mesh().clone());
             }
-            journal.add_read(line).map_err(|wrong| format!("line {number} {wrong}"))?;
+            journal.add_read(line).map_err(|wrong| wrong.in_line(number))?;
         }
         Ok(journal)
     }
 
     /// Does once more what a line says, or answers what is wrong with the line.
-    fn add_read(&mut self, line: &str) -> Result<(), String> {
+    fn add_read(&mut self, line: &str) -> Result<(), Wrong> {
         match Entry::read(line).ok_or("is not one of a journal")? {
             Entry::Back(count) => {
                 self.add_back(count).ok_or("takes back too many calls")?;
             }
             Entry::Call(made) => {
-                let lists = self.add_call(made.call).map_err(|refusal| {
+                let lists = self.add_call(made.call.clone()).map_err(|refusal| {
                     format!("has a call that gets {}", words::refusal(refusal))
                 })?;
                 if lists != made.lists {
-                    return Err("has other lists than its call gives".to_string());
+                    return Err(match self.may_be_of_before(&made, &lists) {
+                        true => Wrong::other_rule(),
+                        false => "has other lists than its call gives".into(),
+                    });
                 }
             }
         }
         Ok(())
+    }
+
+    /// Whether a call that was just made, with these lists, may have had its own ones before version
+    /// 0.12. The rule of then asked for all cells that this one asks for and for more. So a split
+    /// listed all that it lists now, a join nothing else, and the cells of a list, as marks, give it
+    /// by both rules.
+    fn may_be_of_before(&mut self, made: &Made, lists: &Lists) -> bool {
+        let cells = made.lists.cells.clone();
+        let (by_cells, part, whole) = match made.call.refines() {
+            true => (Call::RefineCells(cells), &lists.cells, &made.lists.cells),
+            false => (Call::CoarsenCells(cells), &made.lists.cells, &lists.cells),
+        };
+        let graded = self.season.mesh().plan.admissibility_class != 0;
+        let undone = self.season.undo().is_ok();
+        graded
+            && undone
+            && self.season.make(by_cells) == Ok(&made.lists)
+            && part.iter().all(|cell| whole.binary_search(cell).is_ok())
     }
 
     pub fn season(&self) -> &Season {

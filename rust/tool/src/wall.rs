@@ -9,7 +9,7 @@
 //! that the journal does not lead to is left as it is, and the setter says what becomes of it.
 
 use crate::failure::{self, Failure};
-use crate::journal::Journal;
+use crate::journal::{Journal, Wrong};
 use crate::store::{self, Folder};
 use crate::words;
 use std::ffi::OsStr;
@@ -344,12 +344,10 @@ fn read_journal(path: &Path) -> Result<Option<Journal>, Failure> {
     let Some(text) = store::read(&path, usize::MAX - 1)? else {
         return Ok(None);
     };
-    let journal = Journal::read(&text).map_err(|wrong| {
+    let journal = Journal::read(&text).map_err(|Wrong { said, to_do }| {
         let or = if has_wall { ", or move it away and nothing is known of the season" } else { "" };
         let path = path.display();
-        Failure::bad(format!(
-            "the journal '{path}' does not fit: {wrong}; put the right one back{or}"
-        ))
+        Failure::bad(format!("the journal '{path}' does not fit: {said}; {to_do}{or}"))
     })?;
     Ok(Some(journal))
 }

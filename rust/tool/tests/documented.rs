@@ -2,26 +2,9 @@
 
 mod common;
 
-use common::{done, run, words, Folder};
+use common::{blocks, document, done, run, words, Folder};
 use std::path::Path;
 use std::process::Command;
-
-fn document(name: &str) -> String {
-    let path = Path::new(env!("CARGO_MANIFEST_DIR")).join("../..").join(name);
-    std::fs::read_to_string(&path).unwrap_or_else(|error| panic!("'{}': {error}", path.display()))
-}
-
-/// The blocks of a document that are marked so.
-fn blocks(text: &str, mark: &str) -> Vec<String> {
-    let begin = format!("```{mark}");
-    let mut lines = text.lines();
-    let mut blocks = vec![];
-    while lines.any(|line| line == begin) {
-        let block = lines.by_ref().take_while(|line| *line != "```");
-        blocks.push(block.map(|line| format!("{line}\n")).collect());
-    }
-    blocks
-}
 
 /// Runs the commands of a block. Answers the folder, and the block as it is to be.
 fn shown(block: &str) -> (Folder, String) {
@@ -65,10 +48,24 @@ fn the_reach_that_is_shown() {
     let block = console.iter().find(|block| block.contains(" --reach ")).expect("a block");
     let picture = String::from_utf8(shown(block).0.read("reach.svg")).expect("text");
     assert_eq!(picture, document("docs/wall-reach.svg"));
-    // 1 + 2 (4 + 1) (4 + 1) for level 2, class 2 and degrees 1.
-    assert!(picture.contains(">A split of cell 508 splits at most 51 cells, itself included.<"));
+    // 1 + 2 (2 + 1) (2 + 1) for level 2, class 2 and degrees 1.
+    assert!(picture.contains(">A split of cell 574 splits at most 19 cells, itself included.<"));
     let lists = block.lines().last().expect("an answer");
-    assert_eq!(lists.split(';').nth(1).expect("cells").split(' ').count(), 16);
+    assert_eq!(lists.split(';').nth(1).expect("cells").split(' ').count(), 9);
+}
+
+/// The pictures of the season are those of its first lines: `new`, and both splits.
+#[test]
+fn the_season_that_is_shown() {
+    let season = &blocks(&document("docs/TOOL.md"), "console")[0];
+    let lines: Vec<&str> = season.lines().filter(|line| line.starts_with("$ ")).collect();
+    for (count, options, name) in
+        [(1, "--functions", "wall-before"), (3, "--functions --changed", "wall-after")]
+    {
+        let (folder, _) = shown(&lines[..count].join("\n"));
+        let picture = done(&folder, &format!("draw march.wall {options}"));
+        assert!(picture == document(&format!("docs/{name}.svg")), "{name}");
+    }
 }
 
 /// The options of a command by its usage, and those that the completion for bash offers.

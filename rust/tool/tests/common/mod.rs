@@ -253,3 +253,21 @@ pub fn with_file(line: &str, file: &str) -> String {
         Some((word, marks)) => format!("{word} {file} {marks}"),
     }
 }
+
+/// A file of the repository.
+pub fn document(name: &str) -> String {
+    let path = Path::new(env!("CARGO_MANIFEST_DIR")).join("../..").join(name);
+    fs::read_to_string(&path).unwrap_or_else(|error| panic!("'{}': {error}", path.display()))
+}
+
+/// The blocks of a document that are marked so.
+pub fn blocks(text: &str, mark: &str) -> Vec<String> {
+    let begin = format!("```{mark}");
+    let mut lines = text.lines();
+    let mut blocks = vec![];
+    while lines.any(|line| line == begin) {
+        let block = lines.by_ref().take_while(|line| *line != "```");
+        blocks.push(block.map(|line| format!("{line}\n")).collect());
+    }
+    blocks
+}
