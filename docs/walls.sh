@@ -22,11 +22,11 @@ wallmirror split cave.wall 53
 wallmirror split cave.wall 66
 draw cave.wall wall --changed
 
-# P7's wall of document 01 before and after, and walked back.
+# The season of docs/TOOL.md: its wall before both splits and after, and walked back.
 wallmirror new march.wall 3 1 3 1 1 2
 draw march.wall wall-before --functions
 wallmirror split march.wall 0
-wallmirror split march.wall 3
+wallmirror split march.wall 3 4
 draw march.wall wall-after --functions --changed
 wallmirror back march.wall
 draw march.wall wall-back --functions --changed
@@ -34,8 +34,8 @@ draw march.wall wall-back --functions --changed
 # What a split can reach.
 wallmirror new reach.wall 8 6 4 1 1 2
 wallmirror split reach.wall 19
-wallmirror split reach.wall 118
-draw reach.wall wall-reach --reach 508
+wallmirror split reach.wall 135
+draw reach.wall wall-reach --reach 574
 
 # A wall with a corner.
 wallmirror new corner.wall 3 2 3 2 2 2 2 0
