@@ -49,9 +49,12 @@ module _ (p : Plan) where
   unfolding ancestor
   ancestor-next d x = ancestor-more d 1 x ∙ ap (λ (n : ℕ). x / ratio p ^ d / n) (rw (pow-suc, pow-zero, one-mul))
 
+  pub ancestor-one : (x : ℕ) → ancestor p 1 x ≡ x / ratio p
+  ancestor-one x = ancestor-next 0 x ∙ ap (λ (n : ℕ). n / ratio p) (ancestor-own x)
+
   -- the columns on x have it for a parent
   child-stands : (x b : ℕ) → b < ratio p → ancestor p 1 (x * ratio p + b) ≡ x
-  child-stands x b l = ancestor-next 0 (x * ratio p + b) ∙ ap (λ (n : ℕ). n / ratio p) (ancestor-own (x * ratio p + b)) ∙ digits-div x l
+  child-stands x b l = ancestor-one (x * ratio p + b) ∙ digits-div x l
 
   -- ancestors are at most half as far apart, and on any level not farther
   pub ancestors-apart : (d g x y : ℕ) → 0 < d → Apart (2 * g) x y → Apart g (ancestor p d x) (ancestor p d y)

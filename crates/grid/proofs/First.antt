@@ -1,24 +1,28 @@
 -- Supports and neighbourhoods by the first functions over columns and rows: function i covers column x where it is one of the
 -- degree + 1 functions from the first over x on, and columns whose first functions are at most the degree apart are near. Tables that
 -- have a cell at its first functions' place are read by these laws alone. Assumes nothing.
-use Prim.Native.Nat.{ℕ, pred, _+_, _%_, _<_, _≤_}
-use native.Mathlib.Nat.{mod-lt}
+use Prim.Native.Nat.{ℕ, pred, _+_, _-_, _*_, _%_, _<_, _≤_}
+use native.Mathlib.Nat.{mod-lt, mul-le-mul-right}
 use native.Mathlib.Omega.{arith}
-use mathlib.Core.Path.{_≡_, refl, sym, _∙_}
+use mathlib.Core.Path.{_≡_, refl, sym, ap, subst, _∙_}
+use lib.Arith.{digits-div}
 use lib.Dec.{T}
 use Rattle.grid.specs.declared.Plan.{Plan}
 use Rattle.grid.specs.declared.Place.{Place}
 use Rattle.grid.specs.declared.Side.{Side}
-use Rattle.grid.specs.Plan.{ratio, cellTotal, cellPlace, cellNumber, cellLevel, functionPlace, CellInside, acrossAt, upAt, above, parent, supported, near}
+use Rattle.grid.specs.Plan.{ratio, columnsAt, rowsAt, cellTotal, cellPlace, cellNumber, cellLevel, functionPlace, CellInside, acrossAt, upAt, above, parent, supported, ancestor, near}
 use Rattle.grid.specs.Range.{InRange, HasNeighbourhood}
-use Rattle.grid.specs.Spans.{ancestorLevel, ancestorOf}
+use Rattle.grid.specs.Spans.{inSpan, ancestorLevel, around, ancestorOf, parentsOf, neighbourhood}
 use Rattle.grid.specs.Knots.{covers, firstOver}
 use Rattle.grid.specs.Side.{Sized}
 use Rattle.grid.proofs.Rising.{Apart}
 use Rattle.grid.proofs.Knots.{covers-fact, covers-test}
-use Rattle.grid.proofs.SideLaws.{together-fact, together-test}
+use Rattle.grid.proofs.SideLaws.{together-fact, together-test, coarser-e}
 use Rattle.grid.proofs.Laws.{ratio-pos, across-sized, up-sized, above-in, below-above, cell-inside, cell-number-lt, cell-place-number, near-in, near-places, near-of, near-child, near-child-in, near-child-above, near-child-level}
-use Rattle.grid.proofs.Spans.{supported-places, supported-of, level-below, ancestor-in}
+use Rattle.grid.proofs.Direction.{grown-more}
+use Rattle.grid.proofs.Ancestors.{ancestor-one}
+use Rattle.grid.proofs.Rectangles.{ancestor-below, parents-around-in}
+use Rattle.grid.proofs.Spans.{rectangle-fact, span-fact, span-test, supported-places, supported-of, level-below, ancestor-in, near-is}
 
 -- function i is over column x
 pub record Over (s : Side) (i x : ℕ) : Type 0 where
@@ -130,3 +134,58 @@ module _ (p : Plan) (range : InRange p) where
         columns = common _ _ _ _ (m .columns) (rw e at (n .columns));
         rows = common _ _ _ _ (m .rows) (rw e at (n .rows));
       })
+
+-- ---- a neighbourhood by its rows, and by the first functions of the columns that stand on its columns
+
+before : (n : ℕ) → pred n ≡ n - 1
+before n = omega arith
+
+-- the cell at c is in one of the rows, and in the column under a column x that has a function in common with a's
+pub record NearBy (p : Plan) (a c : Place) : Type 0 where
+  pub level : c .level ≡ a .level - 1
+  pub rows : T (inSpan (parentsOf p (around p a) .rows) (c .row))
+  pub column : ℕ
+  pub column< : column < columnsAt p (a .level)
+  pub stands : ancestor p 1 column ≡ c .column
+  pub columns : Apart (acrossAt p (a .level) .degree) (firstOver (acrossAt p (a .level)) column) (firstOver (acrossAt p (a .level)) (a .column))
+
+module _ (p : Plan) (range : InRange p) (q : ℕ) (b : q < cellTotal p) (has : HasNeighbourhood p (cellLevel p q)) where
+  abbrev a : Place
+  a = ancestorOf p (cellPlace p q)
+
+  pub near-by : (c : ℕ) → T (near p q c) → NearBy p a (cellPlace p c)
+  unfolding neighbourhood parentsOf around above
+  near-by c t =
+      let l = near-in p range q c t in
+      let i = rectangle-fact (neighbourhood p (cellPlace p q)) (cellPlace p c) (rw (near-is p range q c b l has) at t) in
+      let (e, j, v, u) = near-around p range q c b t in
+      let n = u .level in
+      record {
+        level = sym (i .level) ∙ before (a .level);
+        rows = span-test _ _ (i .rows);
+        column = e .column;
+        column< = rw n (j .column<);
+        stands = ancestor-one p (e .column) ∙ ap (λ (x : Place). x .column) v;
+        columns = rw n (u .columns);
+      }
+
+  pub by-near : (y x : ℕ) → T (inSpan (parentsOf p (around p a) .rows) y) → x < columnsAt p (a .level)
+      → Apart (acrossAt p (a .level) .degree) (firstOver (acrossAt p (a .level)) x) (firstOver (acrossAt p (a .level)) (a .column))
+      → T (near p q (cellNumber p (record { level = a .level - 1; row = y; column = ancestor p 1 x })))
+  unfolding parentsOf around above
+  by-near y x t l s =
+      let j : CellInside p a = ancestor-in p range (cellPlace p q) has (cell-inside p range q b) in
+      let z = ancestor-below p range (cellPlace p q) has in
+      let r = parents-around-in p range a j z in
+      let w : rowsAt p (a .level) ≡ rowsAt p (pred (a .level)) * ratio p = grown-more (ratio p) (ratio-pos p) (p .rows) (a .level) z in
+      let i = span-fact _ _ t in
+      let m : y < rowsAt p (pred (a .level)) = omega (arith, i .to, r .rows .within) in
+      let (d, k, u) = coarser-e (ratio p) (ratio-pos p) (upAt p (a .level)) (up-sized p range (a .level)) (rowsAt p (pred (a .level))) w (a .row) (j .row<) y m t in
+      let e : Place = record { level = a .level; row = y * ratio p + d; column = x } in
+      let g : y * ratio p + d < rowsAt p (pred (a .level)) * ratio p = omega (arith, mul-le-mul-right (ratio p) m) in
+      let h : y * ratio p + d < rowsAt p (a .level) = subst (λ (n : ℕ). y * ratio p + d < n) (sym w) g in
+      let v : above p (record { level = a .level; row = y * ratio p + d; column = x }) ≡ record { level = a .level - 1; row = y; column = ancestor p 1 x } =
+      λ n. record { level = before (a .level) n; row = digits-div y k n; column = sym (ancestor-one p x) n } in
+      subst (λ (c : Place). T (near p q (cellNumber p c))) v
+      (around-near p range q (record { level = a .level; row = y * ratio p + d; column = x }) b has (record { level< = j .level<; row< = h; column< = l })
+      (record { level = refl; columns = s; rows = together-fact _ (up-sized p range (a .level)) _ _ u }))

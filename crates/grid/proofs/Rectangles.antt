@@ -128,26 +128,34 @@ pub neighbourhood-level : (p : Plan) → InRange p → (x : Place) → HasNeighb
 unfolding neighbourhood parentsOf around ancestorOf
 neighbourhood-level p range x has = ap pred (level-below p (x .level) range has)
 
+-- the cells on which those near a cell stand
+module _ (p : Plan) (range : InRange p) (a : Place) (i : CellInside p a) (z : 1 ≤ a .level) where
+  pub parents-around-in : RectangleIn p (parentsOf p (around p a))
+  unfolding parentsOf around
+  parents-around-in = go (pred (a .level)) (omega arith)
+    where
+      w : (b k : ℕ) → grown (ratio p) b (suc k) ≡ grown (ratio p) b k * ratio p
+      w b k = grown-more (ratio p) (ratio-pos p) b (suc k) (omega arith)
+
+      go : (k : ℕ) → a .level ≡ suc k → RectangleIn p (record { level = k; rows = coarserSpan (ratio p) (aroundSpan (upAt p (a .level)) (a .row)); columns = coarserSpan (ratio p) (aroundSpan (acrossAt p (a .level)) (a .column)) })
+      go k e = record {
+        level< = omega (arith, e, i .level<);
+        rows = rw e (coarser-span-in (ratio p) (ratio-pos p) (upAt p (suc k)) (up-sized p range (suc k)) (rowsAt p k) (w (p .rows) k) (a .row) (rw e at (i .row<)));
+        columns = rw e (coarser-span-in (ratio p) (ratio-pos p) (acrossAt p (suc k)) (across-sized p range (suc k)) (columnsAt p k) (w (p .columns) k) (a .column) (rw e at (i .column<)));
+      }
+
+  -- what code asks of those near it
+  pub around-ends : (1 ≤ around p a .level) × (1 ≤ around p a .rows .end) × (1 ≤ around p a .columns .end)
+  unfolding around
+  around-ends =
+      let r = around-span-in (upAt p (a .level)) (up-sized p range _) (a .row) (i .row<) in
+      let c = around-span-in (acrossAt p (a .level)) (across-sized p range _) (a .column) (i .column<) in
+      (z, omega (arith, r .some), omega (arith, c .some))
+
+-- the ancestor is of a level that has one before it
+pub ancestor-below : (p : Plan) → InRange p → (x : Place) → HasNeighbourhood p (x .level) → 1 ≤ ancestorOf p x .level
+ancestor-below p range x has = omega (arith, ancestor-level p x, level-below p (x .level) range has)
+
 pub neighbourhood-in : (p : Plan) → InRange p → (x : Place) → HasNeighbourhood p (x .level) → CellInside p x → RectangleIn p (neighbourhood p x)
-unfolding neighbourhood parentsOf around
-neighbourhood-in p range x has i = go (ancestorOf p x) (pred (ancestorOf p x .level)) (omega (arith, ancestor-level p x, level-below p (x .level) range has)) (ancestor-in p range x has i)
-  where
-    w : (b k : ℕ) → grown (ratio p) b (suc k) ≡ grown (ratio p) b k * ratio p
-    w b k = grown-more (ratio p) (ratio-pos p) b (suc k) (omega arith)
-
-    go : (y : Place) (k : ℕ) → y .level ≡ suc k → CellInside p y → RectangleIn p (record { level = k; rows = coarserSpan (ratio p) (aroundSpan (upAt p (y .level)) (y .row)); columns = coarserSpan (ratio p) (aroundSpan (acrossAt p (y .level)) (y .column)) })
-    go y k e j = record {
-      level< = omega (arith, e, j .level<);
-      rows = rw e (coarser-span-in (ratio p) (ratio-pos p) (upAt p (suc k)) (up-sized p range (suc k)) (rowsAt p k) (w (p .rows) k) (y .row) (rw e at (j .row<)));
-      columns = rw e (coarser-span-in (ratio p) (ratio-pos p) (acrossAt p (suc k)) (across-sized p range (suc k)) (columnsAt p k) (w (p .columns) k) (y .column) (rw e at (j .column<)));
-    }
-
--- what code asks of the rectangle around the ancestor
-pub around-ends : (p : Plan) → InRange p → (x : Place) → HasNeighbourhood p (x .level) → CellInside p x
-    → (1 ≤ around p (ancestorOf p x) .level) × (1 ≤ around p (ancestorOf p x) .rows .end) × (1 ≤ around p (ancestorOf p x) .columns .end)
-unfolding around
-around-ends p range x has i =
-    let j = ancestor-in p range x has i in
-    let r = around-span-in (upAt p (ancestorOf p x .level)) (up-sized p range _) (ancestorOf p x .row) (j .row<) in
-    let c = around-span-in (acrossAt p (ancestorOf p x .level)) (across-sized p range _) (ancestorOf p x .column) (j .column<) in
-    (omega (arith, ancestor-level p x, level-below p (x .level) range has), omega (arith, r .some), omega (arith, c .some))
+unfolding neighbourhood
+neighbourhood-in p range x has i = parents-around-in p range (ancestorOf p x) (ancestor-in p range x has i) (ancestor-below p range x has)

@@ -122,38 +122,42 @@ session-functions-reached = (shape 3 15 13, omega arith, lit≤ tt, refl)
 abbrev pub spacious : ℕ → ℕ → ℕ
 spacious a n = n + 3 * (a - 1) + 8
 
--- each level of which the level `finer` levels down has at most so many cells is tried
-unfoldable tried : ℕ → ℕ → ℕ → ℕ → ℕ → ℕ → Bool
-tried finer bound s k a b =
-    implies (leb 1 a && (leb 1 b && leb (grown s b (k + finer) * grown s a (k + finer)) mostCells)) (leb (spacious b (grown s b k) * spacious a (grown s a k)) bound)
+-- or as many rows as there are
+abbrev plainly : ℕ → ℕ → ℕ
+plainly a n = n
 
-abbrev triedRow : ℕ → ℕ → ℕ → ℕ → ℕ → Bool
-triedRow finer bound s k a = every 17 (tried finer bound s k a)
+-- each level of which the level `finer` levels down has at most so many cells is tried; `high` says how many rows the table has
+unfoldable tried : (ℕ → ℕ → ℕ) → ℕ → ℕ → ℕ → ℕ → ℕ → ℕ → Bool
+tried high finer bound s k a b =
+    implies (leb 1 a && (leb 1 b && leb (grown s b (k + finer) * grown s a (k + finer)) mostCells)) (leb (high b (grown s b k) * spacious a (grown s a k)) bound)
 
-abbrev triedLevel : ℕ → ℕ → ℕ → ℕ → Bool
-triedLevel finer bound s k = every 17 (triedRow finer bound s k)
+abbrev triedRow : (ℕ → ℕ → ℕ) → ℕ → ℕ → ℕ → ℕ → ℕ → Bool
+triedRow high finer bound s k a = every 17 (tried high finer bound s k a)
 
-module _ (finer bound : ℕ) (p : Plan) (all-tried : T (every 8 (triedLevel finer bound (ratio p)))) where
-  tried-fact : (s k a b : ℕ) → T (tried finer bound s k a b) → 1 ≤ a → 1 ≤ b → grown s b (k + finer) * grown s a (k + finer) ≤ mostCells → spacious b (grown s b k) * spacious a (grown s a k) ≤ bound
+abbrev triedLevel : (ℕ → ℕ → ℕ) → ℕ → ℕ → ℕ → ℕ → Bool
+triedLevel high finer bound s k = every 17 (triedRow high finer bound s k)
+
+module _ (high : ℕ → ℕ → ℕ) (finer bound : ℕ) (p : Plan) (all-tried : T (every 8 (triedLevel high finer bound (ratio p)))) where
+  tried-fact : (s k a b : ℕ) → T (tried high finer bound s k a b) → 1 ≤ a → 1 ≤ b → grown s b (k + finer) * grown s a (k + finer) ≤ mostCells → high b (grown s b k) * spacious a (grown s a k) ≤ bound
   unfolding tried
   tried-fact s k a b t x y l =
       leb→le _ _ (implies-e (leb 1 a && (leb 1 b && leb (grown s b (k + finer) * grown s a (k + finer)) mostCells)) _ t
       (and-i (leb 1 a) _ (le→leb 1 a x) (and-i (leb 1 b) _ (le→leb 1 b y) (le→leb _ _ l))))
 
-  level-within : InRange p → cellTotal p ≤ mostCells → (k : ℕ) → k + finer < p .levels → spacious (p .rows) (rowsAt p k) * spacious (p .columns) (columnsAt p k) ≤ bound
+  level-within : InRange p → cellTotal p ≤ mostCells → (k : ℕ) → k + finer < p .levels → high (p .rows) (rowsAt p k) * spacious (p .columns) (columnsAt p k) ≤ bound
   level-within r m k l =
       let s = ratio p in
       let e = level-ends (columnsAt p) (rowsAt p) (k + finer) (p .levels) l in
-      let t1 = every-e 8 (triedLevel finer bound s) all-tried k (omega (arith, r .levels≤)) in
-      let t2 = every-e 17 (triedRow finer bound s k) t1 (p .columns) (omega (arith, r .columns≤)) in
-      let t3 = every-e 17 (tried finer bound s k (p .columns)) t2 (p .rows) (omega (arith, r .rows≤)) in
+      let t1 = every-e 8 (triedLevel high finer bound s) all-tried k (omega (arith, r .levels≤)) in
+      let t2 = every-e 17 (triedRow high finer bound s k) t1 (p .columns) (omega (arith, r .columns≤)) in
+      let t3 = every-e 17 (tried high finer bound s k (p .columns)) t2 (p .rows) (omega (arith, r .rows≤)) in
       tried-fact s k (p .columns) (p .rows) t3 (r .columns≥) (r .rows≥) (omega arith)
 
 pub windows-bound : (p : Plan) → InRange p → cellTotal p ≤ mostCells → (k : ℕ) → k < p .levels → spacious (p .rows) (rowsAt p k) * spacious (p .columns) (columnsAt p k) ≤ mostFunctions
 unfolding every tried grown ratio
-windows-bound p r m k l = level-within 0 mostFunctions p tt r m k (omega arith)
+windows-bound p r m k l = level-within spacious 0 mostFunctions p tt r m k (omega arith)
 
--- tables of neighbourhoods are of levels with a finer one: those of cells that have children, or coarser
-pub near-bound : (p : Plan) → InRange p → cellTotal p ≤ mostCells → (k : ℕ) → k + 1 < p .levels → spacious (p .rows) (rowsAt p k) * spacious (p .columns) (columnsAt p k) ≤ mostNear
+-- tables of neighbourhoods are of levels with a finer one: those of cells that have children, or coarser. They have a row for each row
+pub near-bound : (p : Plan) → InRange p → cellTotal p ≤ mostCells → (k : ℕ) → k + 1 < p .levels → rowsAt p k * spacious (p .columns) (columnsAt p k) ≤ mostNear
 unfolding every tried grown ratio
-near-bound p r m k l = level-within 1 mostNear p tt r m k l
+near-bound p r m k l = level-within plainly 1 mostNear p tt r m k l

@@ -9,7 +9,7 @@ mostCells = 21845
 abbrev pub mostFunctions : ℕ
 mostFunctions = 54884
 
--- the largest table of neighbourhoods: of a level with a finer one, with a place for each first function and twice the degrees more
--- (proved in the same file)
+-- no table of neighbourhoods is larger: the rows of a level with a finer one, with a place for each first function across and twice the degree
+-- more (proved in the same file)
 abbrev pub mostNear : ℕ
-mostNear = 13689
+mostNear = 7952

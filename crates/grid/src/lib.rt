@@ -14,7 +14,7 @@ pub const MOST_CELLS: usize = 21845;
 
 pub const MOST_FUNCTIONS: usize = 54884;
 
-pub const MOST_NEAR: usize = 13689;
+pub const MOST_NEAR: usize = 7952;
 
 // Document 01, "The plan": six numbers handed over by value. Document 02, Req 05: two more.
 #[repr(C)]
@@ -675,6 +675,16 @@ impl Plan {
         }
     }
 
+    // The cells on which those stand that are near the cell at a place.
+    pub fn parents_around(self, place: Place) -> Rectangle
+        requires { ⌜ InRange self ⌝ }
+        requires { ⌜ CellInside self place ⌝ }
+        requires { ⌜ 1 ≤ place .level ⌝ }
+        ensures { λ r. ⌜ r ≡ parentsOf self (around self place) ⌝ }
+    {
+        self.parents_of(self.around(place))
+    }
+
     // The neighbourhood of the cell at a place.
     pub fn neighbourhood(self, place: Place) -> Rectangle
         requires { ⌜ InRange self ⌝ }
@@ -682,6 +692,6 @@ impl Plan {
         requires { ⌜ HasNeighbourhood self (place .level) ⌝ }
         ensures { λ r. ⌜ r ≡ neighbourhood self place ⌝ }
     {
-        self.parents_of(self.around(self.ancestor_of(place)))
+        self.parents_around(self.ancestor_of(place))
     }
 }

@@ -15,100 +15,58 @@ use Rattle.facts.proofs.Mapped.{run-in, run-before, run-after, run-e, part-at, 
 use Rattle.grid.specs.declared.Plan.{Plan}
 use Rattle.grid.specs.declared.Side.{Side}
 use Rattle.grid.specs.Numbering.{number}
-use Rattle.grid.specs.Plan.{columnsAt, rowsAt, cellOffset, cellTotal, acrossAt, upAt}
+use Rattle.grid.specs.Plan.{columnsAt, rowsAt, cellOffset, cellTotal, cellNumber, acrossAt, upAt}
 use Rattle.grid.specs.Range.{InRange}
 use Rattle.grid.specs.Side.{firstOver, firsts}
 use Rattle.grid.proofs.Numbering.{level-ends}
 use Rattle.grid.proofs.Sides.{across-in, up-in, first-lt}
 use Rattle.windows.specs.Windows.{back, inRows, windowAt, windowLeast, LevelIn}
-use Rattle.windows.specs.Level.{leastOver, placedRow, placed, PlaceIn, leastIn, cellByte, leastUnder, tableIn, levelLeast, wide, high, LevelRoom}
+use Rattle.windows.specs.Level.{leastOver, placedRow, placed, PlaceIn, leastUnder, levelLeast, wide, high, LevelRoom}
 use Rattle.windows.proofs.Slides.{back-le, back-ge}
 
 -- ---- one direction
 
 module _ (s : Side) (d i : ℕ) (g : ℕ → ℕ) where
-  over-le : (x : ℕ) → x < s .cells → firstOver s x ≤ i → i ≤ firstOver s x + d → leastOver s d i g ≤ g x
+  pub over-le : (x : ℕ) → x < s .cells → firstOver s x ≤ i → i ≤ firstOver s x + d → leastOver s d i g ≤ g x
   unfolding leastOver
   over-le x l u v =
       let r : cond (inRun (firstOver s x) (d + 1) i) (g x) 2 ≡ g x = rw (run-in (firstOver s x) (d + 1) i u (omega arith)) in
       rw r at (least-le 2 (s .cells) (λ x. cond (inRun (firstOver s x) (d + 1) i) (g x) 2) x l)
 
-  over-ge : (v : ℕ) → v ≤ 2 → ((x : ℕ) → x < s .cells → firstOver s x ≤ i → i ≤ firstOver s x + d → v ≤ g x) → v ≤ leastOver s d i g
+  pub over-ge : (v : ℕ) → v ≤ 2 → ((x : ℕ) → x < s .cells → firstOver s x ≤ i → i ≤ firstOver s x + d → v ≤ g x) → v ≤ leastOver s d i g
   unfolding leastOver
   over-ge v t h = least-ge 2 _ _ v t (λ x l. run-e (firstOver s x) (d + 1) i
       (λ u. rw (run-before (firstOver s x) (d + 1) i u) t)
       (λ u w. rw (run-in (firstOver s x) (d + 1) i u w) (h x l u (omega arith)))
       (λ u. rw (run-after (firstOver s x) (d + 1) i u) t))
 
-  over-top : leastOver s d i g ≤ 2
+  pub over-top : leastOver s d i g ≤ 2
   unfolding leastOver
   over-top = least-top 2 _ _
 
 -- ---- both: the least byte is below that of each cell there, and above what is below all
 
-module _ (p : Plan) (k : ℕ) (byte : ℕ → ℕ → ℕ) (across up j i : ℕ) where
-  pub in-top : leastIn p k byte across up j i ≤ 2
-  unfolding leastIn
-  in-top = over-top _ _ _ _
-
-  pub in-le : (y x : ℕ) → y < rowsAt p k → x < columnsAt p k → firstOver (upAt p k) y ≤ j → j ≤ firstOver (upAt p k) y + up
-      → firstOver (acrossAt p k) x ≤ i → i ≤ firstOver (acrossAt p k) x + across → leastIn p k byte across up j i ≤ byte y x
-  unfolding leastIn
-  in-le y x l m a b c d = le-trans (over-le (upAt p k) up j _ y l a b) (over-le (acrossAt p k) across i (byte y) x m c d)
-
-  pub in-ge : (v : ℕ) → v ≤ 2
-      → ((y x : ℕ) → y < rowsAt p k → x < columnsAt p k → firstOver (upAt p k) y ≤ j → j ≤ firstOver (upAt p k) y + up → firstOver (acrossAt p k) x ≤ i
-      → i ≤ firstOver (acrossAt p k) x + across → v ≤ byte y x)
-      → v ≤ leastIn p k byte across up j i
-  unfolding leastIn
-  in-ge v t h = over-ge (upAt p k) up j _ v t (λ y l a b. over-ge (acrossAt p k) across i _ v t (λ x m c d. h y x l m a b c d))
-
--- of the level's own bytes
 module _ (p : Plan) (cells : List ℕ) (k across up j i : ℕ) where
+  abbrev at : ℕ → ℕ → ℕ
+  at y x = cellNumber p (record { level = k; row = y; column = x })
+
   pub under-top : leastUnder p cells k across up j i ≤ 2
   unfolding leastUnder
-  under-top = in-top p k (cellByte p cells k) across up j i
+  under-top = over-top _ _ _ _
 
   pub under-le : (y x : ℕ) → y < rowsAt p k → x < columnsAt p k → firstOver (upAt p k) y ≤ j → j ≤ firstOver (upAt p k) y + up
-      → firstOver (acrossAt p k) x ≤ i → i ≤ firstOver (acrossAt p k) x + across → leastUnder p cells k across up j i ≤ cellByte p cells k y x
+      → firstOver (acrossAt p k) x ≤ i → i ≤ firstOver (acrossAt p k) x + across → leastUnder p cells k across up j i ≤ getD cells (at y x) 0
   unfolding leastUnder
-  under-le = in-le p k (cellByte p cells k) across up j i
+  under-le y x l m a b c d = le-trans (over-le (upAt p k) up j _ y l a b) (over-le (acrossAt p k) across i (λ x. getD cells (at y x) 0) x m c d)
 
   pub under-ge : (v : ℕ) → v ≤ 2
       → ((y x : ℕ) → y < rowsAt p k → x < columnsAt p k → firstOver (upAt p k) y ≤ j → j ≤ firstOver (upAt p k) y + up → firstOver (acrossAt p k) x ≤ i
-      → i ≤ firstOver (acrossAt p k) x + across → v ≤ cellByte p cells k y x)
+      → i ≤ firstOver (acrossAt p k) x + across → v ≤ getD cells (at y x) 0)
       → v ≤ leastUnder p cells k across up j i
   unfolding leastUnder
-  under-ge = in-ge p k (cellByte p cells k) across up j i
+  under-ge v t h = over-ge (upAt p k) up j _ v t (λ y l a b. over-ge (acrossAt p k) across i _ v t (λ x m c d. h y x l m a b c d))
 
 -- ---- windows over cells that are placed
-
-module _ (p : Plan) (range : InRange p) (k : ℕ) (l : k < p .levels) (across up : ℕ) where
-  abbrev C : Side
-  C = acrossAt p k
-
-  abbrev R : Side
-  R = upAt p k
-
-  -- of a table that has the level's bytes row by row
-  module _ (from : List ℕ) (byte : ℕ → ℕ → ℕ) (byte-is : (y x : ℕ) → y < rowsAt p k → x < columnsAt p k → inRows from (columnsAt p k) y x ≡ byte y x) where
-    at-in : (j i : ℕ) → windowAt (placed C R from) (firsts C) (firsts R) across up j i ≡ leastIn p k byte across up j i
-    unfolding windowAt placed placedRow
-    at-in j i = le-antisymm
-        (in-ge p k byte across up j i (windowAt (placed C R from) (firsts C) (firsts R) across up j i) (least-top 2 _ _) (λ y x a b c d e f.
-        rw (← byte-is y x a b)
-        (le-trans (back-le (firsts R) up j (λ z. least 2 (across + 1) (back (firsts C) i (placed C R from z))) (firstOver R y) (first-lt R (up-in p range k l) y a) c d)
-        (le-trans (back-le (firsts C) across i (placed C R from (firstOver R y)) (firstOver C x) (first-lt C (across-in p range k l) x b) e f)
-        (le-trans (over-le R 0 (firstOver R y) (λ z. leastOver C 0 (firstOver C x) (inRows from (columnsAt p k) z)) y a (omega arith) (omega arith))
-        (over-le C 0 (firstOver C x) (inRows from (columnsAt p k) y) x b (omega arith) (omega arith)))))))
-        (back-ge (firsts R) up j _ (leastIn p k byte across up j i) (in-top p k byte across up j i) (λ y′ a b c. back-ge (firsts C) across i _ (leastIn p k byte across up j i) (in-top p k byte across up j i) (λ x′ d e f.
-        over-ge R 0 y′ _ (leastIn p k byte across up j i) (in-top p k byte across up j i) (λ y g h o. over-ge C 0 x′ (inRows from (columnsAt p k) y) (leastIn p k byte across up j i) (in-top p k byte across up j i) (λ x q r s.
-        rw (byte-is y x g q) (in-le p k byte across up j i y x g q (omega arith) (omega arith) (omega arith) (omega arith)))))))
-
-    module _ {columns high : ℕ} (c : columns ≡ firsts C) (r : high ≡ firsts R) where
-      pub table-least : (t : ℕ) → windowLeast (placed C R from) columns high across up t ≡ tableIn p k byte across up t
-      unfolding windowLeast tableIn
-      table-least t = rw (c, r) (at-in _ _)
 
 module _ (p : Plan) (range : InRange p) (cells : List ℕ) (k : ℕ) (l : k < p .levels) (across up : ℕ) where
   abbrev part : List ℕ
@@ -121,14 +79,27 @@ module _ (p : Plan) (range : InRange p) (cells : List ℕ) (k : ℕ) (l : k < p 
   rows = upAt p k
 
   -- the byte of a cell of the level
-  byte-is : (y x : ℕ) → y < rowsAt p k → x < columnsAt p k → inRows part (columnsAt p k) y x ≡ cellByte p cells k y x
+  byte-is : (y x : ℕ) → inRows part (columnsAt p k) y x ≡ getD cells (at p cells k across up 0 0 y x) 0
   unfolding number
-  byte-is y x _ _ = part-at (cellOffset p k) cells (y * columnsAt p k + x) ∙ ap (λ m. getD cells m 0) (omega arith)
+  byte-is y x = part-at (cellOffset p k) cells (y * columnsAt p k + x) ∙ ap (λ m. getD cells m 0) (omega arith)
+
+  at-under : (j i : ℕ) → windowAt (placed cols rows part) (firsts cols) (firsts rows) across up j i ≡ leastUnder p cells k across up j i
+  unfolding windowAt placed placedRow
+  at-under j i = le-antisymm
+      (under-ge p cells k across up j i (windowAt (placed cols rows part) (firsts cols) (firsts rows) across up j i) (least-top 2 _ _) (λ y x a b c d e f.
+      rw (← byte-is y x)
+      (le-trans (back-le (firsts rows) up j (λ z. least 2 (across + 1) (back (firsts cols) i (placed cols rows part z))) (firstOver rows y) (first-lt rows (up-in p range k l) y a) c d)
+      (le-trans (back-le (firsts cols) across i (placed cols rows part (firstOver rows y)) (firstOver cols x) (first-lt cols (across-in p range k l) x b) e f)
+      (le-trans (over-le rows 0 (firstOver rows y) (λ z. leastOver cols 0 (firstOver cols x) (inRows part (columnsAt p k) z)) y a (omega arith) (omega arith))
+      (over-le cols 0 (firstOver cols x) (inRows part (columnsAt p k) y) x b (omega arith) (omega arith)))))))
+      (back-ge (firsts rows) up j _ (leastUnder p cells k across up j i) (under-top p cells k across up j i) (λ y′ a b c. back-ge (firsts cols) across i _ (leastUnder p cells k across up j i) (under-top p cells k across up j i) (λ x′ d e f.
+      over-ge rows 0 y′ _ (leastUnder p cells k across up j i) (under-top p cells k across up j i) (λ y g h o. over-ge cols 0 x′ (inRows part (columnsAt p k) y) (leastUnder p cells k across up j i) (under-top p cells k across up j i) (λ x q r s.
+      rw (byte-is y x) (under-le p cells k across up j i y x g q (omega arith) (omega arith) (omega arith) (omega arith)))))))
 
   module _ {columns high here : ℕ} (c : columns ≡ firsts cols) (r : high ≡ firsts rows) (h : here ≡ cellOffset p k) where
     pub level-least : (t : ℕ) → windowLeast (placed cols rows (midOf here (length cells - here) cells)) columns high across up t ≡ levelLeast p cells k across up t
-    unfolding levelLeast leastUnder tableIn
-    level-least t = rw h (table-least p range k l across up part (cellByte p cells k) byte-is c r t)
+    unfolding windowLeast levelLeast
+    level-least t = rw (c, r, h) (at-under _ _)
 
   pub level-in : {room place : ℕ} → LevelRoom p k (length cells) room place across up → LevelIn room place (firsts cols) (firsts rows) across up
   level-in x =
@@ -158,19 +129,14 @@ module _ (p : Plan) (range : InRange p) (cells : List ℕ) (k : ℕ) (l : k < p 
       )
 
 -- the bytes of the table
-module _ (p : Plan) (byte : ℕ → ℕ → ℕ) (found start : List ℕ) (k across up : ℕ) (e : found ≡ filled 0 (high p k up * wide p k across) (tableIn p k byte across up) start)
-    (s : high p k up * wide p k across ≤ length start) where
-  pub table-at : (j i : ℕ) → j < high p k up → i < wide p k across → getD found (j * wide p k across + i) 0 ≡ leastIn p k byte across up j i
-  unfolding filled tableIn
-  table-at j i l m =
-      let b = mul-le-mul-right (wide p k across) l in
-      let t : j * wide p k across + i < high p k up * wide p k across = omega arith in
-      ap (λ z. getD z (j * wide p k across + i) 0) e
-      ∙ (mapped-at _ start (j * wide p k across + i) (omega arith)
-      ∙ rw (run-in 0 (high p k up * wide p k across) (j * wide p k across + i) (omega arith) (omega arith), digits-div j m, digits-mod j m))
-
 module _ (p : Plan) (cells found start : List ℕ) (k across up : ℕ) (e : found ≡ filled 0 (high p k up * wide p k across) (levelLeast p cells k across up) start)
     (s : high p k up * wide p k across ≤ length start) where
   pub level-entry : (t : ℕ) → t < high p k up * wide p k across → getD found t 0 ≡ levelLeast p cells k across up t
   unfolding filled
   level-entry t l = ap (λ z. getD z t 0) e ∙ (mapped-at _ start t (omega arith) ∙ rw (run-in 0 (high p k up * wide p k across) t (omega arith) (omega arith)))
+
+  pub level-at : (j i : ℕ) → j < high p k up → i < wide p k across → getD found (j * wide p k across + i) 0 ≡ leastUnder p cells k across up j i
+  unfolding levelLeast
+  level-at j i l m =
+      let b = mul-le-mul-right (wide p k across) l in
+      level-entry (j * wide p k across + i) (omega arith) ∙ rw (digits-div j m, digits-mod j m)

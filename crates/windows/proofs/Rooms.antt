@@ -1,7 +1,7 @@
 -- How many bytes are enough for tables of windows, of any plan that is not too large. Assumes nothing.
 use mathlib.Core.Path.{_≡_}
 use Prim.Native.Nat.{ℕ, _*_, _≤_}
-use native.Mathlib.Nat.{mul-le-mul, le-trans}
+use native.Mathlib.Nat.{mul-le-mul, le-refl, le-trans}
 use native.Mathlib.Omega.{arith}
 use lib.ListN.{length, take, replicate, length-replicate}
 use lib.Seq.{length-take-le}
@@ -15,11 +15,13 @@ use Rattle.windows.specs.Level.{wide, high, ValueRoom, NearRoom}
 use Rattle.grid.specs.Bounds.{mostCells, mostFunctions, mostNear}
 
 -- twice the degrees are at most 8
+wide-le : (p : Plan) → InRange p → (k : ℕ) → wide p k (2 * p .«degree_across») ≤ spacious (p .columns) (columnsAt p k)
+wide-le p r k = omega (arith, r .across≤, firsts-most (acrossAt p k) (across-sized p r k) (r .across≤))
+
 table-le : (p : Plan) → InRange p → (k n : ℕ) → spacious (p .rows) (rowsAt p k) * spacious (p .columns) (columnsAt p k) ≤ n → high p k (2 * p .«degree_up») * wide p k (2 * p .«degree_across») ≤ n
 table-le p r k n b =
     let h : high p k (2 * p .«degree_up») ≤ spacious (p .rows) (rowsAt p k) = omega (arith, r .up≤, firsts-most (upAt p k) (up-sized p r k) (r .up≤)) in
-    let w : wide p k (2 * p .«degree_across») ≤ spacious (p .columns) (columnsAt p k) = omega (arith, r .across≤, firsts-most (acrossAt p k) (across-sized p r k) (r .across≤)) in
-    le-trans (mul-le-mul h w) b
+    le-trans (mul-le-mul h (wide-le p r k)) b
 
 -- an array lent whole
 pub zeros-length : (n : ℕ) → length {A = ℕ} (take n (replicate n 0)) ≡ n
@@ -29,4 +31,6 @@ pub value-room : (p : Plan) → InRange p → cellTotal p ≤ mostCells → Valu
 value-room p r s = rw (zeros-length mostFunctions) (record { enough = λ k l. table-le p r k _ (windows-bound p r s k l) })
 
 pub near-room : (p : Plan) → InRange p → cellTotal p ≤ mostCells → NearRoom p (length {A = ℕ} (take mostNear (replicate mostNear 0)))
-near-room p r s = rw (zeros-length mostNear) (record { enough = λ k l. table-le p r k _ (near-bound p r s k (omega arith)) })
+near-room p r s = rw (zeros-length mostNear) (record {
+  enough = λ k l. le-trans (mul-le-mul (le-refl (rowsAt p k)) (wide-le p r k)) (near-bound p r s k (omega arith));
+})

@@ -1,6 +1,6 @@
--- What the least bytes of a level say of a function's support, and of a cell's neighbourhood: each is below the bytes of the cells
--- there, and above what is below them all. Assumes nothing.
-use mathlib.Core.Path.{_≡_, refl, ap, _∙_}
+-- What the least bytes of a level say of a function's support: each is below the bytes of the cells there, and above what is below them
+-- all. Assumes nothing.
+use mathlib.Core.Path.{_≡_, refl, ap}
 use mathlib.Core.Bool.{Bool, _&&_}
 use mathlib.Core.List.{List}
 use Prim.Native.Nat.{ℕ, _+_, _*_, _≤_, _<_}
@@ -13,7 +13,7 @@ use Rattle.facts.proofs.Tests.{and-i, and-l, and-r, cases, same, not-i, not-e, 
 use Rattle.facts.proofs.Bounded.{some-i, some-e}
 use Rattle.grid.specs.declared.Plan.{Plan}
 use Rattle.grid.specs.declared.Place.{Place}
-use Rattle.grid.specs.Plan.{functionRowsAt, functionColumnsAt, functionOffset, cellTotal, functionTotal, cellPlace, cellNumber, cellLevel, functionPlace, CellInside, acrossAt, upAt, above, supported, near}
+use Rattle.grid.specs.Plan.{functionRowsAt, functionColumnsAt, functionOffset, cellTotal, functionTotal, cellPlace, cellNumber, cellLevel, functionPlace, CellInside, acrossAt, upAt, supported, near}
 use Rattle.grid.specs.Range.{InRange, HasNeighbourhood}
 use Rattle.grid.specs.Side.{firstOver}
 use Rattle.grid.specs.Spans.{ancestorOf}
@@ -22,8 +22,8 @@ use Rattle.grid.proofs.Spans.{ancestor-in}
 use Rattle.grid.proofs.Numbering.{level-ends, place-rest}
 use Rattle.grid.proofs.Sides.{across-firsts, up-firsts}
 use Rattle.grid.proofs.First.{supported-under, under-supported, near-around, around-near}
-use Rattle.windows.specs.Level.{leastIn, parentByte, leastUnder, levelLeast, wide, high}
-use Rattle.windows.proofs.Levels.{in-le, in-ge, under-le, under-ge}
+use Rattle.windows.specs.Level.{leastUnder, levelLeast, wide, high}
+use Rattle.windows.proofs.Levels.{under-le, under-ge}
 
 abbrev at : ℕ → ℕ → ℕ → Place
 at k y x = record { level = k; row = y; column = x }
@@ -86,33 +86,3 @@ module _ (p : Plan) (range : InRange p) (cells : List ℕ) where
         rw (across-firsts p k)
         (ap (λ (x : Place). leastUnder p cells (x .level) (p .«degree_across») (p .«degree_up») (x .row) (x .column))
         (place-rest (functionColumnsAt p) (functionRowsAt p) (p .levels) (functionOffset p k + j) k j l (omega arith) m))
-
-  -- of the window of twice the degrees that ends the degrees after the ancestor's place
-  module _ (q : ℕ) (b : q < cellTotal p) (has : HasNeighbourhood p (cellLevel p q)) where
-    abbrev a : Place
-    a = ancestorOf p (cellPlace p q)
-
-    abbrev least-near : ℕ
-    least-near = leastIn p (a .level) (parentByte p cells (a .level)) (2 * p .«degree_across») (2 * p .«degree_up») (firstOver (upAt p (a .level)) (a .row) + p .«degree_up») (firstOver (acrossAt p (a .level)) (a .column) + p .«degree_across»)
-
-    pub near-le : (c : ℕ) → T (near p q c) → least-near ≤ getD cells c 0
-    unfolding parentByte
-    near-le c t =
-        let l = near-in p range q c t in
-        let (e, i, v, u) = near-around p range q c b t in
-        let rows = u .rows in
-        let columns = u .columns in
-        let n : cellNumber p (above p e) ≡ c = ap (cellNumber p) v ∙ cell-number-place p range c l in
-        rw (u .level)
-        (rw n at (in-le p (e .level) (parentByte p cells (e .level)) (2 * p .«degree_across») (2 * p .«degree_up») _ _ (e .row) (e .column) (i .row<) (i .column<) (rows .right) (omega (arith, rows .left)) (columns .right) (omega (arith, columns .left))))
-
-    pub near-ge : (v : ℕ) → v ≤ 2 → ((c : ℕ) → T (near p q c) → v ≤ getD cells c 0) → v ≤ least-near
-    unfolding parentByte
-    near-ge v t h = in-ge p (a .level) (parentByte p cells (a .level)) (2 * p .«degree_across») (2 * p .«degree_up») (firstOver (upAt p (a .level)) (a .row) + p .«degree_up») (firstOver (acrossAt p (a .level)) (a .column) + p .«degree_across») v t (λ y z l m r s c d.
-        let i : CellInside p (at (a .level) y z) = record { level< = ancestor-in p range (cellPlace p q) has (cell-inside p range q b) .level<; row< = l; column< = m } in
-        h (cellNumber p (above p (at (a .level) y z)))
-        (around-near p range q (at (a .level) y z) b has i (record {
-          level = refl;
-          columns = record { right = c; left = omega (arith, d) };
-          rows = record { right = r; left = omega (arith, s) };
-        })))

@@ -8,7 +8,7 @@ use Rattle.facts.specs.Least.{least}
 use Rattle.facts.specs.Mapped.{inRun}
 use Rattle.grid.specs.declared.Plan.{Plan}
 use Rattle.grid.specs.declared.Side.{Side}
-use Rattle.grid.specs.Plan.{columnsAt, rowsAt, cellTotal, functionTotal, cellNumber, acrossAt, upAt, above, ancestor, supported}
+use Rattle.grid.specs.Plan.{columnsAt, rowsAt, cellTotal, functionTotal, cellNumber, acrossAt, upAt, supported}
 use Rattle.grid.specs.Side.{firstOver, firsts, SideIn}
 use Rattle.windows.specs.Windows.{inRows}
 use Rattle.grid.specs.Range.{InRange}
@@ -36,20 +36,10 @@ pub record PlaceIn (across up : Side) (size place more : ℕ) : Type 0 where
   pub from≤ : up .cells * across .cells ≤ size
   pub out≤ : firsts up * (firsts across + more) ≤ place
 
--- the least of the bytes of the cells of level k whose first functions are in row j and column i or at most `up` and `across` before them;
--- `byte` has them by row and column
-unfoldable pub leastIn : Plan → ℕ → (ℕ → ℕ → ℕ) → ℕ → ℕ → ℕ → ℕ → ℕ
-leastIn p k byte across up j i = leastOver (upAt p k) up j (λ y. leastOver (acrossAt p k) across i (byte y))
-
--- the bytes of the level's own cells, and those of their parents
-abbrev pub cellByte : Plan → List ℕ → ℕ → ℕ → ℕ → ℕ
-cellByte p cells k y x = getD cells (cellNumber p (record { level = k; row = y; column = x })) 0
-
-unfoldable pub parentByte : Plan → List ℕ → ℕ → ℕ → ℕ → ℕ
-parentByte p cells k y x = getD cells (cellNumber p (above p (record { level = k; row = y; column = x }))) 0
-
+-- the least byte of the cells of level k whose first functions are in row j and column i or at most `up` and `across` before them
 unfoldable pub leastUnder : Plan → List ℕ → ℕ → ℕ → ℕ → ℕ → ℕ → ℕ
-leastUnder p cells k across up j i = leastIn p k (cellByte p cells k) across up j i
+leastUnder p cells k across up j i =
+    leastOver (upAt p k) up j (λ y. leastOver (acrossAt p k) across i (λ x. getD cells (cellNumber p (record { level = k; row = y; column = x })) 0))
 
 -- the table of these bytes: its columns and rows
 abbrev pub wide : Plan → ℕ → ℕ → ℕ
@@ -59,9 +49,6 @@ abbrev pub high : Plan → ℕ → ℕ → ℕ
 high p k up = firsts (upAt p k) + up
 
 -- and its bytes
-unfoldable pub tableIn : Plan → ℕ → (ℕ → ℕ → ℕ) → ℕ → ℕ → ℕ → ℕ
-tableIn p k byte across up t = leastIn p k byte across up (t / wide p k across) (t % wide p k across)
-
 unfoldable pub levelLeast : Plan → List ℕ → ℕ → ℕ → ℕ → ℕ → ℕ
 levelLeast p cells k across up t = leastUnder p cells k across up (t / wide p k across) (t % wide p k across)
 
@@ -75,32 +62,15 @@ pub record LevelRoom (p : Plan) (k size room place across up : ℕ) : Type 0 whe
   pub scratch≤ : high p k up * wide p k across ≤ room
   pub out≤ : high p k up * wide p k across ≤ place
 
--- n bytes are enough for the table of any of the first levels with windows of twice the degrees, and for that of its functions with
--- windows of the degrees
-pub record TableRoom (p : Plan) (levels n : ℕ) : Type 0 where
-  pub enough : (k : ℕ) → k < levels → high p k (2 * p .«degree_up») * wide p k (2 * p .«degree_across») ≤ n
+-- n bytes are enough for the table of any level with windows of twice the degrees, and so for that of its functions with windows of the
+-- degrees
+pub record ValueRoom (p : Plan) (n : ℕ) : Type 0 where
+  pub enough : (k : ℕ) → k < p .levels → high p k (2 * p .«degree_up») * wide p k (2 * p .«degree_across») ≤ n
 
--- the values of functions are of any level; the ancestors by which neighbourhoods are found are cells that have children
-abbrev pub ValueRoom : Plan → ℕ → Type 0
-ValueRoom p = TableRoom p (p .levels)
-
-abbrev pub NearRoom : Plan → ℕ → Type 0
-NearRoom p = TableRoom p (p .levels - 1)
-
--- ---- the parents of a level's cells
-
--- a row of cells, each with the byte of the column on which it stands, one level up
-unfoldable pub parentsRow : Plan → List ℕ → ℕ → ℕ
-parentsRow p from x = getD from (ancestor p 1 x) 0
-
--- there are such bytes
-pub record ParentsIn (p : Plan) (n size room : ℕ) : Type 0 where
-  pub out≤ : n ≤ room
-  pub from< : (x : ℕ) → x < n → ancestor p 1 x < size
-
--- a level's cells, row by row
-unfoldable pub parentTable : Plan → List ℕ → ℕ → ℕ → ℕ
-parentTable p cells k t = parentByte p cells k (t / columnsAt p k) (t % columnsAt p k)
+-- n bytes are enough for the rows of any level but the last with windows of twice the degree across: the ancestors by which
+-- neighbourhoods are found are cells of levels that have finer ones
+pub record NearRoom (p : Plan) (n : ℕ) : Type 0 where
+  pub enough : (k : ℕ) → k < p .levels - 1 → rowsAt p k * wide p k (2 * p .«degree_across») ≤ n
 
 -- ---- the functions over a cell
 

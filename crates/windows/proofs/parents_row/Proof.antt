@@ -6,7 +6,7 @@ use borrow.Author.Needs.{needs}
 use lib.ListN.{length, getD}
 use Rattle.facts.specs.Mapped.{filled}
 use Rattle.facts.proofs.Mapped.{filled-none, fill-length, fill-next}
-use Rattle.windows.specs.Level.{parentsRow}
+use Rattle.windows.specs.Near.{parentsRow}
 use Rattle.windows.proofs.parents_row.Statement.{statement}
 use Rattle.windows.proofs.parents_row.Tie as tie
 
