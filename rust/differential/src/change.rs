@@ -264,7 +264,7 @@ impl Tables {
                 self.expect_cost(kind, marks, &change.cell_list, said);
             }
             (self.cells, self.functions) = (change.cells, change.functions);
-            self.expect_few_levels(said);
+            self.expect_present_levels(said);
         }
         outcome
     }

@@ -588,10 +588,10 @@ impl Tables {
         }
     }
 
-    /// Over each active cell of level k, with a class m other than 0, the active functions have levels
-    /// from k-m+1 to k, at most m of them; those of finer levels are passive and those of coarser ones
-    /// deactivated. For tables that check passes; `said` tells what left them.
-    fn expect_few_levels(&self, said: &dyn Fn() -> String) {
+    /// What Req 12 claims in place of Req 02. Over each active cell of level k, with a class m other than
+    /// 0, no function of level k-m+1 is passive, and none of a coarser level; those of levels finer than
+    /// k all are. For tables that check passes; `said` tells what left them.
+    fn expect_present_levels(&self, said: &dyn Fn() -> String) {
         let class = self.plan.class;
         if class == 0 {
             return;
@@ -602,10 +602,10 @@ impl Tables {
                 (0..self.plan.levels).filter(move |level| levels >> level & 1 == 1)
             };
             let k = over.cell.level;
-            let few = levels_with(model::PASSIVE).all(|l| k + 1 < l + class)
+            let present = levels_with(model::PASSIVE).all(|l| k + 1 < l + class)
                 && levels_with(model::ACTIVE).all(|l| l <= k)
                 && levels_with(model::DEACTIVATED).all(|l| l <= k);
-            assert!(few, "{over:?} after {}", said());
+            assert!(present, "{over:?} after {}", said());
         }
     }
 

@@ -4,17 +4,18 @@ use crate::{Cell, Plan};
 
 impl Plan {
     /// The most cells that one marked cell of level j refines, itself included:
-    /// 1 + ⌊j/(m-1)⌋·(4p+1)·(4q+1). Where m is 0 no cell asks for others.
+    /// 1 + ⌊j/(m-1)⌋·(2p+1)·(2q+1). Req 09 allows 4p+1 and 4q+1; with the neighbourhoods of Req 12 these
+    /// are enough. Where m is 0 no cell asks for others.
     pub fn most_refined(self, level: u32) -> usize {
         if self.class == 0 {
             return 1;
         }
         let (p, q, m) = (self.degree_across, self.degree_up, self.class);
-        (1 + level / (m - 1) * (4 * p + 1) * (4 * q + 1)) as usize
+        (1 + level / (m - 1) * (2 * p + 1) * (2 * q + 1)) as usize
     }
 
     /// Whether a cell can become refined because this one is marked: it is the marked cell, or it
-    /// lies a multiple of m-1 levels above it, at most 2p columns and 2q rows from its ancestor there.
+    /// lies a multiple of m-1 levels above it, at most p columns and q rows from its ancestor there.
     pub fn reaches(self, mark: Cell, cell: Cell) -> bool {
         if cell.level >= mark.level || self.class == 0 {
             return cell == mark;
@@ -22,8 +23,8 @@ impl Plan {
         let levels_up = mark.level - cell.level;
         let ancestor = self.ancestor(mark, levels_up);
         levels_up.is_multiple_of(self.class - 1)
-            && cell.column.abs_diff(ancestor.column) <= 2 * self.degree_across
-            && cell.row.abs_diff(ancestor.row) <= 2 * self.degree_up
+            && cell.column.abs_diff(ancestor.column) <= self.degree_across
+            && cell.row.abs_diff(ancestor.row) <= self.degree_up
     }
 }
 
@@ -62,10 +63,10 @@ mod tests {
 
     #[test]
     fn by_hand() {
-        // ⌊j/2⌋ windows of 9 by 17.
+        // ⌊j/2⌋ windows of 5 by 9.
         let class_3 = plan([1, 1, 8, 2, 4, 3, 0, 0]);
         let most: Vec<usize> = (0..8).map(|level| class_3.most_refined(level)).collect();
-        assert_eq!(most, [1, 1, 154, 154, 307, 307, 460, 460]);
+        assert_eq!(most, [1, 1, 46, 46, 91, 91, 136, 136]);
         let class_0 = Plan { class: 0, ..class_3 };
         assert!((0..8).all(|level| class_0.most_refined(level) == 1));
         // Column 7 of level 1 has column 3 of level 0 as its ancestor.
@@ -75,7 +76,8 @@ mod tests {
             .filter(|&cell| sample.reaches(sample.cell_at(15), cell))
             .map(|cell| sample.cell_number(cell))
             .collect();
-        assert_eq!(reached, [1, 2, 3, 4, 5, 15]);
+        assert_eq!(reached, [2, 3, 4, 15]);
+        assert_eq!(sample.most_refined(1), 10);
     }
 
     /// The bound is the marked cell and all windows, where the mesh clips none of them.
@@ -90,7 +92,7 @@ mod tests {
         let wide = plan([16, 16, 3, 1, 1, 2, 0, 0]);
         let mark = Cell { level: 2, row: 30, column: 33 };
         let reached = wide.cells().filter(|&cell| wide.reaches(mark, cell)).count();
-        assert_eq!((reached, wide.most_refined(2)), (51, 51));
+        assert_eq!((reached, wide.most_refined(2)), (19, 19));
     }
 
     /// Whatever a cell asks for, directly or through others, is within its reach.

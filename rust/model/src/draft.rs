@@ -170,24 +170,24 @@ mod tests {
         (plan, change.cells, change.functions)
     }
 
-    /// Cell 3 is refined, and cell 1 for the class.
+    /// Cells 3 and 4 are refined, and cell 1 for the class: it has the child beside cell 4.
     #[test]
     fn a_draft_by_hand() {
         let (plan, cells, functions) = mesh();
         let mut draft = Draft::none(vec![9; 3]);
-        assert_eq!(draft.add(plan, &cells, &functions, &[3]), Err(19));
+        assert_eq!(draft.add(plan, &cells, &functions, &[4]), Err(19));
         assert_eq!(draft.open(plan, &cells, &functions), Ok(()));
         assert_eq!(draft.open(plan, &cells, &functions), Err(18));
-        assert_eq!(draft.add(plan, &cells, &functions, &[3]), Ok(()));
-        assert_eq!(draft.add(plan, &cells, &functions, &[1, 0]), Err(8));
-        assert_eq!(draft.add(plan, &cells, &functions, &[3, 3, 3]), Err(10));
-        assert_eq!(draft.add(plan, &cells, &functions, &[3]), Ok(()));
-        assert_eq!(draft, Draft { open: 1, marks: 2, list: vec![3, 3, 9] });
-        assert_eq!(draft.close(plan, &cells, &functions, 1, 3), Err(10));
-        assert_eq!(draft.collected(), Some(&[3, 3][..]));
-        let change = draft.close(plan, &cells, &functions, 2, 3).expect("room for both lists");
-        assert_eq!((change.cell_list, change.function_list), (vec![1, 3], vec![1, 5, 8]));
-        assert_eq!(draft, Draft { open: 0, marks: 0, list: vec![3, 3, 9] });
+        assert_eq!(draft.add(plan, &cells, &functions, &[4]), Ok(()));
+        assert_eq!(draft.add(plan, &cells, &functions, &[3, 0]), Err(8));
+        assert_eq!(draft.add(plan, &cells, &functions, &[4, 3, 3]), Err(10));
+        assert_eq!(draft.add(plan, &cells, &functions, &[4, 3]), Ok(()));
+        assert_eq!(draft, Draft { open: 1, marks: 3, list: vec![4, 4, 3] });
+        assert_eq!(draft.close(plan, &cells, &functions, 2, 4), Err(10));
+        assert_eq!(draft.collected(), Some(&[4, 4, 3][..]));
+        let change = draft.close(plan, &cells, &functions, 3, 4).expect("room for both lists");
+        assert_eq!((change.cell_list, change.function_list), (vec![1, 3, 4], vec![1, 5, 8, 9]));
+        assert_eq!(draft, Draft { open: 0, marks: 0, list: vec![4, 4, 3] });
         assert_eq!(draft.discard(plan, &cells, &functions), Err(19));
     }
 

@@ -42,7 +42,7 @@ impl Direction {
 pub struct Knots {
     list: Vec<u32>,
     covered: Vec<Range<u32>>,
-    near: Vec<Range<u32>>,
+    over: Vec<Vec<u32>>,
 }
 
 impl Knots {
@@ -54,15 +54,13 @@ impl Knots {
             .windows(direction.degree as usize + 2)
             .map(|knots| knots[0]..knots[knots.len() - 1])
             .collect();
-        let near = (0..direction.cells())
+        let over = (0..direction.cells())
             .map(|cell| {
-                let over = || covered.iter().filter(|covered| covered.contains(&cell));
-                let first = over().map(|covered| covered.start).min().expect("a function");
-                let end = over().map(|covered| covered.end).max().expect("a function");
-                first..end
+                let functions = (0..).zip(&covered).filter(|(_, covered)| covered.contains(&cell));
+                functions.map(|(function, _)| function).collect()
             })
             .collect();
-        Knots { list, covered, near }
+        Knots { list, covered, over }
     }
 
     /// Those of a direction. The last ones are kept, since every function of a level asks for them.
@@ -99,16 +97,27 @@ impl Knots {
         self.covered[function as usize].clone()
     }
 
-    /// The cells that are covered by a common function with this one. Each function covers cells in
-    /// a row with this one among them, so all of them together are in a row too.
-    pub fn near(&self, cell: u32) -> Range<u32> {
-        self.near[cell as usize].clone()
+    /// The functions that cover a cell.
+    pub fn over(&self, cell: u32) -> &[u32] {
+        &self.over[cell as usize]
     }
 }
 
 #[cfg(test)]
 mod tests {
     use super::*;
+    use std::collections::BTreeSet;
+
+    /// The cells that are covered by a common function with this one. Each function covers cells in a
+    /// row with this one among them, so all of them together are in a row too.
+    fn near(knots: &Knots, cell: u32) -> Range<u32> {
+        let all: BTreeSet<u32> =
+            knots.over(cell).iter().flat_map(|&function| knots.covered(function)).collect();
+        let (first, last) = (all.first().expect("a cell"), all.last().expect("a cell"));
+        let in_a_row = *first..last + 1;
+        assert!(all.iter().copied().eq(in_a_row.clone()), "{all:?}");
+        in_a_row
+    }
 
     /// Every direction of few columns, all sets of corners, and some of sixteen columns.
     fn directions() -> Vec<Direction> {
@@ -139,12 +148,13 @@ mod tests {
         assert_eq!(knots.functions(), 9);
         let covered: Vec<Range<u32>> = (0..9).map(|i| knots.covered(i)).collect();
         assert_eq!(covered, [0..1, 0..2, 0..3, 1..3, 2..4, 3..5, 3..6, 4..6, 5..6]);
-        let near: Vec<Range<u32>> = (0..6).map(|x| knots.near(x)).collect();
-        assert_eq!(near, [0..3, 0..3, 0..4, 2..6, 3..6, 3..6]);
+        let all_near: Vec<Range<u32>> = (0..6).map(|x| near(&knots, x)).collect();
+        assert_eq!(all_near, [0..3, 0..3, 0..4, 2..6, 3..6, 3..6]);
         let finer = Knots::of(Direction { level: 1, ..direction });
         assert_eq!(finer.list(), [0, 0, 0, 1, 2, 3, 4, 5, 6, 6, 7, 8, 9, 10, 11, 12, 12, 12]);
         assert_eq!(finer.covered(7), 5..7);
-        assert_eq!(finer.near(5), 3..7);
+        assert_eq!(finer.over(5), [5, 6, 7]);
+        assert_eq!(near(&finer, 5), 3..7);
     }
 
     /// Without corners: n + p functions, function i covers max(0, i-p) to min(n-1, i), and a common
@@ -158,7 +168,7 @@ mod tests {
                 assert_eq!(knots.covered(i), i.saturating_sub(p)..i.min(n - 1) + 1);
             }
             for x in 0..n {
-                assert_eq!(knots.near(x), x.saturating_sub(p)..(x + p).min(n - 1) + 1);
+                assert_eq!(near(&knots, x), x.saturating_sub(p)..(x + p).min(n - 1) + 1);
             }
         }
     }
@@ -192,7 +202,8 @@ mod tests {
                 let over: Vec<u32> =
                     (0..knots.functions()).filter(|&i| knots.covered(i).contains(&x)).collect();
                 assert_eq!(over, (over[0]..over[0] + p + 1).collect::<Vec<_>>(), "{direction:?}");
-                assert!(x == 0 || knots.near(x).start < x && knots.near(x - 1).end > x);
+                assert_eq!(knots.over(x), over, "{direction:?}");
+                assert!(x == 0 || near(&knots, x).start < x && near(&knots, x - 1).end > x);
             }
             for i in 0..knots.functions() {
                 assert!((1..=p as usize + 1).contains(&knots.covered(i).len()));
@@ -215,8 +226,9 @@ mod tests {
         for direction in directions() {
             let knots = Knots::of(direction);
             for x in 0..direction.cells() {
-                assert!(knots.near(x).contains(&x));
-                assert!(knots.near(x).all(|y| knots.near(y).contains(&x)), "{direction:?} {x}");
+                assert!(near(&knots, x).contains(&x));
+                let both = near(&knots, x).all(|y| near(&knots, y).contains(&x));
+                assert!(both, "{direction:?} {x}");
             }
         }
     }

@@ -17,6 +17,7 @@ use std::rc::Rc;
 mod cost;
 pub mod draft;
 pub mod file;
+pub mod h_rule;
 pub mod height;
 pub mod knots;
 pub mod planes;
@@ -204,21 +205,30 @@ impl Plan {
         rows.flat_map(move |row| columns.clone().map(move |column| Cell { level, row, column }))
     }
 
+    /// The functions of the cell's own level that cover it.
+    fn functions_over(self, cell: Cell) -> Vec<Function> {
+        let level = cell.level;
+        let (across, up) = (self.across(level), self.up(level));
+        let in_row = |row| {
+            across.over(cell.column).iter().map(move |&column| Function { level, row, column })
+        };
+        up.over(cell.row).iter().flat_map(|&row| in_row(row)).collect()
+    }
+
+    /// The cells of this one's level that are covered, together with it, by a common function of that
+    /// level.
+    fn covered_with(self, cell: Cell) -> BTreeSet<Cell> {
+        self.functions_over(cell).into_iter().flat_map(|function| self.support(function)).collect()
+    }
+
     /// The cells that must be refined where this one, of level j, is: those of level j-m+1 that have a
-    /// child that is, in both directions, covered by a common function of level j-m+2 with its
-    /// ancestor there.
-    pub fn neighbourhood(self, cell: Cell) -> Vec<Cell> {
+    /// child covered, together with its ancestor at level j-m+2, by a common function of that level.
+    pub fn neighbourhood(self, cell: Cell) -> BTreeSet<Cell> {
         if self.class == 0 || cell.level + 1 < self.class {
-            return Vec::new();
+            return BTreeSet::new();
         }
-        let ancestor = self.ancestor(cell, self.class - 2);
-        let level = ancestor.level;
-        let (rows, columns) =
-            (self.up(level).near(ancestor.row), self.across(level).near(ancestor.column));
-        let children =
-            rows.flat_map(|row| columns.clone().map(move |column| Cell { level, row, column }));
-        let parents: BTreeSet<Cell> = children.filter_map(|child| self.parent(child)).collect();
-        parents.into_iter().collect()
+        let children = self.covered_with(self.ancestor(cell, self.class - 2));
+        children.into_iter().filter_map(|child| self.parent(child)).collect()
     }
 
     /// The points of a cell. Regions of whole cells of any levels are compared by points: these are
@@ -287,10 +297,13 @@ pub fn is_mesh(plan: Plan, cells: &[u8]) -> bool {
 
 /// Whether every refined cell has its neighbourhood refined.
 pub fn is_admissible(plan: Plan, cells: &[u8]) -> bool {
+    have_refined(plan, cells, |cell| plan.neighbourhood(cell))
+}
+
+/// Whether every refined cell has these cells refined.
+fn have_refined(plan: Plan, cells: &[u8], asked_for: impl Fn(Cell) -> BTreeSet<Cell>) -> bool {
     let refined = |cell| cells[plan.cell_number(cell)] == REFINED;
-    plan.cells()
-        .filter(|&cell| refined(cell))
-        .all(|cell| plan.neighbourhood(cell).into_iter().all(refined))
+    plan.cells().filter(|&cell| refined(cell)).all(|cell| asked_for(cell).into_iter().all(refined))
 }
 
 /// The function table that the cell table fixes.
@@ -333,11 +346,20 @@ pub fn table(plan: Plan, refined: &BTreeSet<Cell>) -> Vec<u8> {
 /// The refined cells of the smallest admissible mesh in which these are refined: whatever a refined
 /// cell asks for (its parent, for it is present; its neighbourhood) is added until nothing is missing.
 pub fn smallest(plan: Plan, base: BTreeSet<Cell>) -> BTreeSet<Cell> {
+    smallest_with(plan, base, |cell| plan.neighbourhood(cell))
+}
+
+/// The same, where a refined cell asks for its parent and these cells.
+fn smallest_with(
+    plan: Plan,
+    base: BTreeSet<Cell>,
+    asked_for: impl Fn(Cell) -> BTreeSet<Cell>,
+) -> BTreeSet<Cell> {
     let mut refined = base;
     loop {
         let missing: Vec<Cell> = refined
             .iter()
-            .flat_map(|&cell| plan.parent(cell).into_iter().chain(plan.neighbourhood(cell)))
+            .flat_map(|&cell| plan.parent(cell).into_iter().chain(asked_for(cell)))
             .filter(|cell| !refined.contains(cell))
             .collect();
         if missing.is_empty() {
@@ -391,6 +413,16 @@ pub fn open(plan: Plan, cells: usize, functions: usize) -> Result<(Vec<u8>, Vec<
 }
 
 pub fn check(plan: Plan, cells: &[u8], functions: &[u8]) -> Result<(), u32> {
+    check_by(is_admissible, plan, cells, functions)
+}
+
+/// Refusals 1 to 6, where that is what 5 asks for.
+fn check_by(
+    is_admissible: fn(Plan, &[u8]) -> bool,
+    plan: Plan,
+    cells: &[u8],
+    functions: &[u8],
+) -> Result<(), u32> {
     refuse_sizes(plan, cells.len(), functions.len())?;
     if !is_mesh(plan, cells) {
         return Err(4);
@@ -633,19 +665,42 @@ mod tests {
         Plan { columns, rows, levels, degree_across, degree_up, class, corners_across, corners_up }
     }
 
-    /// Plans of few cells and all degrees, with all corners that they can have.
-    fn plans() -> Vec<Plan> {
+    /// Plans of all degrees, with all corners that they can have.
+    fn plans_of(columns: u32, rows: u32, levels: u32, class: u32) -> Vec<Plan> {
         let mut plans = vec![];
-        for (columns, rows, levels) in [(1, 1, 3), (2, 1, 2), (3, 1, 3), (3, 2, 2), (4, 3, 2)] {
-            for (p, q) in (1..=4).flat_map(|p| (1..=4).map(move |q| (p, q))) {
-                for across in (0..1 << (columns - 1)).map(|set| set << 1) {
-                    for up in (0..1 << (rows - 1)).map(|set| set << 1) {
-                        plans.push(plan([columns, rows, levels, p, q, 2, across, up]));
-                    }
+        for (p, q) in (1..=4).flat_map(|p| (1..=4).map(move |q| (p, q))) {
+            for across in (0..1 << (columns - 1)).map(|set| set << 1) {
+                for up in (0..1 << (rows - 1)).map(|set| set << 1) {
+                    plans.push(plan([columns, rows, levels, p, q, class, across, up]));
                 }
             }
         }
         plans
+    }
+
+    /// Plans of few cells.
+    fn plans() -> Vec<Plan> {
+        [(1, 1, 3), (2, 1, 2), (3, 1, 3), (3, 2, 2), (4, 3, 2)]
+            .into_iter()
+            .flat_map(|(columns, rows, levels)| plans_of(columns, rows, levels, 2))
+            .collect()
+    }
+
+    /// Plans of classes 2, 3 and 4, with cells that have a neighbourhood.
+    pub fn plans_of_classes() -> Vec<Plan> {
+        [
+            (3, 1, 3, 2),
+            (3, 2, 2, 2),
+            (2, 1, 4, 2),
+            (2, 1, 4, 3),
+            (3, 2, 3, 3),
+            (1, 3, 3, 3),
+            (3, 1, 4, 4),
+            (1, 2, 4, 4),
+        ]
+        .into_iter()
+        .flat_map(|(columns, rows, levels, class)| plans_of(columns, rows, levels, class))
+        .collect()
     }
 
     /// Without corners every plan is as the scope document has it.
@@ -668,35 +723,81 @@ mod tests {
                 };
                 assert!(plan.support(function).eq(plan.cells().filter(covered)), "{function:?}");
             }
-            for cell in plan.cells().filter(|cell| cell.level > 0) {
-                // Class 2, so that the ancestor below the neighbourhood is the cell itself: a child of
-                // the other has row and column at most the degrees from it.
-                let close =
-                    |a: u32, b: u32, d: u32| (2 * a).abs_diff(b).min((2 * a + 1).abs_diff(b)) <= d;
-                let near = |other: &Cell| {
-                    other.level + 1 == cell.level
-                        && close(other.row, cell.row, q)
-                        && close(other.column, cell.column, p)
+        }
+    }
+
+    /// Req 12 word by word: "cells of level j-m+1 that have a child covered, together with the split
+    /// cell's ancestor at level j-m+2, by a common function of that level". All cells of the one level
+    /// and all functions of the other are tried.
+    #[test]
+    fn neighbourhoods_word_by_word() {
+        let mut with_corners = 0;
+        for plan in plans_of_classes() {
+            let m = plan.class;
+            for cell in plan.cells().filter(|cell| cell.level + 1 >= m) {
+                let j = cell.level;
+                let mut ancestor = cell;
+                while ancestor.level > j + 2 - m {
+                    ancestor = plan.parent(ancestor).expect("a level above");
+                }
+                let of_that_level = plan.functions().filter(|function| function.level == j + 2 - m);
+                let supports: Vec<Vec<Cell>> =
+                    of_that_level.map(|function| plan.support(function).collect()).collect();
+                let is_near = |other: &Cell| {
+                    plan.children(*other).into_iter().any(|child| {
+                        let both = |support: &Vec<Cell>| {
+                            support.contains(&child) && support.contains(&ancestor)
+                        };
+                        supports.iter().any(both)
+                    })
                 };
-                assert!(plan.neighbourhood(cell).into_iter().eq(plan.cells().filter(near)));
+                let near = plan.cells().filter(|other| other.level == j + 1 - m).filter(is_near);
+                assert!(plan.neighbourhood(cell).into_iter().eq(near), "{plan:?} {cell:?}");
+                with_corners += u32::from(plan.corners_across | plan.corners_up != 0);
+            }
+            let first = plan.cells().filter(|cell| cell.level + 1 < m);
+            assert!(first.into_iter().all(|cell| plan.neighbourhood(cell).is_empty()));
+        }
+        assert!(with_corners > 10_000, "{with_corners}");
+    }
+
+    /// Without corners, in numbers: the child is at most p columns and q rows from the ancestor.
+    #[test]
+    fn neighbourhoods_without_corners() {
+        let smooth = |plan: &Plan| plan.corners_across | plan.corners_up == 0;
+        for plan in plans_of_classes().into_iter().filter(smooth) {
+            let (p, q, m) = (plan.degree_across, plan.degree_up, plan.class);
+            for cell in plan.cells() {
+                let (row, column) = (cell.row >> (m - 2), cell.column >> (m - 2));
+                let is_near = |other: &Cell| {
+                    let close = |child: Cell| {
+                        child.row.abs_diff(row) <= q && child.column.abs_diff(column) <= p
+                    };
+                    other.level + m == cell.level + 1
+                        && plan.children(*other).into_iter().any(close)
+                };
+                let near = plan.cells().filter(is_near);
+                assert!(plan.neighbourhood(cell).into_iter().eq(near), "{plan:?} {cell:?}");
             }
         }
     }
 
-    /// In words: a cell is near where some function of the next level has a child of it and the cell
-    /// in its support.
+    /// Away from the edges, and without corners, a neighbourhood is p+1 columns by q+1 rows: the columns
+    /// x-p to x+p stand on p+1 columns, whether x is even or odd.
     #[test]
-    fn neighbourhoods_are_those_of_common_functions() {
-        for plan in plans().into_iter().filter(|plan| plan.cell_total() <= 63) {
-            for cell in plan.cells().filter(|cell| cell.level > 0) {
-                let near: BTreeSet<Cell> = plan
-                    .functions()
-                    .filter(|function| function.level == cell.level)
-                    .filter(|&function| plan.support(function).any(|other| other == cell))
-                    .flat_map(|function| plan.support(function))
-                    .filter_map(|child| plan.parent(child))
-                    .collect();
-                assert!(plan.neighbourhood(cell).into_iter().eq(near), "{plan:?} {cell:?}");
+    fn the_size_of_a_neighbourhood() {
+        for (p, q) in (1..=4).flat_map(|p| (1..=4).map(move |q| (p, q))) {
+            for class in 2..=4 {
+                let plan = plan([8, 8, class, p, q, class, 0, 0]);
+                let scale = 1 << (class - 2);
+                for (row, column) in [(6, 6), (6, 7), (7, 6), (7, 7)] {
+                    let cell = Cell { level: class - 1, row: row * scale, column: column * scale };
+                    let near = plan.neighbourhood(cell);
+                    assert_eq!(near.len() as u32, (p + 1) * (q + 1), "{plan:?} {cell:?}");
+                }
+                let first = Cell { level: class - 1, row: 0, column: 0 };
+                // Columns 0 to p, on columns 0 to p/2.
+                assert_eq!(plan.neighbourhood(first).len() as u32, (p / 2 + 1) * (q / 2 + 1));
             }
         }
     }

@@ -226,8 +226,8 @@ mod tests {
         assert_eq!(len(plan([16, 16, 5, 1, 1, 0, 0, 0])), 0);
     }
 
-    /// The plan 3 1 3, degrees 1 1, class 2: cell 0 refined, then 3, and 1 for the class. Their
-    /// children are 3, 4, 9, 10, then 15, 16, 27, 28 and 5, 6, 11, 12.
+    /// The plan 3 1 3, degrees 1 1, class 2: cell 0 refined, then 4, and 1 for the class. Their
+    /// children are 3, 4, 9, 10, then 17, 18, 29, 30 and 5, 6, 11, 12.
     #[test]
     fn a_run_by_hand() {
         let plan = plan([3, 1, 3, 1, 1, 2, 0, 0]);
@@ -238,10 +238,10 @@ mod tests {
         };
         let (first, after) = refine((&fresh, &functions), 0);
         assert_eq!(after, planes(&[0b110_0001_1111], &[1]));
-        let (second, after) = refine((&after, &first.functions), 3);
-        assert_eq!((second.cell_list, second.function_list), (vec![1, 3], vec![1, 5, 8]));
-        let present = 0b1_1000_0000_0001_1001_1110_0111_1111;
-        assert_eq!(after, planes(&[present], &[0b1011]));
+        let (second, after) = refine((&after, &first.functions), 4);
+        assert_eq!((second.cell_list, second.function_list), (vec![1, 4], vec![1, 5]));
+        let present = 0b110_0000_0000_0110_0001_1110_0111_1111;
+        assert_eq!(after, planes(&[present], &[0b10011]));
         assert_eq!(check(plan, &after, &second.functions), Ok(()));
         assert_eq!(to_cells(plan, &after, 63), Ok(second.cells.clone()));
         assert_eq!(from_cells(plan, &second.cells, [1; 2]), Ok(after));
