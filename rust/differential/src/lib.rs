@@ -855,8 +855,13 @@ pub fn random_step(random: &mut Random, tables: &mut Tables) {
 
 /// The refined cells of every mesh of the plan, admissible or not.
 pub fn all_meshes(plan: Plan) -> Vec<BTreeSet<Cell>> {
+    all_meshes_within(plan, |_| true)
+}
+
+/// The same, of the meshes that have none but these cells refined.
+fn all_meshes_within(plan: Plan, within: impl Fn(Cell) -> bool) -> Vec<BTreeSet<Cell>> {
     let mut meshes = vec![BTreeSet::new()];
-    for cell in plan.cells().filter(|cell| cell.level + 1 < plan.levels) {
+    for cell in plan.cells().filter(|&cell| cell.level + 1 < plan.levels && within(cell)) {
         // A cell may be refined where it is present.
         let refined: Vec<_> = meshes
             .iter()
@@ -866,6 +871,45 @@ pub fn all_meshes(plan: Plan) -> Vec<BTreeSet<Cell>> {
         meshes.extend(refined);
     }
     meshes
+}
+
+/// Plans of classes 2, 3 and 4, with corners and without, each with meshes of it, admissible or not. In
+/// class 2 these are all meshes; in class 3 all that have no cells refined but those of the first row (or
+/// column); in class 4 all that have no cells refined but those of them that are at most two from the
+/// line in the middle.
+pub fn meshes_of_classes() -> Vec<(Plan, Vec<BTreeSet<Cell>>)> {
+    let mut plans = vec![];
+    for (p, q) in (1..=4).flat_map(|p| (1..=4).map(move |q| (p, q))) {
+        plans.extend([0, 2].map(|corners| plan([2, 1, 3, p, q, 2, corners, 0])));
+    }
+    for (p, q) in [(1, 1), (2, 1), (3, 2)] {
+        plans.extend([0, 2].map(|corners| plan([3, 1, 3, p, q, 2, corners, 0])));
+        plans.extend([0, 4].map(|corners| plan([1, 3, 3, q, p, 2, 0, corners])));
+    }
+    for degree in 1..=4 {
+        for corners in [0, 2] {
+            plans.push(plan([2, 1, 4, degree, 1, 3, corners, 0]));
+            plans.push(plan([1, 2, 4, 2, degree, 3, 0, corners]));
+            plans.push(plan([2, 1, 5, degree, 1, 4, corners, 0]));
+        }
+    }
+    let meshes = |plan: Plan| {
+        let first = move |cell: Cell| if plan.rows == 1 { cell.row } else { cell.column } == 0;
+        let from_middle = move |cell: Cell| {
+            let middle = 1 << cell.level;
+            if cell.column < middle {
+                middle - 1 - cell.column
+            } else {
+                cell.column - middle
+            }
+        };
+        match plan.class {
+            2 => all_meshes(plan),
+            3 => all_meshes_within(plan, first),
+            _ => all_meshes_within(plan, move |cell| first(cell) && from_middle(cell) < 2),
+        }
+    };
+    plans.into_iter().map(|plan| (plan, meshes(plan))).collect()
 }
 
 /// The tables of every admissible mesh of the plan.

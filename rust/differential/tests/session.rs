@@ -89,12 +89,13 @@ fn expect(input: &str, output: &str) {
 #[test]
 fn samples() {
     let input = "wall 3 1 3 1 1 2\nsplit 0\nsplit 3\njoin 1\n";
-    let output = "0;;\n0;0;0 4\n0;1 3;1 5 8\n0;;\n";
+    let output = "0;;\n0;0;0 4\n0;3;8\n8;;\n";
     expect(input, output);
     // The last line feed may be lacking.
     expect(input.trim_end(), output);
+    // The README's: cell 4 needs cell 1.
     let file = include_str!("../../../examples/session.txt");
-    expect(file, &format!("{output}0;1 3;1 5 8\n"));
+    expect(file, "0;;\n0;0;0 4\n0;1 4;1 5\n0;;\n0;1 4;1 5\n");
 }
 
 #[test]
@@ -209,7 +210,14 @@ fn walls_with_corners() {
     expect("wall 3 1 3 2 2 0 0 0\nsplit 0\n", "0;;\n0;0;0 5 10\n");
     expect("wall 3 1 3 2 2 0 2 0\nsplit 0\n", "0;;\n0;0;0 1 6 7 12 13\n");
     // Of degree 1 a corner is a line like others.
-    expect("wall 3 1 3 1 1 2 6 0\nsplit 0\nsplit 3\n", "0;;\n0;0;0 4\n0;1 3;1 5 8\n");
+    expect("wall 3 1 3 1 1 2 6 0\nsplit 0\nsplit 4\n", "0;;\n0;0;0 4\n0;1 4;1 5\n");
+    // Of degree 2, cell 3 needs cell 1 where there is none.
+    let lines = "split 0\nsplit 3\nsplit 4\n";
+    expect(
+        &format!("wall 3 1 3 2 1 2 2 0\n{lines}"),
+        "0;;\n0;0;0 1 6 7\n0;3;12\n0;1 4;2 8 13 14\n",
+    );
+    expect(&format!("wall 3 1 3 2 1 2\n{lines}"), "0;;\n0;0;0 5\n0;1 3;1 6 10\n0;4;11\n");
     // The most functions that a session's wall has, with all of level 0 split.
     let marks: Vec<u32> = (0..15 * 13).collect();
     let lines: String = marks.chunks(LINE_MARKS).map(|marks| line("split", marks)).collect();

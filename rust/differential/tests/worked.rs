@@ -25,7 +25,7 @@ fn after_p3() -> Tables {
 
 fn after_p7() -> Tables {
     let mut tables = refined(W2, &[0]);
-    assert_eq!(tables.call_with_room(RefineCells, &[3]), accepted(&[1, 3], &[1, 5, 8]));
+    assert_eq!(tables.call_with_room(RefineCells, &[3]), accepted(&[3], &[8]));
     tables
 }
 
@@ -86,20 +86,24 @@ fn p6_coarsen_by_functions_0_1_4_5_after_p3() {
     assert_eq!(tables, Tables::opened(plan(W0)));
 }
 
+/// Columns 0 and 1 of level 1 have a common function with column 0. Both are on cell 0.
 #[test]
 fn p7_refine_0_then_3() {
     let tables = after_p7();
+    assert_eq!(tables.cells[..5], [2, 1, 1, 2, 1]);
     // Function 0 is deactivated although its child 8 is not active.
     assert_eq!((tables.functions[0], tables.functions[8]), (2, 2));
 }
 
+/// Cell 1 is active.
 #[test]
 fn p8_coarsen_1_after_p7() {
     let mut tables = after_p7();
-    assert_eq!(tables.call_with_room(CoarsenCells, &[1]), accepted(&[], &[]));
+    assert_eq!(tables.call_with_room(CoarsenCells, &[1]), refused(8));
     assert_eq!(tables, after_p7());
 }
 
+/// Its child 3 is refined.
 #[test]
 fn p9_coarsen_0_after_p7() {
     assert_eq!(after_p7().call_with_room(CoarsenCells, &[0]), refused(8));
@@ -108,8 +112,46 @@ fn p9_coarsen_0_after_p7() {
 #[test]
 fn p10_coarsen_1_3_after_p7() {
     let mut tables = after_p7();
-    assert_eq!(tables.call_with_room(CoarsenCells, &[1, 3]), accepted(&[1, 3], &[1, 5, 8]));
+    assert_eq!(tables.call_with_room(CoarsenCells, &[1, 3]), refused(8));
+    assert_eq!(tables, after_p7());
+    assert_eq!(tables.call_with_room(CoarsenCells, &[3]), accepted(&[3], &[8]));
     assert_eq!(tables, refined(W2, &[0]));
+}
+
+/// Column 1 of level 1 has common functions with columns 0 to 2, which are on cells 0 and 1.
+#[test]
+fn refine_0_then_4() {
+    let mut tables = refined(W2, &[0]);
+    assert_eq!(tables.call_with_room(RefineCells, &[4]), accepted(&[1, 4], &[1, 5]));
+    // A marked cell that the others need stays refined.
+    let after = tables.clone();
+    assert_eq!(tables.call_with_room(CoarsenCells, &[1]), accepted(&[], &[]));
+    assert_eq!(tables, after);
+    assert_eq!(tables.call_with_room(CoarsenCells, &[1, 4]), accepted(&[1, 4], &[1, 5]));
+    assert_eq!(tables, refined(W2, &[0]));
+}
+
+/// Four cells of level 0. Cell 9 is in column 1, row 1 of level 1, so columns 0 to 2 and rows 0 to 2
+/// have common functions with it. They are on all four.
+#[test]
+fn refine_0_then_9_of_two_rows() {
+    let mut tables = refined([2, 2, 3, 1, 1, 2], &[0]);
+    let outcome = tables.call_with_room(RefineCells, &[9]);
+    // All functions of level 0 but the first, which cell 0 alone deactivated.
+    assert_eq!(outcome, accepted(&[1, 2, 3, 9], &[1, 2, 3, 4, 5, 6, 7, 8]));
+}
+
+/// Class 3. Cell 18 is in column 3 of level 2 and its parent, cell 4, in column 1 of level 1. On that
+/// level columns 0 to 2 have common functions with column 1, and are on cells 0 and 1. Cell 16 is in
+/// column 1, and its parent, cell 3, in column 0, which has them with columns 0 and 1 alone.
+#[test]
+fn by_the_ancestor_in_class_3() {
+    let before = refined([3, 1, 4, 1, 1, 3], &[0, 3, 4]);
+    assert_eq!(before.cells[..5], [2, 1, 1, 2, 2]);
+    let outcome = before.clone().call_with_room(RefineCells, &[18]);
+    assert_eq!(outcome.cells, [1, 18]);
+    let outcome = before.clone().call_with_room(RefineCells, &[16]);
+    assert_eq!(outcome.cells, [16]);
 }
 
 #[test]
@@ -162,8 +204,8 @@ fn classes_and_columns_at_their_limits() {
 fn the_sample_session() {
     let mut tables = Tables::opened(plan(W2));
     assert_eq!(tables.call_with_room(RefineCells, &[0]), accepted(&[0], &[0, 4]));
-    assert_eq!(tables.call_with_room(RefineCells, &[3]), accepted(&[1, 3], &[1, 5, 8]));
-    assert_eq!(tables.call_with_room(CoarsenCells, &[1]), accepted(&[], &[]));
+    assert_eq!(tables.call_with_room(RefineCells, &[3]), accepted(&[3], &[8]));
+    assert_eq!(tables.call_with_room(CoarsenCells, &[1]), refused(8));
 }
 
 // ---- A corner ----
@@ -182,6 +224,7 @@ fn a_corner_of_degree_1() {
                 for (kind, marks) in [
                     (RefineCells, &[0][..]),
                     (RefineCells, &[3]),
+                    (RefineCells, &[4]),
                     (RefineFunctions, &[2, 6]),
                     (CoarsenCells, &[1]),
                     (CoarsenFunctions, &[0, 1, 4, 5]),
@@ -268,24 +311,35 @@ fn with_a_corner_by_functions() {
     assert_eq!(tables.call_with_room(CoarsenFunctions, &[2, 8]), accepted(&[1], &[2, 8]));
 }
 
-/// Class 2. Cell 3 is a child of cell 0, which has a common function with cell 1 and not with cell
-/// 2: cell 1 is refined and cell 2 is not. Function 2 lies over cells 0 and 1, function 12 of level
-/// 1 over cell 3 alone. Without the corner cell 2 is refined too.
+/// Class 2. On level 1, column 0 has common functions with column 1 and not with column 2: both are on
+/// cell 0. Function 12 of level 1 lies over cell 3 alone. Without the corner it has one with column 2
+/// too, which is on cell 1; then function 10 lies over cell 3 alone, and 1 and 6 over cells 0 and 1.
 #[test]
 fn with_a_corner_refine_0_then_3() {
     let mut tables = refined(C2, &[0]);
-    let outcome = accepted(&[1, 3], &[2, 8, 12]);
-    assert_eq!(tables.call_with_room(RefineCells, &[3]), outcome);
-    assert_eq!(tables.clone().call_with_room(CoarsenCells, &[1]), accepted(&[], &[]));
-    assert_eq!(tables.call_with_room(CoarsenCells, &[1, 3]), outcome);
+    assert_eq!(tables.call_with_room(RefineCells, &[3]), accepted(&[3], &[12]));
+    assert_eq!(tables.call_with_room(CoarsenCells, &[1]), refused(8));
+    assert_eq!(tables.call_with_room(CoarsenCells, &[3]), accepted(&[3], &[12]));
     assert_eq!(tables, refined(C2, &[0]));
 
     let mut tables = refined([3, 1, 3, 2, 1, 2], &[0]);
-    let outcome = accepted(&[1, 2, 3], &[1, 2, 3, 4, 6, 7, 8, 9, 10]);
-    assert_eq!(tables.call_with_room(RefineCells, &[3]), outcome);
+    assert_eq!(tables.call_with_room(RefineCells, &[3]), accepted(&[1, 3], &[1, 6, 10]));
 }
 
-/// Class 2, the child of cell 1 next to the corner: cell 1 has common functions with all cells.
+/// Class 2. Column 1, before the corner, has a common function with column 2 and none with column 3. So
+/// cell 1 is refined; functions 2 and 8 lie over cells 0 and 1.
+#[test]
+fn with_a_corner_refine_0_then_4() {
+    let mut tables = refined(C2, &[0]);
+    let outcome = accepted(&[1, 4], &[2, 8]);
+    assert_eq!(tables.call_with_room(RefineCells, &[4]), outcome);
+    assert_eq!(tables.clone().call_with_room(CoarsenCells, &[1]), accepted(&[], &[]));
+    assert_eq!(tables.call_with_room(CoarsenCells, &[1, 4]), outcome);
+    assert_eq!(tables, refined(C2, &[0]));
+}
+
+/// Class 2, the child of cell 1 next to the corner: column 2 has common functions with columns 1 to 4,
+/// which are on all three cells.
 #[test]
 fn with_a_corner_refine_1_then_5() {
     let mut tables = refined(C2, &[1]);
@@ -295,19 +349,24 @@ fn with_a_corner_refine_1_then_5() {
     assert_eq!(tables, refined(C2, &[1]));
 }
 
-/// Refusal 5: cells 0 and 3 refined and 1 active; with cell 1 refined it is passed, and without the
-/// corner it is not.
+/// Refusal 5: cells 0 and 4 refined and 1 active. With cell 1 refined it is passed. Cells 0 and 3 pass
+/// with the corner, and not without.
 #[test]
 fn with_a_corner_refusal_5() {
-    let mut tables = refined(C0, &[0, 3]);
-    tables.plan.class = 2;
-    all_refuse(&mut tables, 5);
-    let mut tables = refined(C0, &[0, 1, 3]);
-    tables.plan.class = 2;
-    assert_eq!(tables.check(), 0);
-    let mut tables = refined([3, 1, 3, 2, 1, 0], &[0, 1, 3]);
-    tables.plan.class = 2;
-    all_refuse(&mut tables, 5);
+    let number = |numbers: [u32; 8], cells: &[u32]| {
+        let mut tables = refined(numbers, cells);
+        tables.plan.class = 2;
+        let number = tables.check();
+        if number != 0 {
+            all_refuse(&mut tables, number);
+        }
+        number
+    };
+    assert_eq!(number(C0, &[0, 4]), 5);
+    assert_eq!(number(C0, &[0, 1, 4]), 0);
+    assert_eq!(number(C0, &[0, 3]), 0);
+    assert_eq!(number([3, 1, 3, 2, 1, 0, 0, 0], &[0, 3]), 5);
+    assert_eq!(number([3, 1, 3, 2, 1, 0, 0, 0], &[0, 1, 3]), 0);
 }
 
 /// Refusals 1 and 3 of corners.
@@ -371,11 +430,15 @@ fn refusal_4_not_a_mesh() {
 
 #[test]
 fn refusal_5_not_admissible() {
-    let mut tables = refined(W0, &[0, 3]);
-    assert_eq!(tables.cells[..4], [2, 1, 1, 2]);
+    let mut tables = refined(W0, &[0, 4]);
+    assert_eq!(tables.cells[..5], [2, 1, 1, 1, 2]);
     assert_eq!(tables.check(), 0);
     tables.plan.class = 2;
     all_refuse(&mut tables, 5);
+    // Cells 0 and 3 pass.
+    let mut tables = refined(W0, &[0, 3]);
+    tables.plan.class = 2;
+    assert_eq!(tables.check(), 0);
 }
 
 #[test]
