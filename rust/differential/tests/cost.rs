@@ -5,8 +5,8 @@
 
 use differential::surface::{random_heights, Fill, DEGREES};
 use differential::{
-    all_corners, beyond, has_corners, of_wrapper, out_of_range, plan, random_corners, random_plan,
-    Kind, Outcome, Random, Tables,
+    accepted, all_corners, beyond, has_corners, of_wrapper, out_of_range, plan, random_corners,
+    random_plan, Kind, Outcome, Random, Tables,
 };
 use model::{Cell, Plan};
 use std::collections::BTreeSet;
@@ -386,36 +386,57 @@ fn cost(numbers: [u32; 6], [level, row, column]: [u32; 3]) -> (usize, usize) {
     (outcome.cells.len(), of_wrapper(plan).most_refined(level).expect("a level of the plan"))
 }
 
-/// Req 09's own: marking 15 where 3 is refined.
+/// Req 09's own: marking 15 where 3 is refined. Cell 15 is in column 7 of level 1, and columns 6 to 8 have
+/// common functions with it. They are on cells 3 and 4. Functions 4 and 13 lie over these two.
 #[test]
 fn the_sample() {
     let mut tables = Tables::opened(plan([8, 1, 5, 1, 1, 2]));
     assert_eq!(tables.call_with_room(RefineCells, &[3]).cells, [3]);
-    let cells = vec![2, 4, 15];
-    let functions = vec![3, 4, 12, 13];
-    let outcome = tables.call_with_room(RefineCells, &[15]);
-    assert_eq!(outcome, Outcome { number: 0, cells, functions });
-    assert_eq!(cost([8, 1, 5, 1, 1, 2], [1, 0, 7]), (3, 26));
+    assert_eq!(tables.call_with_room(RefineCells, &[15]), accepted(&[4, 15], &[4, 13]));
+    assert_eq!(cost([8, 1, 5, 1, 1, 2], [1, 0, 7]), (2, 10));
 }
 
 /// Found by a search over all plans without corners, which is not part of the tests: the marks that come
 /// nearest to bounds of one, two, three and four windows, and one of those that refine the most cells.
+///
+/// In the fourth the mark asks for columns 8 and 9 of level 3, 3 to 5 of level 2, 1 to 3 of level 1 and 0
+/// to 2 of level 0. Its parent, column 8, has asked for itself, 3 and 4, 1 and 2, and 0 and 1. Rows are
+/// the same. So there are 1 + (4 - 1) + (9 - 4) + (9 - 4) + (9 - 4) cells.
 #[test]
 fn marks_that_cost_much() {
-    assert_eq!(cost([3, 3, 3, 1, 1, 2], [1, 2, 2]), (9, 26));
-    assert_eq!(cost([4, 4, 4, 1, 1, 2], [2, 6, 6]), (16, 51));
-    assert_eq!(cost([5, 5, 5, 1, 1, 2], [3, 18, 18]), (25, 76));
-    assert_eq!(cost([4, 4, 6, 1, 1, 2], [4, 18, 18]), (32, 101));
-    assert_eq!(cost([13, 13, 4, 4, 4, 2], [2, 24, 24]), (169, 579));
+    assert_eq!(cost([2, 2, 3, 1, 1, 2], [1, 1, 1]), (4, 10));
+    assert_eq!(cost([3, 3, 4, 1, 1, 2], [2, 5, 5]), (9, 19));
+    assert_eq!(cost([3, 3, 5, 1, 1, 2], [3, 9, 9]), (14, 28));
+    assert_eq!(cost([3, 3, 6, 1, 1, 2], [4, 17, 17]), (19, 37));
+    // Columns 12 to 16, 4 to 10 and 0 to 7; of these 14, 5 to 9 and 0 to 6 are refined before.
+    assert_eq!(cost([8, 8, 5, 4, 4, 2], [3, 28, 28]), (1 + 24 + 24 + 15, 244));
 }
 
 /// Neither half the width of the windows nor one of them alone is a bound.
 #[test]
 fn bounds_that_are_too_small() {
-    let (p, q, windows) = (3, 3, 2);
-    let half_as_wide = 1 + windows * (2 * p + 1) * (2 * q + 1);
-    assert_eq!((cost([10, 10, 4, 3, 3, 2], [2, 18, 18]).0, half_as_wide), (100, 99));
-    let (p, q) = (1, 1);
-    let one_level = 1 + (4 * p + 1) * (4 * q + 1);
-    assert_eq!((cost([3, 4, 6, 1, 1, 2], [4, 18, 2]).0, one_level), (28, 26));
+    let (p, q, windows) = (1, 1, 3);
+    let half_as_wide = 1 + windows * (p + 1) * (q + 1);
+    let one_level = 1 + (2 * p + 1) * (2 * q + 1);
+    assert_eq!((half_as_wide, one_level), (13, 10));
+    assert_eq!(cost([3, 3, 5, 1, 1, 2], [3, 9, 9]).0, 14);
+}
+
+/// Some cell is p columns from the ancestor of the mark. On the sample it is cell 4, where the parent is
+/// cell 3. At degree 4 cells are up to 2 columns away on level 2, 3 on level 1 and 4 on level 0.
+#[test]
+fn the_reach_is_used_up() {
+    for (numbers, [level, row, column], farthest) in
+        [([8, 1, 5, 1, 1, 2], [1, 0, 7], 1), ([8, 8, 5, 4, 4, 2], [3, 28, 28], 4)]
+    {
+        let plan = plan(numbers);
+        let mark = Cell { level, row, column };
+        let outcome =
+            barely(plan, mark).call_with_room(RefineCells, &[plan.cell_number(mark) as u32]);
+        let away = outcome.cells.iter().map(|&number| {
+            let cell = plan.cell_at(number as usize);
+            cell.column.abs_diff(column >> (level - cell.level))
+        });
+        assert_eq!(away.max(), Some(farthest), "{numbers:?}");
+    }
 }
