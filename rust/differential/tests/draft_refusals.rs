@@ -23,46 +23,57 @@ fn full(list: &[u32]) -> Draft {
 
 // ---- Rows worked by hand: W2 with cell 0 refined ----
 
-/// Three adds, one refused in the middle, and a mark twice: closed it is P7.
+/// Adds, two of them refused, and a mark twice. Closed, cells 3 and 4 are refined, and cell 1, which cell
+/// 4 needs. Functions 1 and 5 lie over cells 0 and 1, function 8 over cell 3 and 9 over cells 3 and 4.
 #[test]
-fn p7_by_a_draft() {
+fn a_draft_by_hand() {
     let mut tables = mesh(W2, &[0]);
     let mut d = Draft::none(vec![9; 4]);
     assert_eq!(tables.draft_open(&mut d), 0);
     assert_eq!(d, draft(1, 0, &[9; 4]));
-    assert_eq!(tables.draft_add(&mut d, &[3]), 0);
-    assert_eq!(d, draft(1, 1, &[3, 9, 9, 9]));
-    // Cell 15 is a child of cell 3, which is active: it is absent.
-    assert_eq!(tables.draft_add(&mut d, &[1, 15]), 8);
-    assert_eq!(d, draft(1, 1, &[3, 9, 9, 9]));
-    assert_eq!(tables.draft_add(&mut d, &[3]), 0);
-    assert_eq!(d, draft(1, 2, &[3, 3, 9, 9]));
+    assert_eq!(tables.draft_add(&mut d, &[4]), 0);
+    assert_eq!(d, draft(1, 1, &[4, 9, 9, 9]));
+    // Cell 0 is refined. Cell 15 is a child of cell 3, which is active: it is absent.
+    assert_eq!(tables.draft_add(&mut d, &[3, 0]), 8);
+    assert_eq!(tables.draft_add(&mut d, &[3, 15]), 8);
+    assert_eq!(d, draft(1, 1, &[4, 9, 9, 9]));
+    assert_eq!(tables.draft_add(&mut d, &[4, 3]), 0);
+    assert_eq!(d, draft(1, 3, &[4, 4, 3, 9]));
     // The mesh is without the draft until then.
     assert_eq!(tables, mesh(W2, &[0]));
     assert_eq!(tables.count().active_cells, 6);
-    let (cell_list, function_list) = ([7; 2], [7; 3]);
+    let (cell_list, function_list) = ([7; 3], [7; 4]);
     let closed = tables.draft_close(&mut d, &cell_list, &function_list);
-    assert_eq!(closed, accepted(&[1, 3], &[1, 5, 8]));
-    assert_eq!(d, draft(0, 0, &[3, 3, 9, 9]));
-    assert_eq!(tables, mesh(W2, &[0, 1, 3]));
+    assert_eq!(closed, accepted(&[1, 3, 4], &[1, 5, 8, 9]));
+    assert_eq!(d, draft(0, 0, &[4, 4, 3, 9]));
+    assert_eq!(tables, mesh(W2, &[0, 1, 3, 4]));
     // Taken back as one refinement.
-    assert_eq!(tables.call_with_room(CoarsenCells, &[1, 3]), accepted(&[1, 3], &[1, 5, 8]));
+    assert_eq!(tables.call_with_room(CoarsenCells, &[1, 3, 4]), closed);
     assert_eq!(tables, mesh(W2, &[0]));
+}
+
+/// P7: cell 3 needs no other.
+#[test]
+fn p7_by_a_draft() {
+    let mut tables = mesh(W2, &[0]);
+    let mut d = full(&[3, 3]);
+    assert_eq!(tables.draft_close(&mut d, &[7; 1], &[7; 1]), accepted(&[3], &[8]));
+    assert_eq!(tables, mesh(W2, &[0, 3]));
 }
 
 /// A close without room for a list is refused and leaves the draft.
 #[test]
 fn refused_closes_leave_it_open() {
     let mut tables = mesh(W2, &[0]);
-    let mut d = full(&[3]);
+    let mut d = full(&[4]);
+    assert_eq!(tables.draft_close(&mut d, &[7; 1], &[7; 1]), refused(10));
+    assert_eq!(tables.draft_close(&mut d, &[7; 2], &[7; 1]), refused(11));
     assert_eq!(tables.draft_close(&mut d, &[7; 1], &[7; 2]), refused(10));
-    assert_eq!(tables.draft_close(&mut d, &[7; 2], &[7; 2]), refused(11));
-    assert_eq!(tables.draft_close(&mut d, &[7; 1], &[7; 3]), refused(10));
-    assert_eq!(d, full(&[3]));
-    assert_eq!(tables.draft_close(&mut d, &[7; 2], &[7; 3]), accepted(&[1, 3], &[1, 5, 8]));
-    assert_eq!(tables.draft_close(&mut d, &[7; 2], &[7; 3]), refused(19));
-    // Marks that somebody put there are judged as those of a refinement.
-    for (list, number) in [([4, 63, 0], 7), ([4, 0, 63], 8), ([4, 15, 63], 9)] {
+    assert_eq!(d, full(&[4]));
+    assert_eq!(tables.draft_close(&mut d, &[7; 2], &[7; 2]), accepted(&[1, 4], &[1, 5]));
+    assert_eq!(tables.draft_close(&mut d, &[7; 2], &[7; 2]), refused(19));
+    // Marks that somebody put there are judged as those of a refinement. Cell 17 is a child of cell 4.
+    for (list, number) in [([3, 63, 0], 7), ([3, 0, 63], 8), ([3, 17, 63], 9)] {
         let mut d = full(&list);
         assert_eq!(tables.draft_close(&mut d, &[7; 63], &[7; 94]), refused(number));
         assert_eq!(d, full(&list));
@@ -158,7 +169,7 @@ fn more_marks_than_entries() {
             assert_eq!(tables.draft_close(&mut d, &[7; 63], &[7; 94]), refused(19));
             assert_eq!(d, handed_in);
             let outcome = tables.call_with_draft(RefineCells, &d, &[3], &[7; 63], &[7; 94]);
-            assert_eq!(outcome, accepted(&[1, 3], &[1, 5, 8]));
+            assert_eq!(outcome, accepted(&[3], &[8]));
             assert_eq!(tables.draft_open(&mut d), 0);
             assert_eq!(d, draft(1, 0, &[3, 1, 3]));
             // One entry more, and it is open.
@@ -195,7 +206,7 @@ fn opening_and_reading_drop_it() {
             (&[0, 1, 3, 1, 1, 2, 0], 1),
             (&[16, 16, 5, 1, 1, 2, 0], 2),
             (&[3, 1, 3, 1, 1, 2, 1, 63], 4),
-            (&[3, 1, 3, 1, 1, 2, 2, 0, 3], 5),
+            (&[3, 1, 3, 1, 1, 2, 2, 0, 4], 5),
             (&[3, 1, 3, 1, 1, 2, 1, 0, 2, 0, 5], 13),
         ] {
             assert_eq!(fresh.clone().read_with_draft(&mut after, file), number);
@@ -204,19 +215,20 @@ fn opening_and_reading_drop_it() {
     }
 }
 
-/// 18 comes before all of the heights: their number, the plan, their limits, what is carried.
+/// 18 comes before all of the heights: their number, the plan, their limits, what is carried. Cells 1 and
+/// 4 are refined, so function 1 passes half of its height to function 9, which stays active.
 #[test]
 fn a_draft_before_heights() {
-    let d = full(&[3]);
+    let d = full(&[4]);
     let refine = |tables: &Tables, heights: &[i32], d: &Draft| {
         let mut heights = heights.to_vec();
         let (cell_list, function_list) = tables.lists_with_room();
         let lists = (&cell_list[..], &function_list[..]);
         let mut tables = tables.clone();
-        tables.refine_with_heights_and_draft(RefineCells, &mut heights, d, &[3], lists)
+        tables.refine_with_heights_and_draft(RefineCells, &mut heights, d, &[4], lists)
     };
     let tables = mesh(W2, &[0]);
-    let none = Draft::none(vec![3]);
+    let none = Draft::none(vec![4]);
     let high = heights_with(&tables, &[(1, 65_537)]);
     let carried = heights_with(&tables, &[(1, 65_536), (9, 65_536 << 4)]);
     let cubic = mesh([3, 1, 3, 3, 1, 2], &[0]);
@@ -370,14 +382,14 @@ fn overfull_drafts_in_the_same_order() {
 fn reading_in_its_order() {
     let tables = mesh([3, 1, 3, 1, 1, 2, 2, 0], &[0, 1, 3]);
     let short = Tables { cells: tables.cells[1..].to_vec(), ..tables.clone() };
-    let rest = [3, 0, 3, 100, 2, 0, 5]; // cells 0, 3 and 103, both corners, and a byte more
+    let rest = [3, 0, 4, 100, 2, 0, 5]; // cells 0, 4 and 104, both corners, and a byte more
     for (lent, plan, rest, number) in [
         (&short, &[0x91, 0x00, 16, 5, 1, 1, 2][..], &rest[..], 12),
         (&short, &[17, 16, 5, 1, 1, 2], &rest, 1),
         (&short, &[16, 16, 5, 1, 1, 2], &rest, 2),
         (&short, &[3, 1, 3, 1, 1, 2], &rest, 3),
         (&tables, &[3, 1, 3, 1, 1, 2], &rest, 4),
-        (&tables, &[3, 1, 3, 1, 1, 2], &[2, 0, 3, 2, 0, 5], 5),
+        (&tables, &[3, 1, 3, 1, 1, 2], &[2, 0, 4, 2, 0, 5], 5),
         (&tables, &[3, 1, 3, 1, 1, 2], &[1, 0, 2, 0, 5], 13),
         (&tables, &[3, 1, 3, 1, 1, 2], &[1, 0, 2, 0], 0),
     ] {

@@ -86,24 +86,42 @@ fn p7_refine_0_then_3() {
     assert_eq!(call(&mut mesh, RefineCells, &[0]), accepted(&[0], &[0, 4]));
     let after_first = mesh.clone();
     assert_eq!(mesh.planes, word(1567, 1));
-    assert_eq!(call(&mut mesh, RefineCells, &[3]), accepted(&[1, 3], &[1, 5, 8]));
-    assert_eq!(mesh.planes, word(402_759_295, 0b1011));
-    assert_eq!(mesh.planes.present[0], 7 + 1560 + 6240 + 98_304 + 402_653_184);
-    // 3 + 3 * 4 cells, of which 3 are refined.
-    assert_eq!(mesh.count().active_cells, 12);
+    assert_eq!(call(&mut mesh, RefineCells, &[3]), accepted(&[3], &[8]));
+    assert_eq!(mesh.planes, word(1567 + 98_304 + 402_653_184, 0b1001));
+    // 3 + 2 * 4 cells, of which 2 are refined.
+    assert_eq!(mesh.count().active_cells, 9);
     let after = mesh.clone();
-    assert_eq!(call(&mut mesh, CoarsenCells, &[1]), accepted(&[], &[]));
-    assert_eq!(call(&mut mesh, CoarsenCells, &[0]), refused(8));
+    for marks in [&[1][..], &[0], &[1, 3]] {
+        assert_eq!(call(&mut mesh, CoarsenCells, marks), refused(8));
+    }
     assert_eq!(mesh, after);
-    assert_eq!(call(&mut mesh, CoarsenCells, &[1, 3]), accepted(&[1, 3], &[1, 5, 8]));
+    assert_eq!(call(&mut mesh, CoarsenCells, &[3]), accepted(&[3], &[8]));
     assert_eq!(mesh, after_first);
     // The cells of its bytes, and back.
     let mut cells = vec![0xee; 63];
     assert_eq!(after.to_cells(&mut cells), 0);
-    assert_eq!(cells[..17], [2, 2, 1, 2, 1, 1, 1, 0, 0, 1, 1, 1, 1, 0, 0, 1, 1]);
+    assert_eq!(cells[..17], [2, 1, 1, 2, 1, 0, 0, 0, 0, 1, 1, 0, 0, 0, 0, 1, 1]);
     assert_eq!(cells[17..], [&[0; 10][..], &[1, 1], &[0; 34]].concat());
     assert_eq!(mesh.from_cells(&cells), 0);
     assert_eq!(mesh.planes, after.planes);
+}
+
+/// In class 2 cell 4 needs cell 1. It has the children 17, 18, 29 and 30.
+#[test]
+fn refine_0_then_4() {
+    let mut mesh = opened(W2);
+    assert_eq!(call(&mut mesh, RefineCells, &[0]), accepted(&[0], &[0, 4]));
+    let after_first = mesh.clone();
+    assert_eq!(call(&mut mesh, RefineCells, &[4]), accepted(&[1, 4], &[1, 5]));
+    let children = 1 << 17 | 1 << 18 | 1 << 29 | 1 << 30;
+    assert_eq!(mesh.planes, word(1567 + 6240 + children, 0b10011));
+    // 3 + 3 * 4 cells, of which 3 are refined.
+    assert_eq!(mesh.count().active_cells, 12);
+    let after = mesh.clone();
+    assert_eq!(call(&mut mesh, CoarsenCells, &[1]), accepted(&[], &[]));
+    assert_eq!(mesh, after);
+    assert_eq!(call(&mut mesh, CoarsenCells, &[1, 4]), accepted(&[1, 4], &[1, 5]));
+    assert_eq!(mesh, after_first);
 }
 
 /// Bit 63 is spare, and nothing else is wrong.
@@ -153,7 +171,7 @@ fn all_refuse(mesh: &OnPlanes, number: u32) {
 fn as_the_refusal_table_has_it() {
     let mut mesh = opened(W0);
     assert_eq!(call(&mut mesh, RefineCells, &[0]).number, 0);
-    assert_eq!(call(&mut mesh, RefineCells, &[3]).number, 0);
+    assert_eq!(call(&mut mesh, RefineCells, &[4]).number, 0);
     all_refuse(&OnPlanes { plan: plan(W2), ..mesh }, 5);
     let mut mesh = opened(W0);
     mesh.functions[0] = 2;
