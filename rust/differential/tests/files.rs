@@ -131,14 +131,14 @@ fn numbers_by_hand() {
 }
 
 /// Files, their plans and their refined cells.
-const FILES: [(&str, [u32; 6], &[u32]); 16] = [
+const FILES: [(&str, [u32; 6], &[u32]); 19] = [
     ("03 01 03 01 01 00 00", W0, &[]),
     // P1, P2, P3.
     ("03 01 03 01 01 00 01 00", W0, &[0]),
     ("03 01 03 01 01 00 01 01", W0, &[1]),
     ("03 01 03 01 01 00 02 00 01", W0, &[0, 1]),
-    // P7, and what is left of it after P10.
-    ("03 01 03 01 01 02 03 00 01 02", W2, &[0, 1, 3]),
+    // P7, and what is left of it once cell 3 is coarsened.
+    ("03 01 03 01 01 02 02 00 03", W2, &[0, 3]),
     ("03 01 03 01 01 02 01 00", W2, &[0]),
     // Everything refined that can be: cells 0 to 2, and 3 to 14 of level 1.
     (
@@ -149,8 +149,8 @@ const FILES: [(&str, [u32; 6], &[u32]); 16] = [
     // One level, so that nothing can be refined.
     ("10 10 01 04 04 08 00", [16, 16, 1, 4, 4, 8], &[]),
     ("01 01 01 01 01 00 00", [1, 1, 1, 1, 1, 0], &[]),
-    // Cell 3 refined, and 15 after it, which takes 2 and 4 along.
-    ("08 01 05 01 01 02 04 02 01 01 0b", [8, 1, 5, 1, 1, 2], &[2, 3, 4, 15]),
+    // Cell 3 refined, and 15 after it, which takes 4 along.
+    ("08 01 05 01 01 02 03 03 01 0b", [8, 1, 5, 1, 1, 2], &[3, 4, 15]),
     // A first cell, and a difference, of one group and of two.
     ("10 10 02 01 01 00 01 7f", [16, 16, 2, 1, 1, 0], &[127]),
     ("10 10 02 01 01 00 01 80 01", [16, 16, 2, 1, 1, 0], &[128]),
@@ -163,6 +163,11 @@ const FILES: [(&str, [u32; 6], &[u32]); 16] = [
         [1, 1, 8, 1, 1, 0],
         &[0, 1, 5, 21, 85, 341, 1365],
     ),
+    // Cell 0 refined, and 4 after it, which takes 1 along.
+    ("03 01 03 01 01 02 03 00 01 03", W2, &[0, 1, 4]),
+    // What the rule before Req 12 made of P7, and of cells 3 and 15.
+    ("03 01 03 01 01 02 03 00 01 02", W2, &[0, 1, 3]),
+    ("08 01 05 01 01 02 04 02 01 01 0b", [8, 1, 5, 1, 1, 2], &[2, 3, 4, 15]),
 ];
 
 /// The same with corners, whose numbers stand behind the last cell.
@@ -178,8 +183,8 @@ const WITH_CORNERS: [(&str, [u32; 8], &[u32]); 18] = [
     ("02 02 02 02 03 02 00 02 02", [2, 2, 2, 2, 3, 2, 2, 2], &[]),
     ("02 02 02 02 03 02 04 00 01 01 01 02 02", [2, 2, 2, 2, 3, 2, 2, 2], &[0, 1, 2, 3]),
     // Degree 2 and class 2, where the cells would not do without the corner.
-    ("03 01 03 02 01 02 03 00 01 02 02 00", [3, 1, 3, 2, 1, 2, 2, 0], &[0, 1, 3]),
-    ("04 01 03 02 01 02 03 00 01 03 04 00", [4, 1, 3, 2, 1, 2, 4, 0], &[0, 1, 4]),
+    ("03 01 03 02 01 02 02 00 03 02 00", [3, 1, 3, 2, 1, 2, 2, 0], &[0, 3]),
+    ("04 01 03 02 01 02 03 00 01 05 04 00", [4, 1, 3, 2, 1, 2, 4, 0], &[0, 1, 6]),
     // Corners of one group, of two and of three.
     ("07 01 02 02 01 00 00 40 00", [7, 1, 2, 2, 1, 0, 64, 0], &[]),
     ("08 01 02 02 01 00 00 80 01 00", [8, 1, 2, 2, 1, 0, 128, 0], &[]),
@@ -227,8 +232,12 @@ fn files_after_calls() {
     assert_eq!(after(W0, &[(RefineFunctions, &[1])]), bytes(FILES[3].0));
     let p7: [(Kind, &[u32]); 2] = [(RefineCells, &[0]), (RefineCells, &[3])];
     assert_eq!(after(W2, &p7), bytes(FILES[4].0));
-    assert_eq!(after(W2, &[p7[0], p7[1], (CoarsenCells, &[1])]), bytes(FILES[4].0));
-    assert_eq!(after(W2, &[p7[0], p7[1], (CoarsenCells, &[1, 3])]), bytes(FILES[5].0));
+    assert_eq!(after(W2, &[p7[0], p7[1], (CoarsenCells, &[3])]), bytes(FILES[5].0));
+    let needy: [(Kind, &[u32]); 2] = [(RefineCells, &[0]), (RefineCells, &[4])];
+    assert_eq!(after(W2, &needy), bytes(FILES[16].0));
+    assert_eq!(after(W2, &[needy[0], needy[1], (CoarsenCells, &[1])]), bytes(FILES[16].0));
+    assert_eq!(after(W2, &[needy[0], needy[1], (CoarsenCells, &[1, 4])]), bytes(FILES[5].0));
+    assert_eq!(after(W2, &[p7[0], (RefineCells, &[1]), p7[1]]), bytes(FILES[17].0));
     let one_click: [(Kind, &[u32]); 2] = [(RefineCells, &[3]), (RefineCells, &[15])];
     assert_eq!(after([8, 1, 5, 1, 1, 2], &one_click), bytes(FILES[9].0));
 }
@@ -301,7 +310,7 @@ const REFUSED: [(&str, u32); 107] = [
     ("03 01 03 01 01 00 00 ff", 12),
     ("03 01 03 01 01 00 02 00 01 80", 12),
     ("03 01 03 01 01 00 00 80 01", 12),
-    ("03 01 03 01 01 02 02 00 03 00", 12),
+    ("03 01 03 01 01 02 02 00 04 00", 12),
     ("03 01 03 01 01 00 00 00 00", 12),
     ("03 01 03 01 01 00 02 00 01 00 00", 12),
     ("03 01 03 01 01 00 00 00 00 02 00", 12),
@@ -339,7 +348,7 @@ const REFUSED: [(&str, u32); 107] = [
     ("03 01 03 01 01 00 00 00 02", 1),
     ("01 01 03 01 01 00 00 02 00", 1),
     ("10 01 02 01 01 00 00 80 80 04 00", 1),
-    ("03 01 03 01 01 02 02 00 03 08 00", 1),
+    ("03 01 03 01 01 02 02 00 04 08 00", 1),
     ("03 01 03 01 01 00 01 3f 01 00 07 80", 1),
     ("10 10 05 01 01 00 00 01 00", 1),
     ("03 01 03 01 01 00 00 ff ff 7f ff ff 7f", 1),
@@ -355,10 +364,10 @@ const REFUSED: [(&str, u32); 107] = [
     ("03 01 03 01 01 00 02 00 0f", 4),
     ("03 01 03 01 01 00 01 03", 4),
     ("03 01 03 01 01 02 02 00 3f", 4),
-    // 5: the scope document's example.
-    ("03 01 03 01 01 02 02 00 03", 5),
-    // The same with degree 2, where cell 2 is missing without the corner.
-    ("03 01 03 02 01 02 03 00 01 02", 5),
+    // 5: Req 12's example.
+    ("03 01 03 01 01 02 02 00 04", 5),
+    // With degree 2 cell 3 needs cell 1, where there is no corner.
+    ("03 01 03 02 01 02 02 00 03", 5),
 ];
 
 /// The same where the plan is answered with its corners.
@@ -368,9 +377,9 @@ const REFUSED_WITH_CORNERS: [(&str, u32, [u32; 8]); 11] = [
     ("03 01 03 02 01 00 01 03 04 00", 4, [3, 1, 3, 2, 1, 0, 4, 0]),
     ("03 01 03 02 01 00 02 00 0f 06 00 00", 4, [3, 1, 3, 2, 1, 0, 6, 0]),
     // 5: cell 1 is missing; and cell 2 is where the corner stands one line further on.
-    ("03 01 03 02 01 02 02 00 03 02 00", 5, [3, 1, 3, 2, 1, 2, 2, 0]),
-    ("04 01 03 02 01 02 03 00 01 03 08 00", 5, [4, 1, 3, 2, 1, 2, 8, 0]),
-    ("01 03 03 01 02 02 02 00 03 00 02 ff", 5, [1, 3, 3, 1, 2, 2, 0, 2]),
+    ("03 01 03 02 01 02 02 00 04 02 00", 5, [3, 1, 3, 2, 1, 2, 2, 0]),
+    ("04 01 03 02 01 02 03 00 01 05 08 00", 5, [4, 1, 3, 2, 1, 2, 8, 0]),
+    ("01 03 03 01 02 02 02 00 05 00 02 ff", 5, [1, 3, 3, 1, 2, 2, 0, 2]),
     // 13: bytes behind both corner numbers, of whatever form.
     ("03 01 03 01 01 00 00 02 00 00", 13, [3, 1, 3, 1, 1, 0, 2, 0]),
     ("03 01 03 01 01 00 00 02 00 80", 13, [3, 1, 3, 1, 1, 0, 2, 0]),
@@ -435,7 +444,7 @@ fn refusals_of_writing_by_hand() {
     let mut tables = mesh(W0, &[]);
     tables.cells[0] = 0;
     refused(tables, 4);
-    refused(mesh(W2, &[0, 3]), 5);
+    refused(mesh(W2, &[0, 4]), 5);
     let mut tables = mesh(W0, &[]);
     tables.functions[0] = 2;
     refused(tables, 6);
@@ -619,7 +628,7 @@ fn every_plan() {
 /// Meshes whose files have something of everything.
 fn some_meshes() -> Vec<Tables> {
     let mut meshes: Vec<Tables> =
-        [1, 3, 4, 6, 9, 12, 14].map(|i| mesh(FILES[i].1, FILES[i].2)).to_vec();
+        [1, 3, 4, 6, 9, 12, 14, 16].map(|i| mesh(FILES[i].1, FILES[i].2)).to_vec();
     meshes.extend([4, 8, 9, 12].map(|i| mesh(WITH_CORNERS[i].1, WITH_CORNERS[i].2)));
     let mut random = Random::new(700);
     for numbers in [
@@ -691,8 +700,8 @@ fn every_length_of_tables() {
         ("03 01 03 02 01 02 00", 0, 104),
         ("03 01 03 02 01 02 03 00 01 02 02 00", 0, 114),
         ("03 01 03 01 01 02 02 00 3f", 4, 94),
-        ("03 01 03 01 01 02 02 00 03", 5, 94),
-        ("03 01 03 02 01 02 02 00 03 02 00", 5, 114),
+        ("03 01 03 01 01 02 02 00 04", 5, 94),
+        ("03 01 03 02 01 02 02 00 04 02 00", 5, 114),
         ("03 01 03 01 01 02 00 04 00 00", 13, 94),
         ("03 01 03 02 01 02 00 04 00 00", 13, 114),
         ("03 01 03 01 01 02 03 00 01", 12, 94),

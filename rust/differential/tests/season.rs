@@ -607,7 +607,7 @@ fn each_number_of_check_is_refused() {
     refused[2].cells.pop();
     refused[3].cells[0] = 0;
     let graded = plan([3, 1, 3, 1, 1, 2]);
-    let refined: BTreeSet<model::Cell> = [0, 3].map(|cell| graded.cell_at(cell)).into();
+    let refined: BTreeSet<model::Cell> = [0, 4].map(|cell| graded.cell_at(cell)).into();
     refused[4] = Tables::with_refined(graded, &refined);
     refused[5].functions[0] = 2;
     for (tables, number) in refused.iter().zip(1..) {
