@@ -514,7 +514,7 @@ fn refusals_in_order() {
     }
     // Refusal 5 on such a plan, and on one with heights.
     for p in [1, 3] {
-        let mut tables = towards_the_first_cell([3, 1, 3, p, 1, 0]);
+        let mut tables = mesh([3, 1, 3, p, 1, 0], &[0, 4]);
         tables.plan.class = 2;
         assert_eq!(tables.check(), 5);
         for heights in [vec![], vec![i32::MIN; tables.functions.len()]] {
@@ -556,7 +556,7 @@ fn refusals_by_hand() {
     let mut tables = mesh(W0, &[]);
     tables.cells[0] = 0;
     refused(tables, 4);
-    refused(Tables { plan: plan(W2), ..mesh(W0, &[0, 3]) }, 5);
+    refused(Tables { plan: plan(W2), ..mesh(W0, &[0, 4]) }, 5);
     let mut tables = mesh(W0, &[]);
     tables.functions[0] = 2;
     refused(tables, 6);
@@ -788,8 +788,10 @@ fn no_bit_is_rounded_away() {
             let mut odd = 0;
             for turn in 0..12 {
                 let class = random.pick(&[0, 0, 2]);
-                let across = random_corners(&mut random, turn % 3 + 1);
-                let up = random_corners(&mut random, 2);
+                // Where every line is a corner, a coarser unit does.
+                let mut corners =
+                    |n| if turn % 2 == 0 { 0 } else { random_corners(&mut random, n) };
+                let (across, up) = (corners(turn % 3 + 1), corners(2));
                 let plan = plan([turn % 3 + 1, 2, levels, p, q, class, across, up]);
                 let wholly = plan.cells().filter(|cell| cell.level + 1 < levels).collect();
                 let refined = if turn < 6 { wholly } else { random_refined(&mut random, plan) };

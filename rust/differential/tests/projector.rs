@@ -440,10 +440,10 @@ struct Lent {
 }
 
 impl Lent {
-    /// Cell 0 and its first child refined, which class 2 would not have, and no fault but those of
-    /// the plan.
+    /// Cell 0 and its second child refined, which class 2 would not have without cell 1, and no fault
+    /// but those of the plan.
     fn new(plan: Plan) -> Lent {
-        let refined = [0, 1].map(|level| Cell { level, row: 0, column: 0 });
+        let refined = [0, 1].map(|level| Cell { level, row: 0, column: level });
         let tables = Tables::with_refined(plan, &refined.into());
         let heights = vec![-1; tables.functions.len()];
         let out = (0..needed(&tables) as u64).map(|i| SIGNALLING + i).collect();
@@ -533,7 +533,7 @@ fn refusals_by_hand() {
     let mut tables = mesh(W0, &[]);
     tables.cells[0] = 0;
     refused(tables, 4);
-    refused(Tables { plan: plan(W2), ..mesh(W0, &[0, 3]) }, 5);
+    refused(Tables { plan: plan(W2), ..mesh(W0, &[0, 4]) }, 5);
     let mut tables = mesh(W0, &[]);
     tables.functions[0] = 2;
     refused(tables, 6);

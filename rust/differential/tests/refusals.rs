@@ -312,11 +312,13 @@ fn a_corner_moved() {
         assert_eq!(moved(&tables, corners), number, "{corners}");
         assert!(number == 1 || number == 3 || moved(&opened, corners) == 0);
     }
-    // A child of cell 1 needs cells 0 to 2, and cell 3 too where the corner is before column 1.
+    // The first child of cell 1 is in column 2 of level 1, which has common functions with columns 0 to
+    // 3. It needs cells 0 and 1. Where the corner is before column 1, these are columns 1 to 4, and it
+    // needs cell 2 too.
     let child = plan([4, 1, 3, 2, 1, 2]).cell_number(model::Cell { level: 1, row: 0, column: 2 });
     tables.call_with_room(Kind::RefineCells, &[1]);
     let outcome = tables.call_with_room(Kind::RefineCells, &[child as u32]);
-    assert_eq!(outcome.cells, [2, child as u32]);
+    assert_eq!(outcome.cells, [child as u32]);
     assert_eq!(moved(&tables, 2), 5);
 }
 
