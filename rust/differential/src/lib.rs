@@ -875,8 +875,8 @@ fn all_meshes_within(plan: Plan, within: impl Fn(Cell) -> bool) -> Vec<BTreeSet<
 
 /// Plans of classes 2, 3 and 4, with corners and without, each with meshes of it, admissible or not. In
 /// class 2 these are all meshes; in class 3 all that have no cells refined but those of the first row (or
-/// column); in class 4 all that have no cells refined but those of them that are at most two from the
-/// line in the middle.
+/// column); in class 4 all that have no cells refined but those of the first row that are at most two
+/// columns from the middle of cell 0.
 pub fn meshes_of_classes() -> Vec<(Plan, Vec<BTreeSet<Cell>>)> {
     let mut plans = vec![];
     for (p, q) in (1..=4).flat_map(|p| (1..=4).map(move |q| (p, q))) {
@@ -894,19 +894,15 @@ pub fn meshes_of_classes() -> Vec<(Plan, Vec<BTreeSet<Cell>>)> {
         }
     }
     let meshes = |plan: Plan| {
-        let first = move |cell: Cell| if plan.rows == 1 { cell.row } else { cell.column } == 0;
-        let from_middle = move |cell: Cell| {
-            let middle = 1 << cell.level;
-            if cell.column < middle {
-                middle - 1 - cell.column
-            } else {
-                cell.column - middle
-            }
+        let first = move |cell: Cell| if plan.rows == 1 { cell.row == 0 } else { cell.column == 0 };
+        let two_from_middle = |cell: Cell| {
+            let middle = (1 << cell.level) / 2;
+            (middle.max(2) - 2..middle + 2).contains(&cell.column)
         };
         match plan.class {
             2 => all_meshes(plan),
             3 => all_meshes_within(plan, first),
-            _ => all_meshes_within(plan, move |cell| first(cell) && from_middle(cell) < 2),
+            _ => all_meshes_within(plan, move |cell| first(cell) && two_from_middle(cell)),
         }
     };
     plans.into_iter().map(|plan| (plan, meshes(plan))).collect()
