@@ -76,9 +76,9 @@ fn without_a_class_it_is_false() {
     assert_eq!(levels_with(PASSIVE, &tables, 18), [2]);
 }
 
-/// Degree 2 across and a corner before column 1. The functions of level 1 over cell 15 cover columns 0 and
-/// 1. Without the corner one covers column 2 too: it is passive unless cell 1 is refined. On level 2, that
-/// of the cell, one covers column 2, which is absent.
+/// Degree 2 across and a corner before column 1. The functions of level 1 over cell 15 cover columns 0
+/// and 1 alone. Without the corner one covers column 2 too: it is passive unless cell 1 is refined. On
+/// level 2, that of the cell, one covers column 2, which is absent.
 #[test]
 fn worked_with_a_corner() {
     let cornered = refined([3, 1, 3, 2, 1, 2, 2, 0], &[0, 3]);
