@@ -20,7 +20,7 @@ use Rattle.grid.specs.Spans.{inRectangle}
 use Rattle.grid.proofs.Rising.{Apart}
 use Rattle.grid.proofs.Laws.{cell-number-place, near-in}
 use Rattle.grid.proofs.Spans.{InRectangle, rectangle-fact, rectangle-test}
-use Rattle.grid.proofs.Ancestors.{ancestor-own, ancestor-more, ancestors-apart, ancestors-within, Beside, NearBeside, near-beside}
+use Rattle.grid.proofs.Generations.{ancestor-own, ancestor-more, ancestors-apart, ancestors-within, Beside, NearBeside, near-beside}
 use Rattle.cost.specs.Reach.{atMost, window, levelsReached, reaches, mostRefined}
 
 -- ---- what a cell needs

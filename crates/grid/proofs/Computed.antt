@@ -1,6 +1,7 @@
 -- The plan's definitions computed on small plans: ranges, supports, children and neighbourhoods, one table under one theorem. Assumes
 -- nothing.
 use Prim.Native.Nat.{ℕ}
+use mathlib.Core.Path.{_≡_, refl}
 use mathlib.Core.Bool.{Bool, true, not, _&&_, _||_}
 use mathlib.Core.List.{List, [], _∷_}
 use lib.Dec.{T, eqb}
@@ -9,6 +10,8 @@ use Rattle.grid.specs.declared.Place.{Place}
 use Rattle.grid.specs.Numbering.{offset, number, levelOf, placeOn, place}
 use Rattle.grid.specs.Plan.{between, numbersInRange, cornersInRange, inRange, ratio, grown, cellTotal, functionTotal, above, below, parent, child, supportedAt, supported, ancestor, commonAt, nearAt}
 use Rattle.grid.specs.Knots.{isSet, isCorner, cornersTo, times, knotFrom, knot, beyond, functions, covers, apart, together}
+use Rattle.grid.specs.Side.{firstOver, passed, before, aroundSpan}
+use Rattle.grid.specs.Spans.{around, ancestorOf, coarserSpan, parentsOf, neighbourhood}
 use Rattle.facts.specs.Bounded.{some}
 
 abbrev at : ℕ → ℕ → ℕ → Place
@@ -94,6 +97,20 @@ table =
     -- class 0: no cell has a neighbourhood
     ∷ fars (plan 6 4 2 1 1 0) (at 1 2 6) (at 0 1 3)
     ∷ []
+
+-- the neighbourhood as a rectangle: its level, its rows and its columns, first and end
+abbrev rectangleOf : Plan → Place → List ℕ
+rectangleOf p q =
+    let r = neighbourhood p q in
+    r .level ∷ r .rows .first ∷ r .rows .end ∷ r .columns .first ∷ r .columns .end ∷ []
+
+-- of the cell of level 1 in row 2 and column 6, above; of one on it in class 3; of its neighbour to the right, whose columns begin at 3; of the
+-- first cell
+pub rectangles :
+    rectangleOf (plan 6 4 2 1 1 2) (at 1 2 6) ∷ rectangleOf (plan 6 4 3 1 1 3) (at 2 5 13) ∷ rectangleOf (plan 6 4 2 1 1 2) (at 1 2 7) ∷ rectangleOf (plan 6 4 2 1 1 2) (at 1 0 0) ∷ []
+    ≡ (0 ∷ 0 ∷ 2 ∷ 2 ∷ 4 ∷ []) ∷ (0 ∷ 0 ∷ 2 ∷ 2 ∷ 4 ∷ []) ∷ (0 ∷ 0 ∷ 2 ∷ 3 ∷ 5 ∷ []) ∷ (0 ∷ 0 ∷ 1 ∷ 0 ∷ 1 ∷ []) ∷ []
+unfolding ratio grown isSet cornersTo beyond functions ancestor neighbourhood parentsOf coarserSpan around ancestorOf aroundSpan before passed firstOver
+rectangles = refl
 
 pub computed : T (allHold table)
 unfolding table between numbersInRange cornersInRange inRange ratio grown offset number levelOf placeOn place above below parent child isSet isCorner cornersTo times knotFrom knot beyond functions covers apart some together supportedAt supported ancestor commonAt nearAt

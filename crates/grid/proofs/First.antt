@@ -20,7 +20,7 @@ use Rattle.grid.proofs.Knots.{covers-fact, covers-test}
 use Rattle.grid.proofs.SideLaws.{together-fact, together-test, coarser-e}
 use Rattle.grid.proofs.Laws.{ratio-pos, across-sized, up-sized, above-in, below-above, cell-inside, cell-number-lt, cell-place-number, near-in, near-places, near-of, near-child, near-child-in, near-child-above, near-child-level}
 use Rattle.grid.proofs.Direction.{grown-more}
-use Rattle.grid.proofs.Ancestors.{ancestor-one}
+use Rattle.grid.proofs.Generations.{ancestor-one}
 use Rattle.grid.proofs.Rectangles.{ancestor-below, parents-around-in}
 use Rattle.grid.proofs.Spans.{rectangle-fact, span-fact, span-test, supported-places, supported-of, level-below, ancestor-in, near-is}
 

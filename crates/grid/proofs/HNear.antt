@@ -9,7 +9,7 @@ use Rattle.grid.specs.Plan.{cellTotal, cellPlace, CellInside, near}
 use Rattle.grid.specs.HNear.{hNearAt, hNear}
 use Rattle.grid.specs.Range.{InRange}
 use Rattle.grid.proofs.Laws.{common-test, Near, near-in, near-places, cell-inside}
-use Rattle.grid.proofs.Ancestors.{near-there}
+use Rattle.grid.proofs.Generations.{near-there}
 
 h-near-at : (p : Plan) → InRange p → (q c : Place) → CellInside p q → CellInside p c → Near p q c → T (hNearAt p q c)
 unfolding hNearAt

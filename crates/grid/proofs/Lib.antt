@@ -12,7 +12,7 @@ pub mod SideLaws
 pub mod Laws
 pub mod Small
 pub mod Spans
-pub mod Ancestors
+pub mod Generations
 pub mod Totals
 pub mod Rectangles
 pub mod Sides

@@ -23,7 +23,7 @@ use Rattle.grid.specs.Range.{InRange}
 use Rattle.grid.specs.Side.{SideIn, firstOver, firsts}
 use Rattle.grid.proofs.Direction.{grown-up}
 use Rattle.grid.proofs.Laws.{ratio-pos}
-use Rattle.grid.proofs.Ancestors.{ancestor-one}
+use Rattle.grid.proofs.Generations.{ancestor-one}
 use Rattle.grid.proofs.Numbering.{level-ends}
 use Rattle.grid.proofs.Sides.{across-in, first-lt}
 use Rattle.windows.specs.Windows.{always, lowered, back, rowSlid}
