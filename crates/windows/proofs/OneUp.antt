@@ -4,10 +4,13 @@ use mathlib.Core.Path.{_≡_, refl, sym, ap, _∙_}
 use mathlib.Core.Bool.{cond}
 use mathlib.Core.List.{List}
 use Prim.Native.Nat.{ℕ, pred, min, _+_, _-_, _*_, _/_, _%_, _≤_, _<_}
-use native.Mathlib.Nat.{le-antisymm, le-trans, mul-le-mul-right, min-eq-right, min-eq-left, le-refl}
+use native.Mathlib.Nat.{le-antisymm, le-trans, mul-le-mul-right, min-eq-right, min-eq-left, min-le-right, le-refl}
 use native.Mathlib.Omega.{arith}
 use lib.Arith.{digits-div, digits-mod}
+use lib.Dec.{eqb, eqb→eq}
 use lib.ListN.{length, getD}
+use mathlib.Core.Logic.{_≢_}
+use Rattle.facts.proofs.Tests.{cases, differ}
 use borrow.Rule.Slice.PartMut.{midOf}
 use Rattle.facts.specs.Least.{least}
 use Rattle.facts.specs.Mapped.{inRun, filled}
@@ -26,7 +29,7 @@ use Rattle.grid.proofs.Laws.{ratio-pos}
 use Rattle.grid.proofs.Generations.{ancestor-one}
 use Rattle.grid.proofs.Numbering.{level-ends}
 use Rattle.grid.proofs.Sides.{across-in, first-lt}
-use Rattle.windows.specs.Windows.{always, lowered, back, rowSlid}
+use Rattle.windows.specs.Windows.{always, lowered, leastOf, back, rowSlid}
 use Rattle.windows.specs.Level.{leastOver, placedRow, Twos}
 use Rattle.windows.specs.Near.{ParentsIn, parentsRow, aboveByte, nearWide, parentRows, leastRows}
 use Rattle.windows.proofs.Levels.{over-le, over-ge, over-top}
@@ -125,9 +128,30 @@ module _ (p : Plan) (range : InRange p) (cells : List ℕ) (k : ℕ) (l : k < p 
 
 -- ---- the least of some rows
 
-pub rows-none : (from xs : List ℕ) (width first : ℕ) → filled 0 width (always 2) xs ≡ filled 0 width (leastRows from width first 0) xs
-unfolding always leastRows least
-rows-none from xs width first = refl
+module _ (from : List ℕ) (width first : ℕ) where
+  entry : (at d i : ℕ) → at ≡ (first + d) * width → getD (midOf at (length from - at) from) i 0 ≡ getD from ((first + d) * width + i) 0
+  entry at d i e = part-at at from i ∙ ap (λ (m : ℕ). getD from (m + i) 0) e
+
+  both : {a b x y : ℕ} → a ≡ x → b ≡ y → min (min 2 a) b ≡ min (min 2 x) y
+  both e f = λ j. min (min 2 (e j)) (f j)
+
+  -- the first two at once, or the first alone
+  pub rows-first : (r before at i : ℕ) → first ≤ r → r ≤ first + 1 → before ≡ first * width → at ≡ r * width
+      → leastOf (midOf before (length from - before) from) (midOf at (length from - at) from) i ≡ leastRows from width first (r + 1 - first) i
+  unfolding leastOf leastRows least
+  rows-first r before at i l m e f =
+      let o : before ≡ (first + 0) * width = omega arith in
+      cases (eqb r first)
+      (λ t.
+      let q : r ≡ first = eqb→eq r first t in
+      let n : r + 1 - first ≡ 1 = omega arith in
+      let u : at ≡ (first + 0) * width = f ∙ ap (λ (k : ℕ). k * width) (omega arith) in
+      rw n (both (entry before 0 i o) (entry at 0 i u) ∙ min-eq-left (min-le-right 2 (getD from ((first + 0) * width + i) 0))))
+      (λ t.
+      let q : r ≢ first = differ r first t in
+      let n : r + 1 - first ≡ 2 = omega arith in
+      let u : at ≡ (first + 1) * width = f ∙ ap (λ (k : ℕ). k * width) (omega arith) in
+      rw n (both (entry before 0 i o) (entry at 1 i u)))
 
 pub rows-next : (from xs ys : List ℕ) (width first n at : ℕ) → ys ≡ filled 0 width (leastRows from width first n) xs → at ≡ (first + n) * width
     → lowered width (midOf at (length from - at) from) ys ≡ filled 0 width (leastRows from width first (n + 1)) xs

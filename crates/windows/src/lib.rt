@@ -267,14 +267,28 @@ fn parent_rows(plan: Plan, cells: &[u8], level: u32, row: &mut [u8], out: &mut [
     }
 }
 
-// The least entries of some rows, column by column.
+// The row after the first, or the first where it is the only one.
+fn second_row(first: usize, end: usize) -> usize
+    requires { ⌜ first < end ⌝ }
+    ensures { λ r. ⌜ (first ≤ r) × (r ≤ first + 1) × (r < end) ⌝ }
+{
+    if end - first == 1 {
+        return first;
+    }
+    first + 1
+}
+
+// The least entries of some rows, column by column: of the first two in one pass.
 fn least_rows(from: &[u8], out: &mut [u8], width: usize, first: usize, end: usize)
-    requires { ⌜ (first ≤ end) × (end * width ≤ length (now from)) × (width ≤ length (now out)) ⌝ }
+    requires { ⌜ (first < end) × (end * width ≤ length (now from)) × (width ≤ length (now out)) ⌝ }
     ensures { λ _. ⌜ now (out .exit) ≡ filled 0 width (leastRows (now (from .entry)) width first (end - first)) (now (out .entry)) ⌝ }
 {
-    fill(out, width, 2);
-    let mut at = first * width;
-    let mut row = first;
+    let second = second_row(first, end);
+    let before = first * width;
+    let mut at = second * width;
+    least_of(out, &from[before..], &from[at..], width);
+    let mut row = second + 1;
+    at += width;
     while row < end {
         lower(out, &from[at..], width);
         at += width;

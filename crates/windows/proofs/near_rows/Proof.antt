@@ -69,7 +69,7 @@ least-rows-requires c κs =
     let l = i .before .loop in
     let r = rows-near-in (a .plan) (s .pre .0 .0) (a .level) (s .pre .0 .1) (s .pre .0 .2) (l .row) (more i) in
     rw (c .before .before .before .before .parents-around .ensures)
-    (omega (arith, r .0), omega (arith, mul-le-mul-right (a .width) (r .1), s .pre .1 .0), omega (arith, lies i, mid-len (l .at) (l .out)))
+    (r .0, omega (arith, mul-le-mul-right (a .width) (r .1), s .pre .1 .0), omega (arith, lies i, mid-len (l .at) (l .out)))
 
 add-at : tie.Need-add-at Inv-loop μ-loop
 add-at c = let i = c .before .before .before .before .before .before .before .before in omega (arith, lies i, i .before .before .before)
