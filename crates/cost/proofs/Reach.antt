@@ -1,7 +1,7 @@
 -- A marked cell reaches all cells that it needs, and few cells (document 02, Req 09). Of neighbourhoods this uses `near-beside` alone.
 -- Assumes nothing.
 use Prim.Native.Nat.{ℕ, suc, _+_, _-_, _*_, _/_, _<_, _≤_}
-use native.Mathlib.Nat.{le-refl, suc-mul, div-zero, le-div-iff-mul-le, mul-le-mul}
+use native.Mathlib.Nat.{le-refl, suc-mul, div-zero, le-div-iff-mul-le}
 use native.Mathlib.Omega.{arith}
 use mathlib.Core.Bool.{Bool, _||_}
 use mathlib.Core.Path.{_≡_, sym, ap, _∙_, subst}

@@ -1,5 +1,5 @@
 -- Supports and neighbourhoods, as facts and as rectangles; no support is empty. Assumes nothing.
-use Prim.Native.Nat.{ℕ, suc, pred, _+_, _-_, _*_, _<_, _≤_}
+use Prim.Native.Nat.{ℕ, suc, pred, _-_, _*_, _<_, _≤_}
 use native.Mathlib.Omega.{arith}
 use mathlib.Core.Bool.{Bool, _&&_}
 use mathlib.Core.Path.{_≡_, refl, ap, _∙_}
@@ -15,7 +15,7 @@ use Rattle.grid.specs.Side.{supportSpan}
 use Rattle.grid.specs.Range.{InRange, HasNeighbourhood}
 use Rattle.grid.specs.Spans.{inSpan, inRectangle, supportOf, nearLevel, ancestorLevel, around, ancestorOf, parentsOf, neighbourhood}
 use Rattle.grid.proofs.Direction.{grown-ancestor, grown-more}
-use Rattle.grid.proofs.Laws.{ratio-pos, across-sized, up-sized, Near, near-fact, near-test, near-places, near-of, function-inside, cell-inside, cell-number-lt, cell-place-number}
+use Rattle.grid.proofs.Laws.{ratio-pos, across-sized, up-sized, Near, near-fact, near-test, near-places, function-inside, cell-inside, cell-number-lt, cell-place-number}
 use Rattle.grid.proofs.SideLaws.{SpanIn, support-is, support-span-in, coarser-e, coarser-i}
 
 -- ---- spans and rectangles

@@ -5,7 +5,6 @@ use mathlib.Core.List.{List}
 use Prim.Native.Nat.{ℕ, _+_, _-_, _*_, _≤_, _<_}
 use native.Mathlib.Nat.{le-antisymm, le-trans, le-add-right, mul-le-mul-right}
 use native.Mathlib.Omega.{arith}
-use lib.Arith.{digits-div, digits-mod}
 use lib.ListN.{length, getD}
 use borrow.Rule.Slice.PartMut.{midOf}
 use Rattle.facts.specs.Least.{least}
@@ -134,9 +133,3 @@ module _ (p : Plan) (cells found start : List ℕ) (k across up : ℕ) (e : foun
   pub level-entry : (t : ℕ) → t < high p k up * wide p k across → getD found t 0 ≡ levelLeast p cells k across up t
   unfolding filled
   level-entry t l = ap (λ z. getD z t 0) e ∙ (mapped-at _ start t (omega arith) ∙ rw (run-in 0 (high p k up * wide p k across) t (omega arith) (omega arith)))
-
-  pub level-at : (j i : ℕ) → j < high p k up → i < wide p k across → getD found (j * wide p k across + i) 0 ≡ leastUnder p cells k across up j i
-  unfolding levelLeast
-  level-at j i l m =
-      let b = mul-le-mul-right (wide p k across) l in
-      level-entry (j * wide p k across + i) (omega arith) ∙ rw (digits-div j m, digits-mod j m)

@@ -14,12 +14,12 @@ use Rattle.facts.specs.Mapped.{filled}
 use Rattle.facts.proofs.Tests.{and-i, and-l, and-r, not-i, not-e, cases, same, differ, implies-i, implies-e, T-true, T-false, eqb-of}
 use Rattle.facts.proofs.Bounded.{every-i, every-e}
 use Rattle.facts.proofs.Least.{least-same, least-le, least-top, least-ge}
-use Rattle.facts.proofs.Mapped.{run-in, mapped-at, filled-same, filled-length}
+use Rattle.facts.proofs.Mapped.{run-in, mapped-at, filled-same}
 use Rattle.grid.specs.declared.Plan.{Plan}
 use Rattle.grid.specs.declared.Place.{Place}
 use Rattle.grid.specs.declared.Side.{Side}
 use Rattle.grid.specs.declared.Span.{Span}
-use Rattle.grid.specs.Plan.{ratio, columnsAt, rowsAt, cellTotal, cellPlace, cellNumber, cellLevel, CellInside, acrossAt, upAt, ancestor, near}
+use Rattle.grid.specs.Plan.{ratio, columnsAt, rowsAt, cellTotal, cellPlace, cellNumber, cellLevel, CellInside, acrossAt, ancestor, near}
 use Rattle.grid.specs.Range.{InRange, HasNeighbourhood}
 use Rattle.grid.specs.Knots.{beyond}
 use Rattle.grid.specs.Side.{firstOver, functions, firsts}

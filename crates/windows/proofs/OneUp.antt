@@ -1,6 +1,6 @@
 -- Rows of a level, each column with the byte of the one on which it stands, at the places of their first functions: a row through its
 -- part, and the windows over such rows. Assumes nothing.
-use mathlib.Core.Path.{_≡_, refl, sym, ap, _∙_}
+use mathlib.Core.Path.{_≡_, sym, ap, _∙_}
 use mathlib.Core.Bool.{cond}
 use mathlib.Core.List.{List}
 use Prim.Native.Nat.{ℕ, pred, min, _+_, _-_, _*_, _/_, _%_, _≤_, _<_}
@@ -19,7 +19,6 @@ use Rattle.facts.proofs.Mapped.{run-in, run-after, run-e, part-at, mapped-at, m
 use Rattle.facts.proofs.Ranges.{least-more}
 use Rattle.grid.specs.declared.Plan.{Plan}
 use Rattle.grid.specs.declared.Side.{Side}
-use Rattle.grid.specs.declared.Place.{Place}
 use Rattle.grid.specs.Numbering.{number}
 use Rattle.grid.specs.Plan.{ratio, columnsAt, rowsAt, cellOffset, cellTotal, acrossAt, ancestor}
 use Rattle.grid.specs.Range.{InRange}

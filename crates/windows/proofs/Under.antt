@@ -13,15 +13,12 @@ use Rattle.facts.proofs.Tests.{and-i, and-l, and-r, cases, same, not-i, not-e, 
 use Rattle.facts.proofs.Bounded.{some-i, some-e}
 use Rattle.grid.specs.declared.Plan.{Plan}
 use Rattle.grid.specs.declared.Place.{Place}
-use Rattle.grid.specs.Plan.{functionRowsAt, functionColumnsAt, functionOffset, cellTotal, functionTotal, cellPlace, cellNumber, cellLevel, functionPlace, CellInside, acrossAt, upAt, supported, near}
-use Rattle.grid.specs.Range.{InRange, HasNeighbourhood}
-use Rattle.grid.specs.Side.{firstOver}
-use Rattle.grid.specs.Spans.{ancestorOf}
-use Rattle.grid.proofs.Laws.{cell-inside, cell-number-lt, cell-number-place, cell-place-number, function-inside, near-in}
-use Rattle.grid.proofs.Spans.{ancestor-in}
+use Rattle.grid.specs.Plan.{functionRowsAt, functionColumnsAt, functionOffset, cellTotal, functionTotal, cellPlace, cellNumber, functionPlace, CellInside, supported}
+use Rattle.grid.specs.Range.{InRange}
+use Rattle.grid.proofs.Laws.{cell-inside, cell-number-lt, cell-number-place, cell-place-number, function-inside}
 use Rattle.grid.proofs.Numbering.{level-ends, place-rest}
 use Rattle.grid.proofs.Sides.{across-firsts, up-firsts}
-use Rattle.grid.proofs.First.{supported-under, under-supported, near-around, around-near}
+use Rattle.grid.proofs.First.{supported-under, under-supported}
 use Rattle.windows.specs.Level.{leastUnder, levelLeast, wide, high}
 use Rattle.windows.proofs.Levels.{under-le, under-ge}
 

@@ -8,10 +8,9 @@ use lib.ListN.{length}
 use Rattle.facts.specs.Mapped.{filled}
 use Rattle.facts.proofs.Mapped.{filled-none, fill-length, fill-part}
 use Rattle.facts.proofs.Ranges.{mid-len}
-use Rattle.grid.specs.declared.Rectangle.{Rectangle}
-use Rattle.grid.specs.Plan.{rowsAt, CellInside}
+use Rattle.grid.specs.Plan.{rowsAt}
 use Rattle.grid.proofs.Sides.{across-in}
-use Rattle.windows.specs.Near.{leastRows, rowsNear, nearRows}
+use Rattle.windows.specs.Near.{nearRows}
 use Rattle.windows.proofs.Near.{rows-near-in, near-row}
 use Rattle.windows.proofs.near_rows.Statement.{statement}
 use Rattle.windows.proofs.near_rows.Tie as tie

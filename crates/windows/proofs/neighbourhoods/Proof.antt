@@ -6,7 +6,6 @@ use borrow.Author.Needs.{needs}
 use lib.Dec.{T}
 use lib.ListN.{length}
 use Rattle.facts.proofs.Tests.{true-T}
-use Rattle.facts.proofs.Mapped.{filled-length}
 use Rattle.grid.specs.Plan.{columnsAt, rowsAt}
 use Rattle.grid.specs.Range.{HasNeighbourhood}
 use Rattle.grid.specs.Side.{firsts}

@@ -8,7 +8,7 @@ use borrow.Rule.Slice.PartMut.{putMid}
 use mathlib.Core.List.{List}
 use lib.ListN.{length}
 use Rattle.facts.specs.Mapped.{filled}
-use Rattle.facts.proofs.Mapped.{filled-same, filled-length, fill-length, fill-part}
+use Rattle.facts.proofs.Mapped.{filled-same, filled-length, fill-part}
 use Rattle.facts.proofs.Ranges.{mid-len}
 use Rattle.windows.specs.Windows.{slid}
 use Rattle.windows.proofs.Lowered.{pair-head, pair-middle, pair-tail, pair-rest}
