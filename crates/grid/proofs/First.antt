@@ -12,17 +12,17 @@ use Rattle.grid.specs.declared.Place.{Place}
 use Rattle.grid.specs.declared.Side.{Side}
 use Rattle.grid.specs.Plan.{ratio, columnsAt, rowsAt, cellTotal, cellPlace, cellNumber, cellLevel, functionPlace, CellInside, acrossAt, upAt, above, parent, supported, ancestor, near}
 use Rattle.grid.specs.Range.{InRange, HasNeighbourhood}
-use Rattle.grid.specs.Spans.{inSpan, ancestorLevel, around, ancestorOf, parentsOf, neighbourhood}
+use Rattle.grid.specs.Spans.{ancestorLevel, around, ancestorOf, parentsOf, neighbourhood}
 use Rattle.grid.specs.Knots.{covers, firstOver}
 use Rattle.grid.specs.Side.{Sized}
 use Rattle.grid.proofs.Rising.{Apart}
 use Rattle.grid.proofs.Knots.{covers-fact, covers-test}
-use Rattle.grid.proofs.SideLaws.{together-fact, together-test, coarser-e}
+use Rattle.grid.proofs.SideLaws.{together-fact, together-test, coarser-e, span-first, first-span}
 use Rattle.grid.proofs.Laws.{ratio-pos, across-sized, up-sized, above-in, below-above, cell-inside, cell-number-lt, cell-place-number, near-in, near-places, near-of, near-child, near-child-in, near-child-above, near-child-level}
-use Rattle.grid.proofs.Direction.{grown-more}
+use Rattle.grid.proofs.Direction.{grown-unit, grown-more}
 use Rattle.grid.proofs.Generations.{ancestor-one}
 use Rattle.grid.proofs.Rectangles.{ancestor-below, parents-around-in}
-use Rattle.grid.proofs.Spans.{rectangle-fact, span-fact, span-test, supported-places, supported-of, level-below, ancestor-in, near-is}
+use Rattle.grid.proofs.Spans.{rectangle-fact, span-test, supported-places, supported-of, level-below, ancestor-in, near-is}
 
 -- function i is over column x
 pub record Over (s : Side) (i x : ℕ) : Type 0 where
@@ -135,57 +135,75 @@ module _ (p : Plan) (range : InRange p) where
         rows = common _ _ _ _ (m .rows) (rw e at (n .rows));
       })
 
--- ---- a neighbourhood by its rows, and by the first functions of the columns that stand on its columns
+-- ---- a neighbourhood by the first functions of columns and rows on its own
+
+-- the columns on the column x, or the rows on a row, of `side`: the first of them tells that one of them has a function in common with
+-- the one whose first function is o
+pub record StandsBy (degree spread o i : ℕ) : Type 0 where
+  pub right : i ≤ o + degree
+  pub left : o ≤ i + degree + spread
+
+-- the cell at c is in a row whose first row is so, and in the column under a column that has a function in common with a's
+pub record NearBy (p : Plan) (a c : Place) : Type 0 where
+  pub level : c .level ≡ a .level - 1
+  pub rows : StandsBy (p .«degree_up») (ratio p - 1) (firstOver (upAt p (a .level)) (a .row)) (firstOver (upAt p (a .level)) (c .row * ratio p))
+  pub row< : c .row < rowsAt p (a .level - 1)
+  pub column : ℕ
+  pub column< : column < columnsAt p (a .level)
+  pub stands : ancestor p 1 column ≡ c .column
+  pub columns : Apart (p .«degree_across») (firstOver (acrossAt p (a .level)) column) (firstOver (acrossAt p (a .level)) (a .column))
 
 before : (n : ℕ) → pred n ≡ n - 1
 before n = omega arith
 
--- the cell at c is in one of the rows, and in the column under a column x that has a function in common with a's
-pub record NearBy (p : Plan) (a c : Place) : Type 0 where
-  pub level : c .level ≡ a .level - 1
-  pub rows : T (inSpan (parentsOf p (around p a) .rows) (c .row))
-  pub column : ℕ
-  pub column< : column < columnsAt p (a .level)
-  pub stands : ancestor p 1 column ≡ c .column
-  pub columns : Apart (acrossAt p (a .level) .degree) (firstOver (acrossAt p (a .level)) column) (firstOver (acrossAt p (a .level)) (a .column))
-
 module _ (p : Plan) (range : InRange p) (q : ℕ) (b : q < cellTotal p) (has : HasNeighbourhood p (cellLevel p q)) where
   abbrev a : Place
   a = ancestorOf p (cellPlace p q)
+
+  a-in : CellInside p a
+  a-in = ancestor-in p range (cellPlace p q) has (cell-inside p range q b)
+
+  z : 1 ≤ a .level
+  z = ancestor-below p range (cellPlace p q) has
+
+  whole : rowsAt p (a .level) ≡ rowsAt p (pred (a .level)) * ratio p
+  whole = grown-more (ratio p) (ratio-pos p) (p .rows) (a .level) z
+
+  units : upAt p (a .level) .unit ≡ ratio p * upAt p (pred (a .level)) .unit
+  units = grown-unit (ratio p) (ratio-pos p) (a .level) z
 
   pub near-by : (c : ℕ) → T (near p q c) → NearBy p a (cellPlace p c)
   unfolding neighbourhood parentsOf around above
   near-by c t =
       let l = near-in p range q c t in
       let i = rectangle-fact (neighbourhood p (cellPlace p q)) (cellPlace p c) (rw (near-is p range q c b l has) at t) in
+      let r = parents-around-in p range a a-in z .rows in
+      let m : cellPlace p c .row < rowsAt p (pred (a .level)) = omega (arith, i .rows .to, r .within) in
+      let s = span-first (ratio p) (ratio-pos p) (upAt p (a .level)) (up-sized p range (a .level)) (rowsAt p (pred (a .level))) whole (a .row) (a-in .row<) (upAt p (pred (a .level)) .unit) units (cellPlace p c .row) m (span-test _ _ (i .rows)) in
       let (e, j, v, u) = near-around p range q c b t in
       let n = u .level in
       record {
         level = sym (i .level) ∙ before (a .level);
-        rows = span-test _ _ (i .rows);
+        rows = record { right = s .0; left = s .1 };
+        row< = subst (λ (k : ℕ). cellPlace p c .row < rowsAt p k) (before (a .level)) m;
         column = e .column;
         column< = rw n (j .column<);
         stands = ancestor-one p (e .column) ∙ ap (λ (x : Place). x .column) v;
         columns = rw n (u .columns);
       }
 
-  pub by-near : (y x : ℕ) → T (inSpan (parentsOf p (around p a) .rows) y) → x < columnsAt p (a .level)
-      → Apart (acrossAt p (a .level) .degree) (firstOver (acrossAt p (a .level)) x) (firstOver (acrossAt p (a .level)) (a .column))
+  pub by-near : (y x : ℕ) → y < rowsAt p (a .level - 1) → StandsBy (p .«degree_up») (ratio p - 1) (firstOver (upAt p (a .level)) (a .row)) (firstOver (upAt p (a .level)) (y * ratio p))
+      → x < columnsAt p (a .level) → Apart (p .«degree_across») (firstOver (acrossAt p (a .level)) x) (firstOver (acrossAt p (a .level)) (a .column))
       → T (near p q (cellNumber p (record { level = a .level - 1; row = y; column = ancestor p 1 x })))
-  unfolding parentsOf around above
-  by-near y x t l s =
-      let j : CellInside p a = ancestor-in p range (cellPlace p q) has (cell-inside p range q b) in
-      let z = ancestor-below p range (cellPlace p q) has in
-      let r = parents-around-in p range a j z in
-      let w : rowsAt p (a .level) ≡ rowsAt p (pred (a .level)) * ratio p = grown-more (ratio p) (ratio-pos p) (p .rows) (a .level) z in
-      let i = span-fact _ _ t in
-      let m : y < rowsAt p (pred (a .level)) = omega (arith, i .to, r .rows .within) in
-      let (d, k, u) = coarser-e (ratio p) (ratio-pos p) (upAt p (a .level)) (up-sized p range (a .level)) (rowsAt p (pred (a .level))) w (a .row) (j .row<) y m t in
-      let e : Place = record { level = a .level; row = y * ratio p + d; column = x } in
+  unfolding above
+  by-near y x h o l s =
+      let m : y < rowsAt p (pred (a .level)) = subst (λ (k : ℕ). y < rowsAt p k) (sym (before (a .level))) h in
+      let t = first-span (ratio p) (ratio-pos p) (upAt p (a .level)) (up-sized p range (a .level)) (rowsAt p (pred (a .level))) whole (a .row) (a-in .row<) (upAt p (pred (a .level)) .unit) units y m (o .right) (o .left) in
+      let (d, k, u) = coarser-e (ratio p) (ratio-pos p) (upAt p (a .level)) (up-sized p range (a .level)) (rowsAt p (pred (a .level))) whole (a .row) (a-in .row<) y m t in
       let g : y * ratio p + d < rowsAt p (pred (a .level)) * ratio p = omega (arith, mul-le-mul-right (ratio p) m) in
-      let h : y * ratio p + d < rowsAt p (a .level) = subst (λ (n : ℕ). y * ratio p + d < n) (sym w) g in
+      let f : y * ratio p + d < rowsAt p (a .level) = subst (λ (n : ℕ). y * ratio p + d < n) (sym whole) g in
       let v : above p (record { level = a .level; row = y * ratio p + d; column = x }) ≡ record { level = a .level - 1; row = y; column = ancestor p 1 x } =
       λ n. record { level = before (a .level) n; row = digits-div y k n; column = sym (ancestor-one p x) n } in
       subst (λ (c : Place). T (near p q (cellNumber p c))) v
-      (around-near p range q (record { level = a .level; row = y * ratio p + d; column = x }) b has (record { level< = j .level<; row< = h; column< = l })
+      (around-near p range q (record { level = a .level; row = y * ratio p + d; column = x }) b has (record { level< = a-in .level<; row< = f; column< = l })
       (record { level = refl; columns = s; rows = together-fact _ (up-sized p range (a .level)) _ _ u }))

@@ -6,7 +6,7 @@ use mathlib.Core.Bool.{_&&_}
 use mathlib.Core.Logic.{_↔_}
 use mathlib.Core.Path.{_≡_, refl, ap, sym, subst, _∙_}
 use lib.Arith.{digits-div}
-use lib.Dec.{T, eqb, eqb→eq, leb, ltb, leb→le, le→leb, ltb→lt, nltb→le, lt→ltb}
+use lib.Dec.{T, eqb, eqb→eq, leb, ltb, leb→le, le→leb, nleb→lt, ltb→lt, nltb→le, lt→ltb}
 use Rattle.facts.specs.Bounded.{some, sum}
 use Rattle.facts.proofs.Tests.{cases, not-i, not-e, T-true, T-false, and-i, and-l, and-r, same}
 use Rattle.facts.proofs.Bounded.{some-i, some-e}
@@ -304,3 +304,35 @@ module _ (r : ℕ) (wide : 0 < r) (t : Side) (sized : Sized t) (n : ℕ) (whole 
       let h : hi - 1 < t .cells = omega (arith, around-span-in t sized a la .within, own .to) in
       let g : (hi - 1) / r < n = div-lt-iff-lt-mul wide .1 (subst (λ (m : ℕ). hi - 1 < m) whole h) in
       record { some = omega arith; within = omega arith }
+
+  -- the columns on one have first functions that follow one another, so those near a are told by the first of them
+  module _ (v : ℕ) (eu : t .unit ≡ r * v) where
+    child-follows : (x b : ℕ) → x < n → b < r → firstOver t (x * r + b) ≡ firstOver t (x * r) + b
+    child-follows x b l m =
+        let f : x * r < t .cells = rw whole (omega (arith, mul-le-mul-right r l)) in
+        let e : (x * r / t .unit + 1) * t .unit ≡ (x * r / t .unit + 1) * v * r = ap (λ (z : ℕ). (x * r / t .unit + 1) * z) eu ∙ omega arith in
+        let h : x * r < (x * r / t .unit + 1) * v * r = omega (arith, lt-div-mul-add {a = x * r} (sized .unit≥)) in
+        let g : x < (x * r / t .unit + 1) * v = lt-mul x ((x * r / t .unit + 1) * v) h in
+        let k : x * r + b < (x * r / t .unit + 1) * t .unit = omega (arith, mul-le-mul-right r g) in
+        let run = run-unit t sized (x * r) f in
+        let o : x * r + b - x * r ≡ b = omega arith in
+        run .smooth (x * r + b) (omega arith) k ∙ ap (λ (z : ℕ). firstOver t (x * r) + z) o
+      where
+        lt-mul : (y z : ℕ) → y * r < z * r → y < z
+        lt-mul y z h = cases (leb z y) (λ t. absurd (omega (arith, mul-le-mul-right r (leb→le z y t)))) (λ t. nleb→lt z y t)
+
+    pub span-first : (x : ℕ) → x < n → T (inSpan (coarserSpan r (aroundSpan t a)) x)
+        → (firstOver t (x * r) ≤ firstOver t a + t .degree) × (firstOver t a ≤ firstOver t (x * r) + t .degree + (r - 1))
+    span-first x l k =
+        let (b, m, u) = coarser-e x l k in
+        let o = together-fact t sized (x * r + b) a u in
+        let e = child-follows x b l m in
+        (omega (arith, o .right), omega (arith, o .left))
+
+    pub first-span : (x : ℕ) → x < n → firstOver t (x * r) ≤ firstOver t a + t .degree → firstOver t a ≤ firstOver t (x * r) + t .degree + (r - 1)
+        → T (inSpan (coarserSpan r (aroundSpan t a)) x)
+    first-span x l h g =
+        let m : firstOver t a - (firstOver t (x * r) + t .degree) < r = omega arith in
+        let e = child-follows x (firstOver t a - (firstOver t (x * r) + t .degree)) l m in
+        coarser-i x (firstOver t a - (firstOver t (x * r) + t .degree)) l m
+        (together-test t sized (x * r + (firstOver t a - (firstOver t (x * r) + t .degree))) a (child-in x (firstOver t a - (firstOver t (x * r) + t .degree)) l m) la (record { right = omega arith; left = omega arith }))

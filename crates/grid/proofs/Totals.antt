@@ -122,9 +122,9 @@ session-functions-reached = (shape 3 15 13, omega arith, lit≤ tt, refl)
 abbrev pub spacious : ℕ → ℕ → ℕ
 spacious a n = n + 3 * (a - 1) + 8
 
--- or as many rows as there are
-abbrev plainly : ℕ → ℕ → ℕ
-plainly a n = n
+-- one more, for the rows that stand on one but the first
+abbrev pub roomier : ℕ → ℕ → ℕ
+roomier a n = spacious a n + 1
 
 -- each level of which the level `finer` levels down has at most so many cells is tried; `high` says how many rows the table has
 unfoldable tried : (ℕ → ℕ → ℕ) → ℕ → ℕ → ℕ → ℕ → ℕ → ℕ → Bool
@@ -157,7 +157,7 @@ pub windows-bound : (p : Plan) → InRange p → cellTotal p ≤ mostCells → (
 unfolding every tried grown ratio
 windows-bound p r m k l = level-within spacious 0 mostFunctions p tt r m k (omega arith)
 
--- tables of neighbourhoods are of levels with a finer one: those of cells that have children, or coarser. They have a row for each row
-pub near-bound : (p : Plan) → InRange p → cellTotal p ≤ mostCells → (k : ℕ) → k + 1 < p .levels → rowsAt p k * spacious (p .columns) (columnsAt p k) ≤ mostNear
+-- tables of neighbourhoods are of levels with a finer one: those of cells that have children, or coarser
+pub near-bound : (p : Plan) → InRange p → cellTotal p ≤ mostCells → (k : ℕ) → k + 1 < p .levels → roomier (p .rows) (rowsAt p k) * spacious (p .columns) (columnsAt p k) ≤ mostNear
 unfolding every tried grown ratio
-near-bound p r m k l = level-within plainly 1 mostNear p tt r m k l
+near-bound p r m k l = level-within roomier 1 mostNear p tt r m k l

@@ -9,7 +9,7 @@ mostCells = 21845
 abbrev pub mostFunctions : ℕ
 mostFunctions = 54884
 
--- no table of neighbourhoods is larger: the rows of a level with a finer one, with a place for each first function across and twice the degree
--- more (proved in the same file)
+-- no table of neighbourhoods is larger: of a level with a finer one, with a place for each first function, twice the degrees more, and a row
+-- more for the second of the rows on one (proved in the same file)
 abbrev pub mostNear : ℕ
-mostNear = 7952
+mostNear = 13806

@@ -14,7 +14,7 @@ pub const MOST_CELLS: usize = 21845;
 
 pub const MOST_FUNCTIONS: usize = 54884;
 
-pub const MOST_NEAR: usize = 7952;
+pub const MOST_NEAR: usize = 13806;
 
 // Document 01, "The plan": six numbers handed over by value. Document 02, Req 05: two more.
 #[repr(C)]
@@ -676,7 +676,7 @@ impl Plan {
     }
 
     // The cells on which those stand that are near the cell at a place.
-    pub fn parents_around(self, place: Place) -> Rectangle
+    fn parents_around(self, place: Place) -> Rectangle
         requires { ⌜ InRange self ⌝ }
         requires { ⌜ CellInside self place ⌝ }
         requires { ⌜ 1 ≤ place .level ⌝ }

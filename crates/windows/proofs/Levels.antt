@@ -9,14 +9,14 @@ use lib.ListN.{length, getD}
 use borrow.Rule.Slice.PartMut.{midOf}
 use Rattle.facts.specs.Least.{least}
 use Rattle.facts.specs.Mapped.{inRun, filled}
-use Rattle.facts.proofs.Least.{least-le, least-top, least-ge}
+use Rattle.facts.proofs.Least.{least-same, least-le, least-top, least-ge}
 use Rattle.facts.proofs.Mapped.{run-in, run-before, run-after, run-e, part-at, mapped-at}
 use Rattle.grid.specs.declared.Plan.{Plan}
 use Rattle.grid.specs.declared.Side.{Side}
 use Rattle.grid.specs.Numbering.{number}
 use Rattle.grid.specs.Plan.{columnsAt, rowsAt, cellOffset, cellTotal, cellNumber, acrossAt, upAt}
 use Rattle.grid.specs.Range.{InRange}
-use Rattle.grid.specs.Side.{firstOver, firsts}
+use Rattle.grid.specs.Side.{SideIn, firstOver, firsts}
 use Rattle.grid.proofs.Numbering.{level-ends}
 use Rattle.grid.proofs.Sides.{across-in, up-in, first-lt}
 use Rattle.windows.specs.Windows.{back, inRows, windowAt, windowLeast, LevelIn}
@@ -67,6 +67,52 @@ module _ (p : Plan) (cells : List ℕ) (k across up j i : ℕ) where
 
 -- ---- windows over cells that are placed
 
+-- rows at the places of every step-th row of `up`: a window has those whose places are in it
+module _ (across-side : Side) (ci : SideIn across-side) (up-side : Side) (ri : SideIn up-side) (step rows : ℕ) (one : 1 ≤ step) (fit : rows * step ≤ up-side .cells) (from : List ℕ) (across up j i : ℕ) where
+  abbrev rowed : ℕ → ℕ → ℕ
+  rowed y = inRows from (across-side .cells) y
+
+  abbrev spot : ℕ → ℕ
+  spot y = firstOver up-side (y * step)
+
+  abbrev pub leastPlaced : ℕ
+  leastPlaced = least 2 rows (λ y. cond (inRun (spot y) (up + 1) j) (leastOver across-side across i (rowed y)) 2)
+
+  spot-lt : (y : ℕ) → y < rows → spot y < firsts up-side
+  spot-lt y l = first-lt up-side ri (y * step) (omega (arith, mul-le-mul-right step l))
+
+  placed-le : (y x : ℕ) → y < rows → x < across-side .cells → placed across-side up-side step rows from (spot y) (firstOver across-side x) ≤ rowed y x
+  unfolding placed placedRow
+  placed-le y x l m =
+      let r : cond (inRun (spot y) 1 (spot y)) (leastOver across-side 0 (firstOver across-side x) (rowed y)) 2 ≡ leastOver across-side 0 (firstOver across-side x) (rowed y) =
+      rw (run-in (spot y) 1 (spot y) (omega arith) (omega arith)) in
+      le-trans (rw r at (least-le 2 rows (λ z. cond (inRun (spot z) 1 (spot y)) (leastOver across-side 0 (firstOver across-side x) (rowed z)) 2) y l))
+      (over-le across-side 0 (firstOver across-side x) (rowed y) x m (omega arith) (omega arith))
+
+  least-in : (y : ℕ) → y < rows → spot y ≤ j → j ≤ spot y + up → leastPlaced ≤ leastOver across-side across i (rowed y)
+  least-in y l u v =
+      let r : cond (inRun (spot y) (up + 1) j) (leastOver across-side across i (rowed y)) 2 ≡ leastOver across-side across i (rowed y) = rw (run-in (spot y) (up + 1) j u (omega arith)) in
+      rw r at (least-le 2 rows (λ z. cond (inRun (spot z) (up + 1) j) (leastOver across-side across i (rowed z)) 2) y l)
+
+  below-placed : (z w : ℕ) → z ≤ j → j ≤ z + up → w ≤ i → i ≤ w + across → leastPlaced ≤ placed across-side up-side step rows from z w
+  unfolding placed placedRow
+  below-placed z w b c e f = least-ge 2 rows _ _ (least-top 2 _ _) (λ y l. run-e (spot y) 1 z
+      (λ u. rw (run-before (spot y) 1 z u) (least-top 2 _ _))
+      (λ u v. rw (run-in (spot y) 1 z u v) (over-ge across-side 0 w (rowed y) leastPlaced (least-top 2 _ _) (λ x q r s.
+      le-trans (least-in y l (omega arith) (omega arith)) (over-le across-side across i (rowed y) x q (omega arith) (omega arith)))))
+      (λ u. rw (run-after (spot y) 1 z u) (least-top 2 _ _)))
+
+  pub at-placed : windowAt (placed across-side up-side step rows from) (firsts across-side) (firsts up-side) across up j i ≡ leastPlaced
+  unfolding windowAt
+  at-placed = le-antisymm
+      (least-ge 2 rows _ _ (least-top 2 _ _) (λ y l. run-e (spot y) (up + 1) j
+      (λ u. rw (run-before (spot y) (up + 1) j u) (least-top 2 _ _))
+      (λ u v. rw (run-in (spot y) (up + 1) j u v) (over-ge across-side across i (rowed y) _ (least-top 2 _ _) (λ x m e f.
+      le-trans (back-le (firsts up-side) up j (λ z. least 2 (across + 1) (back (firsts across-side) i (placed across-side up-side step rows from z))) (spot y) (spot-lt y l) u (omega arith))
+      (le-trans (back-le (firsts across-side) across i (placed across-side up-side step rows from (spot y)) (firstOver across-side x) (first-lt across-side ci x m) e f) (placed-le y x l m)))))
+      (λ u. rw (run-after (spot y) (up + 1) j u) (least-top 2 _ _))))
+      (back-ge (firsts up-side) up j _ leastPlaced (least-top 2 _ _) (λ z a b c. back-ge (firsts across-side) across i _ leastPlaced (least-top 2 _ _) (λ w d e f. below-placed z w b c e f)))
+
 module _ (p : Plan) (range : InRange p) (cells : List ℕ) (k : ℕ) (l : k < p .levels) (across up : ℕ) where
   abbrev part : List ℕ
   part = midOf (cellOffset p k) (length cells - cellOffset p k) cells
@@ -82,21 +128,17 @@ module _ (p : Plan) (range : InRange p) (cells : List ℕ) (k : ℕ) (l : k < p 
   unfolding number
   byte-is y x = part-at (cellOffset p k) cells (y * columnsAt p k + x) ∙ ap (λ m. getD cells m 0) (omega arith)
 
-  at-under : (j i : ℕ) → windowAt (placed cols rows part) (firsts cols) (firsts rows) across up j i ≡ leastUnder p cells k across up j i
-  unfolding windowAt placed placedRow
-  at-under j i = le-antisymm
-      (under-ge p cells k across up j i (windowAt (placed cols rows part) (firsts cols) (firsts rows) across up j i) (least-top 2 _ _) (λ y x a b c d e f.
-      rw (← byte-is y x)
-      (le-trans (back-le (firsts rows) up j (λ z. least 2 (across + 1) (back (firsts cols) i (placed cols rows part z))) (firstOver rows y) (first-lt rows (up-in p range k l) y a) c d)
-      (le-trans (back-le (firsts cols) across i (placed cols rows part (firstOver rows y)) (firstOver cols x) (first-lt cols (across-in p range k l) x b) e f)
-      (le-trans (over-le rows 0 (firstOver rows y) (λ z. leastOver cols 0 (firstOver cols x) (inRows part (columnsAt p k) z)) y a (omega arith) (omega arith))
-      (over-le cols 0 (firstOver cols x) (inRows part (columnsAt p k) y) x b (omega arith) (omega arith)))))))
-      (back-ge (firsts rows) up j _ (leastUnder p cells k across up j i) (under-top p cells k across up j i) (λ y′ a b c. back-ge (firsts cols) across i _ (leastUnder p cells k across up j i) (under-top p cells k across up j i) (λ x′ d e f.
-      over-ge rows 0 y′ _ (leastUnder p cells k across up j i) (under-top p cells k across up j i) (λ y g h o. over-ge cols 0 x′ (inRows part (columnsAt p k) y) (leastUnder p cells k across up j i) (under-top p cells k across up j i) (λ x q r s.
-      rw (byte-is y x) (under-le p cells k across up j i y x g q (omega arith) (omega arith) (omega arith) (omega arith)))))))
+  at-under : (j i : ℕ) → windowAt (placed cols rows 1 (rowsAt p k) part) (firsts cols) (firsts rows) across up j i ≡ leastUnder p cells k across up j i
+  unfolding leastUnder leastOver
+  at-under j i =
+      let r : rowsAt p k * 1 ≤ rowsAt p k = omega arith in
+      at-placed cols (across-in p range k l) rows (up-in p range k l) 1 (rowsAt p k) (omega arith) r part across up j i
+      ∙ least-same 2 (rowsAt p k) _ _ (λ y m.
+      let e : y * 1 ≡ y = omega arith in
+      rw e (ap (λ (g : ℕ → ℕ). cond (inRun (firstOver rows y) (up + 1) j) (leastOver cols across i g) 2) (λ n x. byte-is y x n)))
 
   module _ {columns high here : ℕ} (c : columns ≡ firsts cols) (r : high ≡ firsts rows) (h : here ≡ cellOffset p k) where
-    pub level-least : (t : ℕ) → windowLeast (placed cols rows (midOf here (length cells - here) cells)) columns high across up t ≡ levelLeast p cells k across up t
+    pub level-least : (t : ℕ) → windowLeast (placed cols rows 1 (rowsAt p k) (midOf here (length cells - here) cells)) columns high across up t ≡ levelLeast p cells k across up t
     unfolding windowLeast levelLeast
     level-least t = rw (c, r, h) (at-under _ _)
 
@@ -114,13 +156,15 @@ module _ (p : Plan) (range : InRange p) (cells : List ℕ) (k : ℕ) (l : k < p 
       }
 
   pub place-in : {place here : ℕ} → here ≡ cellOffset p k → cellTotal p ≤ length cells → high p k up * wide p k across ≤ place
-      → PlaceIn cols rows (length cells - here) place across × (here ≤ length cells)
+      → PlaceIn cols rows 1 (rowsAt p k) (length cells - here) place across × (here ≤ length cells)
   place-in e t o =
       let b = level-ends (columnsAt p) (rowsAt p) k (p .levels) l in
       rw e (
         record {
           across-in = across-in p range k l;
           up-in = up-in p range k l;
+          step≥ = omega arith;
+          rows≤ = omega arith;
           from≤ = omega arith;
           out≤ = omega (arith, mul-le-mul-right (firsts cols + across) (le-add-right (firsts rows) up));
         },

@@ -2,40 +2,36 @@
 use mathlib.Core.Path.{_≡_, refl, sym, ap, subst, _∙_}
 use mathlib.Core.Bool.{not, cond}
 use mathlib.Core.List.{List}
-use Prim.Native.Nat.{ℕ, pred, _+_, _-_, _*_, _/_, _%_, _≤_, _<_}
-use native.Mathlib.Nat.{le-refl, le-of-eq, le-trans, le-antisymm, mul-le-mul, mul-le-mul-right}
+use Prim.Native.Nat.{ℕ, _+_, _-_, _*_, _≤_, _<_}
+use native.Mathlib.Nat.{le-refl, le-of-eq, le-trans, le-antisymm, le-add-right, mul-le-mul, mul-le-mul-right}
 use native.Mathlib.Omega.{arith}
 use lib.Dec.{T, eqb, eqb→eq, leb, leb→le, le→leb}
 use lib.Arith.{digits-div, digits-mod}
 use lib.ListN.{length, getD}
-use Rattle.facts.specs.Least.{least}
 use Rattle.facts.specs.Bounded.{implies, every}
-use Rattle.facts.specs.Mapped.{filled}
+use Rattle.facts.specs.Mapped.{inRun, filled}
 use Rattle.facts.proofs.Tests.{and-i, and-l, and-r, not-i, not-e, cases, same, differ, implies-i, implies-e, T-true, T-false, eqb-of}
 use Rattle.facts.proofs.Bounded.{every-i, every-e}
-use Rattle.facts.proofs.Least.{least-same, least-le, least-top, least-ge}
-use Rattle.facts.proofs.Mapped.{run-in, mapped-at, filled-same}
+use Rattle.facts.proofs.Least.{least-le, least-top, least-ge}
+use Rattle.facts.proofs.Mapped.{run-in, run-before, run-after, run-e, mapped-at}
 use Rattle.grid.specs.declared.Plan.{Plan}
 use Rattle.grid.specs.declared.Place.{Place}
 use Rattle.grid.specs.declared.Side.{Side}
-use Rattle.grid.specs.declared.Span.{Span}
-use Rattle.grid.specs.Plan.{ratio, columnsAt, rowsAt, cellTotal, cellPlace, cellNumber, cellLevel, CellInside, acrossAt, ancestor, near}
+use Rattle.grid.specs.Plan.{ratio, columnsAt, rowsAt, cellTotal, cellPlace, cellNumber, cellLevel, CellInside, acrossAt, upAt, ancestor, near}
 use Rattle.grid.specs.Range.{InRange, HasNeighbourhood}
 use Rattle.grid.specs.Knots.{beyond}
 use Rattle.grid.specs.Side.{firstOver, functions, firsts}
-use Rattle.grid.specs.Spans.{ancestorLevel, ancestorOf, around, parentsOf}
-use Rattle.grid.proofs.Direction.{grown-more}
+use Rattle.grid.specs.Spans.{ancestorLevel, ancestorOf}
 use Rattle.grid.proofs.Laws.{ratio-pos, cell-number-lt, cell-number-place, cell-place-number, near-in}
-use Rattle.grid.proofs.Rectangles.{ancestor-level, ancestor-below, parents-around-in}
+use Rattle.grid.proofs.Rectangles.{ancestor-level}
 use Rattle.grid.proofs.Sides.{across-in, up-in, first-lt}
-use Rattle.grid.proofs.Spans.{span-fact, span-test, level-below, ancestor-in, near-neighbourhood}
+use Rattle.grid.proofs.Spans.{level-below, ancestor-in, near-neighbourhood}
 use Rattle.grid.proofs.First.{near-by, by-near}
-use Rattle.windows.specs.Windows.{slid, rowSlid}
-use Rattle.windows.specs.Level.{leastOver, placedRow, NearRoom}
-use Rattle.windows.specs.Near.{hasNear, leastNear, aboveByte, nearWide, parentRows, leastRows, rowsNear, nearRows, nearIndex, nearByte, NearTable}
+use Rattle.windows.specs.Windows.{LevelIn}
+use Rattle.windows.specs.Level.{leastOver, PlaceIn, wide, high, NearRoom}
+use Rattle.windows.specs.Near.{hasNear, leastNear, aboveByte, nearAcross, nearUp, nearLeast, nearLeasts, nearIndex, nearByte, NearTable}
 use Rattle.windows.proofs.Levels.{over-le, over-ge}
-use Rattle.windows.proofs.Slides.{rows-slid, scratch-at}
-use Rattle.windows.proofs.OneUp.{row-least, spread-is}
+use Rattle.windows.proofs.OneUp.{rows-are}
 
 -- ---- the test whether there is one
 
@@ -85,39 +81,44 @@ module _ (p : Plan) (range : InRange p) (cells : List ℕ) (q : ℕ) where
       (λ t. eqb-of (leastNear p cells q) 2 (le-antisymm least-near-top (least-near-ge 2 (le-refl 2) (λ c n.
       le-of-eq (sym (eqb→eq (getD cells c 0) 2 (implies-e (near p q c) _ (every-e (cellTotal p) _ t c (near-in p range q c n)) n)))))))
 
--- ---- by its rows, and the windows across
-
--- of the rows on which those near the cell at a stand, the windows across that end the degree after a's first function
-abbrev rowsLeast : Plan → List ℕ → Place → ℕ
-rowsLeast p cells a =
-    least 2 (rowsNear p (a .level) (a .row) .end - rowsNear p (a .level) (a .row) .first)
-    (λ d. leastOver (acrossAt p (a .level)) (2 * p .«degree_across») (firstOver (acrossAt p (a .level)) (a .column) + p .«degree_across») (aboveByte p cells (a .level) (rowsNear p (a .level) (a .row) .first + d)))
+-- ---- by the first functions of its rows and columns
 
 module _ (p : Plan) (range : InRange p) (cells : List ℕ) (q : ℕ) (b : q < cellTotal p) (has : HasNeighbourhood p (cellLevel p q)) where
   abbrev up : Place
   up = ancestorOf p (cellPlace p q)
 
-  abbrev span : Span
-  span = rowsNear p (up .level) (up .row)
+  -- the row and the column of the table in which it is read
+  abbrev J : ℕ
+  J = firstOver (upAt p (up .level)) (up .row) + p .«degree_up»
+
+  abbrev I : ℕ
+  I = firstOver (acrossAt p (up .level)) (up .column) + p .«degree_across»
+
+  abbrev spot : ℕ → ℕ
+  spot y = firstOver (upAt p (up .level)) (y * ratio p)
 
   abbrev window : ℕ → ℕ
-  window y = leastOver (acrossAt p (up .level)) (2 * p .«degree_across») (firstOver (acrossAt p (up .level)) (up .column) + p .«degree_across») (aboveByte p cells (up .level) y)
+  window y = leastOver (acrossAt p (up .level)) (nearAcross p) I (aboveByte p cells (up .level) y)
 
-  rows-near : rowsLeast p cells (ancestorOf p (cellPlace p q)) ≡ leastNear p cells q
-  unfolding aboveByte parentsOf around
-  rows-near = le-antisymm
+  window-near : nearLeast p cells (up .level) J I ≡ leastNear p cells q
+  unfolding nearLeast aboveByte
+  window-near = le-antisymm
       (least-near-ge p range cells q _ (least-top 2 _ _) (λ c t.
       let n = near-by p range q b has c t in
-      let i = span-fact span (cellPlace p c .row) (n .rows) in
+      let r = n .rows in
       let o = n .columns in
-      let e : span .first + (cellPlace p c .row - span .first) ≡ cellPlace p c .row = omega (arith, i .from) in
-      let m : cellNumber p (record { level = up .level - 1; row = span .first + (cellPlace p c .row - span .first); column = ancestor p 1 (n .column) }) ≡ c =
-      (λ j. cellNumber p (record { level = sym (n .level) j; row = e j; column = n .stands j })) ∙ cell-number-place p range c (near-in p range q c t) in
-      le-trans (least-le 2 (span .end - span .first) (λ d. window (span .first + d)) (cellPlace p c .row - span .first) (omega (arith, i .from, i .to)))
-      (le-trans (over-le (acrossAt p (up .level)) (2 * p .«degree_across») _ (aboveByte p cells (up .level) (span .first + (cellPlace p c .row - span .first))) (n .column) (n .column<) (o .right) (omega (arith, o .left)))
+      let m : cellNumber p (record { level = up .level - 1; row = cellPlace p c .row; column = ancestor p 1 (n .column) }) ≡ c =
+      (λ j. cellNumber p (record { level = sym (n .level) j; row = cellPlace p c .row; column = n .stands j })) ∙ cell-number-place p range c (near-in p range q c t) in
+      let e : cond (inRun (spot (cellPlace p c .row)) (nearUp p + 1) J) (window (cellPlace p c .row)) 2 ≡ window (cellPlace p c .row) =
+      rw (run-in (spot (cellPlace p c .row)) (nearUp p + 1) J (r .right) (omega (arith, r .left))) in
+      le-trans (rw e at (least-le 2 (rowsAt p (up .level - 1)) (λ y. cond (inRun (spot y) (nearUp p + 1) J) (window y) 2) (cellPlace p c .row) (n .row<)))
+      (le-trans (over-le (acrossAt p (up .level)) (nearAcross p) I (aboveByte p cells (up .level) (cellPlace p c .row)) (n .column) (n .column<) (o .right) (omega (arith, o .left)))
       (le-of-eq (ap (λ (x : ℕ). getD cells x 0) m)))))
-      (least-ge 2 _ _ _ (least-near-top p range cells q) (λ d l. over-ge (acrossAt p (up .level)) _ _ (aboveByte p cells (up .level) (span .first + d)) _ (least-near-top p range cells q) (λ x m u v.
-      least-near-le p range cells q _ (by-near p range q b has (span .first + d) x (span-test span (span .first + d) (record { from = omega arith; to = omega arith })) m (record { right = u; left = omega (arith, v) })))))
+      (least-ge 2 _ _ _ (least-near-top p range cells q) (λ y l. run-e (spot y) (nearUp p + 1) J
+      (λ u. rw (run-before (spot y) (nearUp p + 1) J u) (least-near-top p range cells q))
+      (λ u v. rw (run-in (spot y) (nearUp p + 1) J u v) (over-ge (acrossAt p (up .level)) (nearAcross p) I (aboveByte p cells (up .level) y) _ (least-near-top p range cells q) (λ x m c d.
+      least-near-le p range cells q _ (by-near p range q b has y x l (record { right = u; left = omega arith }) m (record { right = c; left = omega (arith, d) })))))
+      (λ u. rw (run-after (spot y) (nearUp p + 1) J u) (least-near-top p range cells q))))
 
 -- ---- the place where it is read
 
@@ -128,7 +129,10 @@ module _ (p : Plan) (range : InRange p) (x : Place) (i : CellInside p x) (has : 
   pub above-in : CellInside p a
   above-in = ancestor-in p range x has i
 
-  column-in : firstOver (acrossAt p (a .level)) (a .column) + p .«degree_across» < nearWide p (a .level)
+  row-in : firstOver (upAt p (a .level)) (a .row) + p .«degree_up» < high p (a .level) (nearUp p)
+  row-in = omega (arith, first-lt (upAt p (a .level)) (up-in p range (a .level) (above-in .level<)) (a .row) (above-in .row<))
+
+  column-in : firstOver (acrossAt p (a .level)) (a .column) + p .«degree_across» < wide p (a .level) (nearAcross p)
   column-in = omega (arith, first-lt (acrossAt p (a .level)) (across-in p range (a .level) (above-in .level<)) (a .column) (above-in .column<))
 
   -- on a level with a finer one
@@ -138,9 +142,24 @@ module _ (p : Plan) (range : InRange p) (x : Place) (i : CellInside p x) (has : 
   pub index-fits : x .level + 1 < p .levels → {n : ℕ} → NearRoom p n → nearIndex p a < n
   unfolding nearIndex
   index-fits deep room =
-      let m = mul-le-mul-right (nearWide p (a .level)) (above-in .row<) in
+      let m = mul-le-mul-right (wide p (a .level) (nearAcross p)) row-in in
       let c = column-in in
       omega (arith, room .enough (a .level) (above-deep deep))
+
+  -- in the table of the ancestor's level
+  read-is : x .level + 1 < p .levels → (cells found start : List ℕ) → NearRoom p (length start)
+      → found ≡ filled 0 (high p (a .level) (nearUp p) * wide p (a .level) (nearAcross p)) (nearLeasts p cells (a .level)) start
+      → getD found (nearIndex p a) 0 ≡ leastNear p cells (cellNumber p x)
+  unfolding nearIndex filled nearLeasts
+  read-is deep cells found start room e =
+      let q : cellPlace p (cellNumber p x) ≡ x = cell-place-number p range x i in
+      let m = mul-le-mul-right (wide p (a .level) (nearAcross p)) row-in in
+      let c = column-in in
+      ap (λ z. getD z (nearIndex p a) 0) e
+      ∙ (mapped-at _ start (nearIndex p a) (omega (arith, index-fits deep room))
+      ∙ (rw (run-in 0 (high p (a .level) (nearUp p) * wide p (a .level) (nearAcross p)) (nearIndex p a) (omega arith) (omega arith), digits-div (firstOver (upAt p (a .level)) (a .row) + p .«degree_up») c, digits-mod (firstOver (upAt p (a .level)) (a .row) + p .«degree_up») c)
+      (subst (λ (y : Place). nearLeast p cells (ancestorOf p y .level) (firstOver (upAt p (ancestorOf p y .level)) (ancestorOf p y .row) + p .«degree_up») (firstOver (acrossAt p (ancestorOf p y .level)) (ancestorOf p y .column) + p .«degree_across») ≡ leastNear p cells (cellNumber p x)) q
+      (window-near p range cells (cellNumber p x) (cell-number-lt p range x i) (subst (λ (y : Place). HasNeighbourhood p (y .level)) (sym q) has)))))
 
 -- ---- the table of a level
 
@@ -148,105 +167,53 @@ cells-firsts : (s : Side) → s .cells ≤ firsts s
 unfolding firsts functions beyond
 cells-firsts s = omega arith
 
-le-mul-right : (a b : ℕ) → 0 < b → a ≤ a * b
-le-mul-right a b z = omega (arith, mul-le-mul (le-refl a) z)
-
--- the rows on which those near row b stand are some, and are there
-pub rows-near-in : (p : Plan) → InRange p → (k : ℕ) → 1 ≤ k → k < p .levels → (b : ℕ) → b < rowsAt p k
-    → (rowsNear p k b .first < rowsNear p k b .end) × (rowsNear p k b .end ≤ rowsAt p (k - 1))
-unfolding parentsOf around
-rows-near-in p range k z l b h =
-    let i : CellInside p (record { level = k; row = b; column = 0 }) = record { level< = l; row< = h; column< = across-in p range k l .cells≥ } in
-    let r = parents-around-in p range (record { level = k; row = b; column = 0 }) i z .rows in
-    let e : pred k ≡ k - 1 = omega arith in
-    (r .some, subst (λ (n : ℕ). rowsNear p k b .end ≤ rowsAt p n) e (r .within))
-
--- what is put into the row
-pub near-row : (p : Plan) (k width : ℕ) (from : List ℕ) (b at i : ℕ) → at ≡ b * width → i < width
-    → leastRows from width (rowsNear p k b .first) (rowsNear p k b .end - rowsNear p k b .first) i ≡ nearRows p k from width (at + i)
-unfolding nearRows
-near-row p k width from b at i e m =
-    let q : (at + i) / width ≡ b = ap (λ (n : ℕ). (n + i) / width) e ∙ digits-div b m in
-    let r : (at + i) % width ≡ i = ap (λ (n : ℕ). (n + i) % width) e ∙ digits-mod b m in
-    rw (q, r)
-
--- by its three steps: rows of the level before k, windows across over them, and the least of some rows
-module _ (p : Plan) (range : InRange p) (cells : List ℕ) (k : ℕ) (z : 1 ≤ k) (l : k < p .levels) (found lent made start table : List ℕ)
-    (f : found ≡ filled 0 (rowsAt p (k - 1) * nearWide p k) (parentRows p cells k) start) (r : rowsAt p (k - 1) * nearWide p k ≤ length start)
-    (e : made ≡ filled 0 (rowsAt p (k - 1) * nearWide p k) (slid found (rowsAt p (k - 1) * nearWide p k - 2 * p .«degree_across») 1 (2 * p .«degree_across» + 1)) lent)
-    (s : rowsAt p (k - 1) * nearWide p k ≤ length lent)
-    (g : table ≡ filled 0 (rowsAt p k * nearWide p k) (nearRows p k made (nearWide p k)) found) (t : rowsAt p k * nearWide p k ≤ length found) where
-  abbrev C : Side
-  C = acrossAt p k
-
-  abbrev D : ℕ
-  D = 2 * p .«degree_across»
-
-  abbrev byte : ℕ → ℕ → ℕ
-  byte y = placedRow C (aboveByte p cells k y)
-
-  window-at : (y i : ℕ) → y < rowsAt p (k - 1) → i < nearWide p k → getD made (y * nearWide p k + i) 0 ≡ leastOver C D i (aboveByte p cells k y)
-  window-at y i h m =
-      let spread : found ≡ filled 0 (rowsAt p (k - 1) * nearWide p k) (rowSlid byte (firsts C) D 1) start = f ∙ filled-same 0 _ _ _ _ (λ n u v. spread-is p range cells k l n) in
-      let slides : made ≡ filled 0 (rowsAt p (k - 1) * nearWide p k) (rowSlid byte (firsts C) D (D + 1)) lent =
-      e ∙ filled-same 0 _ _ _ _ (λ n u v. rows-slid byte start found (firsts C) (rowsAt p (k - 1)) D spread r n (omega arith)) in
-      let c : 1 ≤ firsts C = omega (arith, first-lt C (across-in p range k l) 0 (across-in p range k l .cells≥)) in
-      scratch-at byte lent made (firsts C) (rowsAt p (k - 1)) D 0 c slides s y i h m ∙ row-least C (across-in p range k l) (aboveByte p cells k y) D i
-
-  rows-in : (b : ℕ) → b < rowsAt p k → (d : ℕ) → d < rowsNear p k b .end - rowsNear p k b .first → rowsNear p k b .first + d < rowsAt p (k - 1)
-  rows-in b h d n = omega (arith, rows-near-in p range k z l b h)
-
-  pub near-at : (b i : ℕ) → b < rowsAt p k → i < nearWide p k → let span = rowsNear p k b in
-      getD table (b * nearWide p k + i) 0 ≡ least 2 (span .end - span .first) (λ d. leastOver C D i (aboveByte p cells k (span .first + d)))
-  unfolding filled nearRows leastRows
-  near-at b i h m =
-      let w = mul-le-mul-right (nearWide p k) h in
-      ap (λ n. getD n (b * nearWide p k + i) 0) g
-      ∙ (mapped-at _ found (b * nearWide p k + i) (omega arith)
-      ∙ rw (run-in 0 (rowsAt p k * nearWide p k) (b * nearWide p k + i) (omega arith) (omega arith), digits-div b m, digits-mod b m)
-      (least-same 2 _ _ _ (λ d n. window-at (rowsNear p k b .first + d) i (rows-in b h d n) m)))
-
 module _ (p : Plan) (range : InRange p) (cells : List ℕ) (j : ℕ) (l : j + 1 < p .levels) where
+  abbrev k : ℕ
+  k = ancestorLevel p j
+
   -- what its parts ask
   module _ (has : HasNeighbourhood p j) where
-    pub fine-level : (0 < ancestorLevel p j) × (ancestorLevel p j < p .levels - 1)
+    pub fine-level : (1 ≤ ancestorLevel p j) × (ancestorLevel p j < p .levels - 1)
     fine-level = (omega (arith, level-below p j range has), omega arith)
 
-    -- what is lent is enough for each step
-    pub near-fits : {n : ℕ} → NearRoom p n → let k = ancestorLevel p j in
-        (rowsAt p k * nearWide p k ≤ n) × (rowsAt p (k - 1) * nearWide p k ≤ n) × (columnsAt p k ≤ n) × (2 * p .«degree_across» < rowsAt p (k - 1) * nearWide p k)
-    near-fits {n} room =
-        let k : ℕ = ancestorLevel p j in
-        let z = fine-level .0 in
-        let l : ancestorLevel p j < p .levels = omega (arith, fine-level) in
-        let e : rowsAt p (ancestorLevel p j) ≡ rowsAt p (pred (ancestorLevel p j)) * ratio p = grown-more (ratio p) (ratio-pos p) (p .rows) (ancestorLevel p j) z in
-        let d : pred (ancestorLevel p j) ≡ ancestorLevel p j - 1 = omega arith in
-        let f : rowsAt p (ancestorLevel p j - 1) ≤ rowsAt p (ancestorLevel p j) = subst (λ (m : ℕ). rowsAt p m ≤ rowsAt p (ancestorLevel p j)) d (rw e (le-mul-right (rowsAt p (pred (ancestorLevel p j))) (ratio p) (ratio-pos p))) in
-        let h : 1 ≤ rowsAt p (ancestorLevel p j - 1) = up-in p range (ancestorLevel p j - 1) (omega arith) .cells≥ in
-        let c : 1 ≤ firsts (acrossAt p (ancestorLevel p j)) = omega (arith, first-lt (acrossAt p (ancestorLevel p j)) (across-in p range (ancestorLevel p j) l) 0 (across-in p range (ancestorLevel p j) l .cells≥)) in
-        let all = room .enough (ancestorLevel p j) (fine-level .1) in
-        let some = mul-le-mul-right (nearWide p (ancestorLevel p j)) f in
-        let one = mul-le-mul-right (nearWide p (ancestorLevel p j)) h in
-        (all, omega arith, omega (arith, cells-firsts (acrossAt p (ancestorLevel p j))), omega arith)
+    fine-lt : ancestorLevel p j < p .levels
+    fine-lt = omega (arith, fine-level)
 
-  pub near-table : T (hasNear p j) → (found lent made start table : List ℕ) → let k = ancestorLevel p j in
-      found ≡ filled 0 (rowsAt p (k - 1) * nearWide p k) (parentRows p cells k) start → rowsAt p (k - 1) * nearWide p k ≤ length start
-      → made ≡ filled 0 (rowsAt p (k - 1) * nearWide p k) (slid found (rowsAt p (k - 1) * nearWide p k - 2 * p .«degree_across») 1 (2 * p .«degree_across» + 1)) lent
-      → rowsAt p (k - 1) * nearWide p k ≤ length lent
-      → table ≡ filled 0 (rowsAt p k * nearWide p k) (nearRows p k made (nearWide p k)) found → rowsAt p k * nearWide p k ≤ length found
-      → NearTable p cells table j
-  unfolding nearByte nearIndex
-  near-table t found lent made start table f r e s g u = record {
+    rows-le : rowsAt p (ancestorLevel p j - 1) ≤ rowsAt p (ancestorLevel p j)
+    rows-le = rw (rows-are p range (ancestorLevel p j) (fine-level .0) fine-lt) (omega (arith, mul-le-mul (le-refl (rowsAt p (ancestorLevel p j - 1))) (ratio-pos p)))
+
+    -- as many bytes as rows of the one and columns of the other make
+    pub near-repeat-in : {n : ℕ} → NearRoom p n → rowsAt p (ancestorLevel p j - 1) * columnsAt p (ancestorLevel p j) ≤ n
+    near-repeat-in room = le-trans (mul-le-mul (le-trans rows-le (le-trans (cells-firsts (upAt p k)) (le-add-right _ (nearUp p)))) (le-trans (cells-firsts (acrossAt p k)) (le-add-right _ (nearAcross p)))) (room .enough k (fine-level .1))
+
+    pub near-place-in : {m n : ℕ} → NearRoom p m → NearRoom p n → PlaceIn (acrossAt p k) (upAt p k) (ratio p) (rowsAt p (k - 1)) m n (nearAcross p)
+    near-place-in x y = record {
+      across-in = across-in p range k fine-lt;
+      up-in = up-in p range k fine-lt;
+      step≥ = ratio-pos p;
+      rows≤ = rw (rows-are p range (ancestorLevel p j) (fine-level .0) fine-lt) (omega arith);
+      from≤ = near-repeat-in x;
+      out≤ = le-trans (mul-le-mul-right (wide p k (nearAcross p)) (le-add-right (firsts (upAt p k)) (nearUp p))) (y .enough k (fine-level .1));
+    }
+
+    pub near-level-in : {m n : ℕ} → NearRoom p m → NearRoom p n → LevelIn m n (firsts (acrossAt p k)) (firsts (upAt p k)) (nearAcross p) (nearUp p)
+    near-level-in x y = record {
+      columns≥ = omega (arith, first-lt (acrossAt p k) (across-in p range k fine-lt) 0 (across-in p range k fine-lt .cells≥));
+      rows≥ = omega (arith, first-lt (upAt p k) (up-in p range k fine-lt) 0 (up-in p range k fine-lt .cells≥));
+      across≥ = omega (arith, range .across≥);
+      up≥ = omega (arith, range .up≥);
+      scratch≤ = le-trans (mul-le-mul-right (wide p k (nearAcross p)) (le-add-right (firsts (upAt p k)) (nearUp p))) (x .enough k (fine-level .1));
+      out≤ = y .enough k (fine-level .1);
+    }
+
+  pub near-table : T (hasNear p j) → (found start : List ℕ) → NearRoom p (length start)
+      → found ≡ filled 0 (high p k (nearUp p) * wide p k (nearAcross p)) (nearLeasts p cells k) start → NearTable p cells found j
+  unfolding nearByte
+  near-table has found start room e = record {
     made = λ x i q.
-        let h : T (hasNear p (x .level)) = subst (λ (n : ℕ). T (hasNear p n)) (sym q) t in
-        let has = has-fact p (x .level) h in
+        let h : T (hasNear p (x .level)) = subst (λ (n : ℕ). T (hasNear p n)) (sym q) has in
         let n : ancestorLevel p j ≡ ancestorOf p x .level = ap (ancestorLevel p) (sym q) ∙ sym (ancestor-level p x) in
-        let o = above-in p range x i has in
-        let c : cellPlace p (cellNumber p x) ≡ x = cell-place-number p range x i in
-        rw (T-true (hasNear p (x .level)) h)
-        (near-at p range cells (ancestorOf p x .level) (ancestor-below p range x has) (o .level<) found lent made start table (rw n at f) (rw n at r) (rw n at e) (rw n at s) (rw n at g) (rw n at u) (ancestorOf p x .row) _ (o .row<) (column-in p range x i has)
-        ∙ subst (λ (y : Place). rowsLeast p cells (ancestorOf p y) ≡ leastNear p cells (cellNumber p x)) c
-        (rows-near p range cells (cellNumber p x) (cell-number-lt p range x i) (subst (λ (y : Place). HasNeighbourhood p (y .level)) (sym c) has)));
+        rw (T-true (hasNear p (x .level)) h) (read-is p range x i (has-fact p (x .level) h) (omega (arith, q)) cells found start room (rw n at e));
   }
 
   pub near-table-none : (T (hasNear p j) → ⊥) → (found : List ℕ) → NearTable p cells found j

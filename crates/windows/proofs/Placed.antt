@@ -3,7 +3,7 @@ use mathlib.Core.Path.{_≡_, refl, sym, ap, subst, _∙_}
 use mathlib.Core.Bool.{true, false, cond}
 use mathlib.Core.List.{List}
 use Prim.Native.Nat.{ℕ, zero, suc, min, _+_, _-_, _*_, _/_, _%_, _≤_, _<_}
-use native.Mathlib.Nat.{le-antisymm, le-refl, min-eq-left, min-eq-right, div-add-mod'}
+use native.Mathlib.Nat.{le-antisymm, le-refl, min-eq-left, min-eq-right, mul-le-mul-right, div-add-mod'}
 use native.Mathlib.Omega.{arith}
 use lib.Arith.{digits-div, digits-mod}
 use lib.Dec.{T, eqb, eqb→eq}
@@ -113,9 +113,9 @@ run-ends s r x end run =
     let within = run .within in
     omega (arith, first-lt s r (end - 1) (omega arith), run .smooth (end - 1) (omega arith) (omega arith))
 
--- ---- a table: the rows below y, each at its first function's place
+-- ---- a table: the rows below y, each at its place: where the first function over row y · step is
 
-module _ (across up : Side) (from : List ℕ) (more : ℕ) where
+module _ (across up : Side) (step : ℕ) (from : List ℕ) (more : ℕ) where
   abbrev W : ℕ
   W = firsts across
 
@@ -124,7 +124,7 @@ module _ (across up : Side) (from : List ℕ) (more : ℕ) where
 
   -- what stands in row j and column i of the table
   unfoldable pub rowsTo : ℕ → ℕ → ℕ → ℕ
-  rowsTo y j i = least 2 y (λ r. cond (inRun (firstOver up r) 1 j) (placedRow across (inRows from (across .cells) r) i) 2)
+  rowsTo y j i = least 2 y (λ r. cond (inRun (firstOver up (r * step)) 1 j) (placedRow across (inRows from (across .cells) r) i) 2)
 
   unfoldable pub tableTo : ℕ → ℕ → ℕ
   tableTo y t = cond (inRun 0 W (t % width)) (rowsTo y (t / width) (t % width)) 2
@@ -145,45 +145,48 @@ module _ (across up : Side) (from : List ℕ) (more : ℕ) where
       (λ u w. rw (run-in 0 n i u w, table-none i))
       (λ u. rw (run-after 0 n i u)))
 
-  pub table-all : (t : ℕ) → tableTo (up .cells) t ≡ rowSlid (placed across up from) W more 1 t
-  unfolding tableTo rowsTo rowSlid placed leastOver least
-  table-all t =
+  pub table-all : (rows t : ℕ) → tableTo rows t ≡ rowSlid (placed across up step rows from) W more 1 t
+  unfolding tableTo rowsTo rowSlid placed least
+  table-all rows t =
       let z : t % width - 0 ≡ t % width = omega arith in
       run-e 0 W (t % width)
       (λ u. absurd (omega arith))
-      (λ u w. rw (run-in 0 W (t % width) u w, z) (sym (min-eq-right (least-top 2 (up .cells) _))))
+      (λ u w. rw (run-in 0 W (t % width) u w, z) (sym (min-eq-right (least-top 2 rows _))))
       (λ u. rw (run-after 0 W (t % width) u))
 
-  module _ (sized : Sized up) where
+  module _ (sized : Sized up) (one : 1 ≤ step) where
     -- earlier rows stand before it
-    earlier : (r y : ℕ) → r < y → firstOver up r < firstOver up y
-    earlier r zero l = absurd (omega arith)
-    earlier r (suc y) l = cases (eqb r y)
+    rises : (r y : ℕ) → r < y → firstOver up r < firstOver up y
+    rises r zero l = absurd (omega arith)
+    rises r (suc y) l = cases (eqb r y)
         (λ t. let e : r ≡ y = eqb→eq r y t in rw e (first-rises up sized y))
-        (λ t. let d = differ r y t in omega (arith, earlier r y (omega arith), first-rises up sized y))
+        (λ t. let d = differ r y t in omega (arith, rises r y (omega arith), first-rises up sized y))
 
-    fresh : (y i : ℕ) → rowsTo y (firstOver up y) i ≡ 2
+    earlier : (r y : ℕ) → r < y → firstOver up (r * step) < firstOver up (y * step)
+    earlier r y l = rises (r * step) (y * step) (omega (arith, mul-le-mul-right step l))
+
+    fresh : (y i : ℕ) → rowsTo y (firstOver up (y * step)) i ≡ 2
     unfolding rowsTo
-    fresh y i = le-antisymm (least-top 2 y _) (least-ge 2 y _ 2 (le-refl 2) (λ r l. rw (run-after (firstOver up r) 1 (firstOver up y) (omega (arith, earlier r y l))) (le-refl 2)))
+    fresh y i = le-antisymm (least-top 2 y _) (least-ge 2 y _ 2 (le-refl 2) (λ r l. rw (run-after (firstOver up (r * step)) 1 (firstOver up (y * step)) (omega (arith, earlier r y l))) (le-refl 2)))
 
-    rows-here : (y i : ℕ) → rowsTo (suc y) (firstOver up y) i ≡ placedRow across (inRows from (across .cells) y) i
+    rows-here : (y i : ℕ) → rowsTo (suc y) (firstOver up (y * step)) i ≡ placedRow across (inRows from (across .cells) y) i
     unfolding rowsTo least placedRow leastOver
-    rows-here y i = rw (run-in (firstOver up y) 1 (firstOver up y) (omega arith) (omega arith)) (ap (λ z. min z (placedRow across (inRows from (across .cells) y) i)) (fresh y i) ∙ min-eq-right (least-top 2 (across .cells) _))
+    rows-here y i = rw (run-in (firstOver up (y * step)) 1 (firstOver up (y * step)) (omega arith) (omega arith)) (ap (λ z. min z (placedRow across (inRows from (across .cells) y) i)) (fresh y i) ∙ min-eq-right (least-top 2 (across .cells) _))
 
-    rows-off : (y j i : ℕ) → inRun (firstOver up y) 1 j ≡ false → rowsTo (suc y) j i ≡ rowsTo y j i
+    rows-off : (y j i : ℕ) → inRun (firstOver up (y * step)) 1 j ≡ false → rowsTo (suc y) j i ≡ rowsTo y j i
     unfolding rowsTo least
     rows-off y j i e = rw e (min-eq-left (least-top 2 y _))
 
     module _ (y : ℕ) (w : 0 < width) where
       abbrev here : ℕ
-      here = firstOver up y * width
+      here = firstOver up (y * step) * width
 
       -- where the row stands
-      place-row : (i : ℕ) → i < width → (here + i) / width ≡ firstOver up y
-      place-row i l = digits-div (firstOver up y) l
+      place-row : (i : ℕ) → i < width → (here + i) / width ≡ firstOver up (y * step)
+      place-row i l = digits-div (firstOver up (y * step)) l
 
       place-column : (i : ℕ) → i < width → (here + i) % width ≡ i
-      place-column i l = digits-mod (firstOver up y) l
+      place-column i l = digits-mod (firstOver up (y * step)) l
 
       pub table-fresh : (i : ℕ) → i < W → tableTo y (here + i) ≡ 2
       unfolding tableTo
@@ -197,13 +200,13 @@ module _ (across up : Side) (from : List ℕ) (more : ℕ) where
       unfolding tableTo
       table-off t e = run-e 0 W (t % width)
           (λ u. absurd (omega arith))
-          (λ u v. rw (run-in 0 W (t % width) u v) (rows-off y (t / width) (t % width) (run-e (firstOver up y) 1 (t / width)
-          (λ a. run-before (firstOver up y) 1 (t / width) a)
+          (λ u v. rw (run-in 0 W (t % width) u v) (rows-off y (t / width) (t % width) (run-e (firstOver up (y * step)) 1 (t / width)
+          (λ a. run-before (firstOver up (y * step)) 1 (t / width) a)
           (λ a b.
-          let q : t / width ≡ firstOver up y = omega arith in
+          let q : t / width ≡ firstOver up (y * step) = omega arith in
           let d : here + t % width ≡ t = ap (λ z. z * width + t % width) (sym q) ∙ div-add-mod' t width in
           absurd (differs (sym (run-in here W t (omega arith) (omega arith)) ∙ e)))
-          (λ a. run-after (firstOver up y) 1 (t / width) a))))
+          (λ a. run-after (firstOver up (y * step)) 1 (t / width) a))))
           (λ u. rw (run-after 0 W (t % width) u))
         where
           differs : true ≡ false → ⊥

@@ -138,10 +138,10 @@ module _ (byte : ℕ → ℕ → ℕ) (start padded : List ℕ) (columns rows ac
 module _ (byte : ℕ → ℕ → ℕ) (start scratch : List ℕ) (columns rows across up : ℕ) (c : 1 ≤ columns)
     (e : scratch ≡ filled 0 (rows * (columns + across)) (rowSlid byte columns across (across + 1)) start) (s : rows * (columns + across) ≤ length start) where
   -- the least byte of a row's window
-  abbrev pub across-least : ℕ → ℕ → ℕ
+  abbrev across-least : ℕ → ℕ → ℕ
   across-least i k = least 2 (across + 1) (back columns i (byte k))
 
-  pub scratch-at : (k i : ℕ) → k < rows → i < columns + across → getD scratch (k * (columns + across) + i) 0 ≡ across-least i k
+  scratch-at : (k i : ℕ) → k < rows → i < columns + across → getD scratch (k * (columns + across) + i) 0 ≡ across-least i k
   unfolding filled rowSlid
   scratch-at k i l m =
       let b = mul-le-mul-right (columns + across) l in

@@ -8,7 +8,7 @@ use Rattle.facts.specs.Least.{least}
 use Rattle.facts.specs.Mapped.{inRun}
 use Rattle.grid.specs.declared.Plan.{Plan}
 use Rattle.grid.specs.declared.Side.{Side}
-use Rattle.grid.specs.Plan.{columnsAt, rowsAt, cellTotal, functionTotal, cellNumber, acrossAt, upAt, supported}
+use Rattle.grid.specs.Plan.{ratio, columnsAt, rowsAt, cellTotal, functionTotal, cellNumber, acrossAt, upAt, supported}
 use Rattle.grid.specs.Side.{firstOver, firsts, SideIn}
 use Rattle.windows.specs.Windows.{inRows}
 use Rattle.grid.specs.Range.{InRange}
@@ -21,19 +21,23 @@ leastOver s d i g = least 2 (s .cells) (λ x. cond (inRun (firstOver s x) (d + 1
 unfoldable pub placedRow : Side → (ℕ → ℕ) → ℕ → ℕ
 placedRow s g i = leastOver s 0 i g
 
--- the cells of a level, each at the places of its first functions up and across
-unfoldable pub placed : Side → Side → List ℕ → ℕ → ℕ → ℕ
-placed across up from j i = leastOver up 0 j (λ y. placedRow across (inRows from (across .cells) y) i)
+-- so many rows of cells, each at the places of its first functions across, and row y where the first function over row y · step of `up`
+-- is
+unfoldable pub placed : Side → Side → ℕ → ℕ → List ℕ → ℕ → ℕ → ℕ
+placed across up step rows from j i =
+    least 2 rows (λ y. cond (inRun (firstOver up (y * step)) 1 j) (placedRow across (inRows from (across .cells) y) i) 2)
 
 -- the first n entries are 2
 abbrev pub Twos : ℕ → List ℕ → Type 0
 Twos n out = (i : ℕ) → i < n → getD out i 0 ≡ 2
 
 -- a table of cells and one for them at their places, with `more` columns after them, of these sizes
-pub record PlaceIn (across up : Side) (size place more : ℕ) : Type 0 where
+pub record PlaceIn (across up : Side) (step rows size place more : ℕ) : Type 0 where
   pub across-in : SideIn across
   pub up-in : SideIn up
-  pub from≤ : up .cells * across .cells ≤ size
+  pub step≥ : 1 ≤ step
+  pub rows≤ : rows * step ≤ up .cells
+  pub from≤ : rows * across .cells ≤ size
   pub out≤ : firsts up * (firsts across + more) ≤ place
 
 -- the least byte of the cells of level k whose first functions are in row j and column i or at most `up` and `across` before them
@@ -67,10 +71,10 @@ pub record LevelRoom (p : Plan) (k size room place across up : ℕ) : Type 0 whe
 pub record ValueRoom (p : Plan) (n : ℕ) : Type 0 where
   pub enough : (k : ℕ) → k < p .levels → high p k (2 * p .«degree_up») * wide p k (2 * p .«degree_across») ≤ n
 
--- n bytes are enough for the rows of any level but the last with windows of twice the degree across: the ancestors by which
--- neighbourhoods are found are cells of levels that have finer ones
+-- n bytes are enough for the table of the neighbourhoods by the ancestors of any level but the last: these are cells of levels that have
+-- finer ones
 pub record NearRoom (p : Plan) (n : ℕ) : Type 0 where
-  pub enough : (k : ℕ) → k < p .levels - 1 → rowsAt p k * wide p k (2 * p .«degree_across») ≤ n
+  pub enough : (k : ℕ) → k < p .levels - 1 → high p k (2 * p .«degree_up» + (ratio p - 1)) * wide p k (2 * p .«degree_across») ≤ n
 
 -- ---- the functions over a cell
 

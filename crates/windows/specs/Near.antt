@@ -6,13 +6,13 @@ use Prim.Native.Nat.{ℕ, _+_, _-_, _*_, _/_, _%_, _≤_, _<_}
 use lib.Dec.{eqb, leb}
 use lib.ListN.{getD}
 use Rattle.facts.specs.Least.{least}
+use Rattle.facts.specs.Mapped.{inRun}
 use Rattle.grid.specs.declared.Plan.{Plan}
 use Rattle.grid.specs.declared.Place.{Place}
-use Rattle.grid.specs.declared.Span.{Span}
-use Rattle.grid.specs.Plan.{cellTotal, cellNumber, CellInside, acrossAt, ancestor, near}
+use Rattle.grid.specs.Plan.{ratio, rowsAt, cellTotal, cellNumber, CellInside, acrossAt, upAt, ancestor, near}
 use Rattle.grid.specs.Side.{firstOver}
-use Rattle.grid.specs.Spans.{around, parentsOf, ancestorOf}
-use Rattle.windows.specs.Level.{placedRow, wide}
+use Rattle.grid.specs.Spans.{ancestorOf}
+use Rattle.windows.specs.Level.{leastOver, wide}
 
 -- a cell of level j has a neighbourhood: "m not 0 .. level j with j-m+1 at least 0"
 unfoldable pub hasNear : Plan → ℕ → Bool
@@ -22,48 +22,44 @@ hasNear p j = not (eqb (p .class) 0) && leb (p .class) (j + 1)
 unfoldable pub leastNear : Plan → List ℕ → ℕ → ℕ
 leastNear p cells c = least 2 (cellTotal p) (λ d. cond (near p c d) (getD cells d 0) 2)
 
--- ---- the table
+-- ---- the table: of level k, on which the ancestors are
 
--- a row of cells, each with the byte of the column on which it stands, one level up
-unfoldable pub parentsRow : Plan → List ℕ → ℕ → ℕ
-parentsRow p from x = getD from (ancestor p 1 x) 0
+-- each byte as many times as columns stand on one
+unfoldable pub repeated : Plan → List ℕ → ℕ → ℕ
+repeated p from x = getD from (ancestor p 1 x) 0
 
 -- there are such bytes
-pub record ParentsIn (p : Plan) (n size room : ℕ) : Type 0 where
+pub record RepeatIn (p : Plan) (n size room : ℕ) : Type 0 where
   pub out≤ : n ≤ room
   pub from< : (x : ℕ) → x < n → ancestor p 1 x < size
 
--- the same of row y of the level before k, a row of which has these columns
+-- in row y of the level before k, the byte of the column on which column x of level k stands
 unfoldable pub aboveByte : Plan → List ℕ → ℕ → ℕ → ℕ → ℕ
 aboveByte p cells k y x = getD cells (cellNumber p (record { level = k - 1; row = y; column = ancestor p 1 x })) 0
 
--- a row of the table has a place for each first function, and twice the degree more
-abbrev pub nearWide : Plan → ℕ → ℕ
-nearWide p k = wide p k (2 * p .«degree_across»)
+-- how far windows go: across twice the degree, up twice the degree and to the last of the rows that stand on one
+abbrev pub nearAcross : Plan → ℕ
+nearAcross p = 2 * p .«degree_across»
 
--- the rows of the level before k, each column of k at the place of its first function; 2 where there is none
-unfoldable pub parentRows : Plan → List ℕ → ℕ → ℕ → ℕ
-parentRows p cells k t = placedRow (acrossAt p k) (aboveByte p cells k (t / nearWide p k)) (t % nearWide p k)
+abbrev pub nearUp : Plan → ℕ
+nearUp p = 2 * p .«degree_up» + (ratio p - 1)
 
--- the least entries in column i of n rows from the first on
-unfoldable pub leastRows : List ℕ → ℕ → ℕ → ℕ → ℕ → ℕ
-leastRows from width first n i = least 2 n (λ d. getD from ((first + d) * width + i) 0)
+-- the least of these bytes, of the rows of which the first row on them has its first function in row j or at most so far before it, and of
+-- the columns whose first functions are in column i or before it likewise
+unfoldable pub nearLeast : Plan → List ℕ → ℕ → ℕ → ℕ → ℕ
+nearLeast p cells k j i =
+    least 2 (rowsAt p (k - 1)) (λ y. cond (inRun (firstOver (upAt p k) (y * ratio p)) (nearUp p + 1) j) (leastOver (acrossAt p k) (nearAcross p) i (aboveByte p cells k y)) 2)
 
--- the rows on which those near row y of level k stand
-abbrev pub rowsNear : Plan → ℕ → ℕ → Span
-rowsNear p k y = parentsOf p (around p (record { level = k; row = y; column = 0 })) .rows
-
--- for each row of level k the least entries of these
-unfoldable pub nearRows : Plan → ℕ → List ℕ → ℕ → ℕ → ℕ
-nearRows p k from width t =
-    let rows = rowsNear p k (t / width) in
-    leastRows from width (rows .first) (rows .end - rows .first) (t % width)
+-- the table of these
+unfoldable pub nearLeasts : Plan → List ℕ → ℕ → ℕ → ℕ
+nearLeasts p cells k t = nearLeast p cells k (t / wide p k (nearAcross p)) (t % wide p k (nearAcross p))
 
 -- ---- what is read
 
--- where the table has the least byte for the cell whose ancestor is at a: the degree after its first function
+-- where the table has the least byte for the cell whose ancestor is at a: the degrees after its first functions
 unfoldable pub nearIndex : Plan → Place → ℕ
-nearIndex p a = a .row * nearWide p (a .level) + (firstOver (acrossAt p (a .level)) (a .column) + p .«degree_across»)
+nearIndex p a =
+    (firstOver (upAt p (a .level)) (a .row) + p .«degree_up») * wide p (a .level) (nearAcross p) + (firstOver (acrossAt p (a .level)) (a .column) + p .«degree_across»)
 
 -- what is read there for the cell at x
 unfoldable pub nearByte : Plan → List ℕ → Place → ℕ

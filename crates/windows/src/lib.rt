@@ -9,8 +9,8 @@ ghost use lib.ListN.{length, getD};
 ghost use Rattle.facts.specs.Mapped.{filled};
 ghost use Rattle.windows.specs.Windows.{always, lowered, leastOf, slid, inRows, rowSlid, Windowed, SlideIn, RowsIn, LevelIn};
 ghost use Rattle.windows.specs.Level.{placedRow, placed, Twos, PlaceIn, levelLeast, wide, high, LevelRoom, ValueRoom, NearRoom, ValueTable};
-ghost use Rattle.windows.specs.Near.{ParentsIn, parentsRow, nearWide, parentRows, leastRows, nearRows, hasNear, nearByte, NearTable};
-ghost use Rattle.grid.specs.Plan.{columnsAt, rowsAt, cellTotal, functionTotal, CellInside};
+ghost use Rattle.windows.specs.Near.{RepeatIn, repeated, hasNear, nearByte, NearTable};
+ghost use Rattle.grid.specs.Plan.{cellTotal, functionTotal, CellInside};
 ghost use Rattle.grid.specs.Range.{InRange};
 ghost use Rattle.grid.specs.Side.{SideIn, firsts};
 
@@ -127,20 +127,20 @@ fn place_row(side: Side, from: &[u8], out: &mut [u8])
     }
 }
 
-// A level of cells, each at the places of its first functions, with 2 between them and in `more` columns after them.
-fn place(across: Side, up: Side, from: &[u8], out: &mut [u8], more: usize)
-    requires { ⌜ PlaceIn across up (length (now from)) (length (now out)) more ⌝ }
-    ensures { λ _. ⌜ now (out .exit) ≡ filled 0 (firsts up * (firsts across + more)) (rowSlid (placed across up (now (from .entry))) (firsts across) more 1) (now (out .entry)) ⌝ }
+// Rows of cells, each at the places of its first functions across, and up where those of every `step`-th row of the level are, with 2
+// between them and in `more` columns after them.
+fn place(across: Side, up: Side, step: u32, rows: u32, from: &[u8], out: &mut [u8], more: usize)
+    requires { ⌜ PlaceIn across up step rows (length (now from)) (length (now out)) more ⌝ }
+    ensures { λ _. ⌜ now (out .exit) ≡ filled 0 (firsts up * (firsts across + more)) (rowSlid (placed across up step rows (now (from .entry))) (firsts across) more 1) (now (out .entry)) ⌝ }
 {
     let columns = across.cells as usize;
     let width = across.firsts() as usize + more;
     let high = up.firsts() as usize;
-    let rows = up.cells;
     fill(out, high * width, 2);
     let mut first = 0;
     let mut row = 0;
     while row < rows {
-        let at = up.first_over(row) as usize * width;
+        let at = up.first_over(row * step) as usize * width;
         place_row(across, &from[first..], &mut out[at..]);
         first += columns;
         row += 1;
@@ -182,7 +182,7 @@ pub fn level(
     let columns = plan.across_at(level);
     let rows = plan.up_at(level);
     let here = plan.cell_offset(level) as usize;
-    place(columns, rows, &cells[here..], out, across);
+    place(columns, rows, 1, rows.cells, &cells[here..], out, across);
     windows(
         scratch,
         out,
@@ -217,10 +217,10 @@ fn has_near(plan: Plan, level: u32) -> bool
     (class != 0) & (class <= level + 1)
 }
 
-// A row of n cells, each with the byte of the column on which it stands.
-fn parents_row(plan: Plan, from: &[u8], out: &mut [u8], n: u32)
-    requires { ⌜ ParentsIn plan n (length (now from)) (length (now out)) ⌝ }
-    ensures { λ _. ⌜ now (out .exit) ≡ filled 0 n (parentsRow plan (now (from .entry))) (now (out .entry)) ⌝ }
+// Each byte as many times as columns stand on one: rows of a level make rows of the columns of the next.
+fn repeat(plan: Plan, from: &[u8], out: &mut [u8], n: u32)
+    requires { ⌜ RepeatIn plan n (length (now from)) (length (now out)) ⌝ }
+    ensures { λ _. ⌜ now (out .exit) ≡ filled 0 n (repeated plan (now (from .entry))) (now (out .entry)) ⌝ }
 {
     let mut x = 0;
     while x < n {
@@ -231,98 +231,8 @@ fn parents_row(plan: Plan, from: &[u8], out: &mut [u8], n: u32)
     }
 }
 
-// The same, each cell at the place of its first function, with 2 elsewhere and in `more` columns after them. `row` is room for a row.
-fn place_parents(plan: Plan, side: Side, from: &[u8], row: &mut [u8], out: &mut [u8], more: usize)
-    requires { ⌜ (SideIn side) × (firsts side + more ≤ length (now out)) ⌝ }
-    requires { ⌜ ParentsIn plan (side .cells) (length (now from)) (length (now row)) ⌝ }
-    ensures { λ _. ⌜ now (out .exit) ≡ filled 0 (firsts side + more) (placedRow side (parentsRow plan (now (from .entry)))) (now (out .entry)) ⌝ }
-{
-    let columns = side.cells;
-    let width = side.firsts() as usize + more;
-    parents_row(plan, from, row, columns);
-    fill(out, width, 2);
-    place_row(side, row, out);
-}
-
-// The rows of the level before, each so on the columns of a level.
-fn parent_rows(plan: Plan, cells: &[u8], level: u32, row: &mut [u8], out: &mut [u8])
-    requires { ⌜ (InRange plan) × (0 < level) × (level < plan .levels) × (cellTotal plan ≤ length (now cells)) ⌝ }
-    requires { ⌜ (columnsAt plan level ≤ length (now row)) × (rowsAt plan (level - 1) * nearWide plan level ≤ length (now out)) ⌝ }
-    ensures { λ _. ⌜ now (out .exit) ≡ filled 0 (rowsAt plan (level - 1) * nearWide plan level) (parentRows plan (now (cells .entry)) level) (now (out .entry)) ⌝ }
-{
-    let above = level - 1;
-    let columns = plan.columns_at(above) as usize;
-    let rows = plan.rows_at(above);
-    let side = plan.across_at(level);
-    let more = (2 * plan.degree_across) as usize;
-    let width = side.firsts() as usize + more;
-    let mut first = plan.cell_offset(above) as usize;
-    let mut at = 0;
-    let mut y = 0;
-    while y < rows {
-        place_parents(plan, side, &cells[first..], row, &mut out[at..], more);
-        first += columns;
-        at += width;
-        y += 1;
-    }
-}
-
-// The row after the first, or the first where it is the only one.
-fn second_row(first: usize, end: usize) -> usize
-    requires { ⌜ first < end ⌝ }
-    ensures { λ r. ⌜ (first ≤ r) × (r ≤ first + 1) × (r < end) ⌝ }
-{
-    if end - first == 1 {
-        return first;
-    }
-    first + 1
-}
-
-// The least entries of some rows, column by column: of the first two in one pass.
-fn least_rows(from: &[u8], out: &mut [u8], width: usize, first: usize, end: usize)
-    requires { ⌜ (first < end) × (end * width ≤ length (now from)) × (width ≤ length (now out)) ⌝ }
-    ensures { λ _. ⌜ now (out .exit) ≡ filled 0 width (leastRows (now (from .entry)) width first (end - first)) (now (out .entry)) ⌝ }
-{
-    let second = second_row(first, end);
-    let before = first * width;
-    let mut at = second * width;
-    least_of(out, &from[before..], &from[at..], width);
-    let mut row = second + 1;
-    at += width;
-    while row < end {
-        lower(out, &from[at..], width);
-        at += width;
-        row += 1;
-    }
-}
-
-// For each row of a level, the least entries of the rows on which its near rows stand.
-fn near_rows(plan: Plan, level: u32, from: &[u8], out: &mut [u8], width: usize)
-    requires { ⌜ (InRange plan) × (0 < level) × (level < plan .levels) ⌝ }
-    requires { ⌜ (rowsAt plan (level - 1) * width ≤ length (now from)) × (rowsAt plan level * width ≤ length (now out)) ⌝ }
-    ensures { λ _. ⌜ now (out .exit) ≡ filled 0 (rowsAt plan level * width) (nearRows plan level (now (from .entry)) width) (now (out .entry)) ⌝ }
-{
-    let rows = plan.rows_at(level);
-    let mut at = 0;
-    let mut row = 0;
-    while row < rows {
-        let near = plan.parents_around(Place {
-            level,
-            row,
-            column: 0,
-        });
-        let span = near.rows;
-        let first = span.first as usize;
-        let end = span.end as usize;
-        least_rows(from, &mut out[at..], width, first, end);
-        at += width;
-        row += 1;
-    }
-}
-
-// The table of the neighbourhoods of a level's cells, where they have some: of each row and place of the ancestors' level, the least byte
-// of the cells on which those near it stand. Across, windows of twice the degree go over the rows of the level before; up, the rows of
-// the neighbourhood are taken together.
+// The table of the neighbourhoods of a level's cells, where they have some: windows over the rows of the neighbourhoods' level, on the
+// columns of the next, where the ancestors are. Each row stands where the first of the rows on it does.
 pub fn neighbourhoods(plan: Plan, cells: &[u8], fine: u32, scratch: &mut [u8], near: &mut [u8])
     requires { ⌜ (InRange plan) × (fine + 1 < plan .levels) × (cellTotal plan ≤ length (now cells)) ⌝ }
     requires { ⌜ (NearRoom plan (length (now scratch))) × (NearRoom plan (length (now near))) ⌝ }
@@ -330,13 +240,24 @@ pub fn neighbourhoods(plan: Plan, cells: &[u8], fine: u32, scratch: &mut [u8], n
 {
     if has_near(plan, fine) {
         let level = fine - (plan.class - 2);
-        let side = plan.across_at(level);
-        let more = (2 * plan.degree_across) as usize;
-        let width = side.firsts() as usize + more;
-        let rows = plan.rows_at(level - 1) as usize;
-        parent_rows(plan, cells, level, scratch, near);
-        slide(near, scratch, rows * width - more, 1, more);
-        near_rows(plan, level, scratch, near, width);
+        let columns = plan.across_at(level);
+        let rows = plan.up_at(level);
+        let step = plan.ratio();
+        let above = level - 1;
+        let coarse = plan.rows_at(above);
+        let here = plan.cell_offset(above) as usize;
+        let across = (2 * plan.degree_across) as usize;
+        let up = (2 * plan.degree_up + (step - 1)) as usize;
+        repeat(plan, &cells[here..], scratch, coarse * columns.cells);
+        place(columns, rows, step, coarse, scratch, near, across);
+        windows(
+            scratch,
+            near,
+            columns.firsts() as usize,
+            rows.firsts() as usize,
+            across,
+            up,
+        );
     }
 }
 
@@ -350,10 +271,12 @@ pub fn least_near(plan: Plan, near: &[u8], place: Place) -> u8
     let level = place.level;
     if has_near(plan, level) {
         let above = plan.ancestor_of(place);
-        let side = plan.across_at(above.level);
-        let row = above.row as usize;
-        let column = side.first_over(above.column) as usize + plan.degree_across as usize;
-        let width = side.firsts() as usize + (2 * plan.degree_across) as usize;
+        let coarse = above.level;
+        let across = plan.across_at(coarse);
+        let up = plan.up_at(coarse);
+        let row = up.first_over(above.row) as usize + plan.degree_up as usize;
+        let column = across.first_over(above.column) as usize + plan.degree_across as usize;
+        let width = across.firsts() as usize + (2 * plan.degree_across) as usize;
         return near[row * width + column];
     }
     2

@@ -28,7 +28,7 @@ cast-here c = search needs
 
 -- the level lies in the tables
 room : (c : tie.After-cell-offset) → let a = c .before .before .before .before .before .before .args in
-    PlaceIn (c .before .before .across-at .result) (c .before .up-at .result) (length (a .cells .now) - c .cell-offset .result) (length (a .out .now)) (a .across) × (c .cell-offset .result ≤ length (a .cells .now))
+    PlaceIn (c .before .before .across-at .result) (c .before .up-at .result) 1 (c .before .up-at .result .cells) (length (a .cells .now) - c .cell-offset .result) (length (a .out .now)) (a .across) × (c .cell-offset .result ≤ length (a .cells .now))
 room c =
     let s = c .before .before .before .before .before .before in
     let p = s .pre in
@@ -59,7 +59,7 @@ cast-windows-2 : tie.Need-cast-windows-2
 cast-windows-2 c = search needs
 
 -- the cells are placed, and as many bytes are lent
-placed-length : (c : tie.After-place) → length (c .place .last .1 .1 .1 .0) ≡ length (c .before .before .before .before .before .before .before .before .before .args .out .now)
+placed-length : (c : tie.After-place) → length (c .place .last .1 .1 .1 .1 .1 .0) ≡ length (c .before .before .before .before .before .before .before .before .before .args .out .now)
 placed-length c = ap length (c .place .ensures) ∙ filled-length _ _ _ _
 
 -- how many places there are

@@ -1,18 +1,23 @@
--- `windows::neighbourhoods` meets its contract: its three steps make the table. Assumes nothing.
-use mathlib.Core.Path.{_≡_, sym, ap, subst, _∙_}
-use Prim.Native.Nat.{ℕ, _+_, _-_, _*_, _≤_, _<_}
+-- `windows::neighbourhoods` meets its contract: the windows over the rows of the neighbourhoods' level are its table. Assumes nothing.
+use mathlib.Core.Path.{_≡_, refl, sym, ap, subst, _∙_}
+use Prim.Native.Nat.{ℕ, _-_, _*_, _≤_, _<_}
+use native.Mathlib.Nat.{mul-le-mul}
 use native.Mathlib.Omega.{arith}
 use borrow.Author.Needs.{needs}
 use lib.Dec.{T}
 use lib.ListN.{length}
 use Rattle.facts.proofs.Tests.{true-T}
-use Rattle.grid.specs.Plan.{columnsAt, rowsAt}
+use Rattle.facts.proofs.Mapped.{filled-same, filled-length}
+use Rattle.facts.proofs.Ranges.{mid-len}
+use Rattle.grid.specs.Plan.{ratio, columnsAt, rowsAt, acrossAt, upAt}
 use Rattle.grid.specs.Range.{HasNeighbourhood}
 use Rattle.grid.specs.Side.{firsts}
 use Rattle.grid.specs.Spans.{ancestorLevel}
-use Rattle.grid.proofs.Sides.{across-in}
-use Rattle.windows.specs.Near.{hasNear, nearWide}
-use Rattle.windows.proofs.Near.{has-fact, fine-level, near-fits, near-table, near-table-none}
+use Rattle.grid.proofs.Laws.{ratio-pos}
+use Rattle.grid.proofs.Sides.{across-in, up-in}
+use Rattle.windows.specs.Near.{RepeatIn, hasNear}
+use Rattle.windows.proofs.OneUp.{repeat-in, near-windows}
+use Rattle.windows.proofs.Near.{has-fact, fine-level, near-repeat-in, near-place-in, near-level-in, near-table, near-table-none}
 use Rattle.windows.proofs.neighbourhoods.Statement.{statement}
 use Rattle.windows.proofs.neighbourhoods.Tie as tie
 
@@ -41,84 +46,133 @@ deep c =
 across-at-requires : tie.Need-across-at-requires
 across-at-requires c κs = search needs
 
-mul-more : tie.Need-mul-more
-mul-more c = search needs
+up-at-requires : tie.Need-up-at-requires
+up-at-requires c κs = search needs
 
-cast-more : tie.Need-cast-more
-cast-more c = search needs
+ratio-requires : tie.Need-ratio-requires
+ratio-requires c κs = search needs
 
-firsts-requires : tie.Need-firsts-requires
-firsts-requires c κs =
-    let t = c .before .before .before in
-    let s = t .before .before .before .before .before in
-    rw (c .before .across-at .ensures) (across-in (s .args .plan) (s .pre .0 .0) _ (deep t .1))
-
-cast-width : tie.Need-cast-width
-cast-width c = search needs
-
-add-width : tie.Need-add-width
-add-width c = search needs
-
-sub-rows-at : tie.Need-sub-rows-at
-sub-rows-at c = deep (c .before .before .before .before) .0
+sub-above : tie.Need-sub-above
+sub-above c = deep (c .before .before .before .before) .0
 
 rows-at-requires : tie.Need-rows-at-requires
 rows-at-requires c κs = search needs
 
-cast-rows : tie.Need-cast-rows
-cast-rows c = search needs
+cell-offset-requires : tie.Need-cell-offset-requires
+cell-offset-requires c κs = search needs
 
--- what is lent is enough
-fits : (c : tie.Then1) → let a = c .before .before .before .before .before .args in let k = ancestorLevel (a .plan) (a .fine) in let w = nearWide (a .plan) k in
-    (rowsAt (a .plan) k * w ≤ length (a .near .now)) × (rowsAt (a .plan) (k - 1) * w ≤ length (a .near .now)) × (rowsAt (a .plan) (k - 1) * w ≤ length (a .scratch .now))
-    × (columnsAt (a .plan) k ≤ length (a .scratch .now)) × (2 * a .plan .«degree_across» < rowsAt (a .plan) (k - 1) * w)
-fits c =
-    let s = c .before .before .before .before .before in
+cast-here : tie.Need-cast-here
+cast-here c = search needs
+
+mul-across : tie.Need-mul-across
+mul-across c = omega (arith, c .before .before .before .before .before .before .before .before .before .before .before .before .pre .0 .0 .across≤)
+
+cast-across : tie.Need-cast-across
+cast-across c = search needs
+
+mul-up : tie.Need-mul-up
+mul-up c = omega (arith, c .before .before .before .before .before .before .before .before .before .before .before .before .before .pre .0 .0 .up≤)
+
+sub-up : tie.Need-sub-up
+sub-up c = rw (c .before .before .before .before .ratio .ensures) (ratio-pos _)
+
+add-up : tie.Need-add-up
+unfolding ratio
+add-up c = rw (c .before .before .before .before .ratio .ensures) (omega (arith, c .before .before .before .before .before .before .before .before .before .before .before .before .before .pre .0 .0 .up≤))
+
+cast-up : tie.Need-cast-up
+cast-up c = search needs
+
+-- how many bytes are repeated
+size : (c : tie.After-cell-offset) → let a = c .before .before .before .before .before .before .before .before .before .before .before .args in let k = ancestorLevel (a .plan) (a .fine) in
+    c .before .rows-at .result * c .before .before .before .before .across-at .result .cells ≡ rowsAt (a .plan) (k - 1) * columnsAt (a .plan) k
+size c = λ i. c .before .rows-at .ensures i * c .before .before .before .before .across-at .ensures i .cells
+
+-- the bytes to repeat are there
+room : (c : tie.After-cell-offset) → let a = c .before .before .before .before .before .before .before .before .before .before .before .args in
+    RepeatIn (a .plan) (c .before .rows-at .result * c .before .before .before .before .across-at .result .cells) (length (a .cells .now) - c .cell-offset .result) (length (a .scratch .now)) × (c .cell-offset .result ≤ length (a .cells .now))
+room c =
+    let t = c .before .before .before .before .before .before in
+    let s = t .before .before .before .before .before in
     let a = s .args in
-    let n = near-fits (a .plan) (s .pre .0 .0) (a .cells .now) (a .fine) (s .pre .0 .1) (has c) (s .pre .1 .1) in
-    let m = near-fits (a .plan) (s .pre .0 .0) (a .cells .now) (a .fine) (s .pre .0 .1) (has c) (s .pre .1 .0) in
-    (n .0, n .1, m .1, m .2, n .3)
+    repeat-in (a .plan) (s .pre .0 .0) (ancestorLevel (a .plan) (a .fine)) (deep t .0) (deep t .1) (length (a .cells .now)) (length (a .scratch .now)) (c .cell-offset .ensures) (size c) (s .pre .0 .2)
+    (near-repeat-in (a .plan) (s .pre .0 .0) (a .cells .now) (a .fine) (s .pre .0 .1) (has t) (s .pre .1 .0))
 
-wide-is : (c : tie.After-rows-at) → let a = c .before .before .before .before .before .before .before .before .before .before .args in c .before .firsts .result + 2 * a .plan .«degree_across» ≡ nearWide (a .plan) (ancestorLevel (a .plan) (a .fine))
-wide-is c = let a = c .before .before .before .before .before .before .before .before .before .before .args in ap (λ (n : ℕ). n + 2 * a .plan .«degree_across») (c .before .firsts .ensures ∙ ap firsts (c .before .before .before .across-at .ensures))
+sub-repeat : tie.Need-sub-repeat
+sub-repeat c = room (c .before .before) .1
 
--- how many entries the rows of the level before have
-size-is : (c : tie.After-rows-at) → let a = c .before .before .before .before .before .before .before .before .before .before .args in let k = ancestorLevel (a .plan) (a .fine) in
-    c .rows-at .result * (c .before .firsts .result + 2 * a .plan .«degree_across») ≡ rowsAt (a .plan) (k - 1) * nearWide (a .plan) k
-size-is c = λ i. c .rows-at .ensures i * wide-is c i
+part-repeat-start : tie.Need-part-repeat-start
+part-repeat-start c = omega (arith, room (c .before .before) .1)
 
-parent-rows-requires : tie.Need-parent-rows-requires
-parent-rows-requires c κs =
-    let t = c .before .before .before .before .before .before .before in
+part-repeat-end : tie.Need-part-repeat-end
+part-repeat-end c = search needs
+
+mul-repeat : tie.Need-mul-repeat
+mul-repeat c =
+    let o = c .before .before .before .before .before in
+    let t = o .before .before .before .before .before .before in
     let s = t .before .before .before .before .before in
-    let f = fits t in
-    ((s .pre .0 .0, deep t .0, deep t .1, s .pre .0 .2), (f .3, f .1))
+    let a = s .args in
+    let k : ℕ = ancestorLevel (a .plan) (a .fine) in
+    let d = deep t in
+    let r = up-in (a .plan) (s .pre .0 .0) (ancestorLevel (a .plan) (a .fine) - 1) (omega arith) .cells≤ in
+    let w = across-in (a .plan) (s .pre .0 .0) (ancestorLevel (a .plan) (a .fine)) (d .1) .cells≤ in
+    omega (arith, size o, mul-le-mul r w)
 
-mul-slide : tie.Need-mul-slide
-mul-slide c = let o = c .before .before .before .before .before .before .before .before .before in omega (arith, size-is o, fits (o .before .before .before .before .before), o .before .before .before .before .before .before .before)
+repeat-requires : tie.Need-repeat-requires
+repeat-requires c κs =
+    let o = c .before .before .before .before .before in
+    rw (mid-len (o .cell-offset .result) (o .before .before .before .before .before .before .before .before .before .before .before .args .cells .now)) (room o .0)
 
-sub-slide : tie.Need-sub-slide
-sub-slide c = let o = c .before .before .before .before .before .before .before .before .before in omega (arith, size-is o, fits (o .before .before .before .before .before))
+-- the bytes are repeated, and as many are lent
+scratch-length : (c : tie.After-repeat) → length (c .repeat .last .1 .1 .0) ≡ length (c .before .before .before .before .before .before .before .before .before .before .before .before .before .before .before .before .before .args .scratch .now)
+scratch-length c = ap length (c .repeat .ensures) ∙ filled-length _ _ _ _
 
-slide-requires : tie.Need-slide-requires
-slide-requires c κs =
-    let o = c .before .before .before .before .before .before .before .before .before in
-    let s = o .before .before .before .before .before .before .before .before .before .before in
-    let f = fits (o .before .before .before .before .before) in
-    let z = size-is o in
-    let k = c .before .before .before .before .before .before .parent-rows .kept in
-    let r = s .pre .0 .0 .across≥ in
-    record { times≥ = omega arith; step≤ = omega arith; from≤ = omega arith; out≤ = omega arith }
-
-near-rows-requires : tie.Need-near-rows-requires
-near-rows-requires c κs =
-    let d = c .before .before .before .before in
-    let o = d .before .before .before .before .before .before .before .before .before .before in
-    let t = o .before .before .before .before .before in
+place-requires : tie.Need-place-requires
+place-requires c κs =
+    let o = c .before .before .before .before .before .before .before .before .before .before in
+    let t = o .before .before .before .before .before .before in
     let s = t .before .before .before .before .before in
-    let f = fits t in
-    let k = d .before .before .before .before .before .before .before .parent-rows .kept in
-    rw (wide-is o) ((s .pre .0 .0, deep t .0, deep t .1), (omega (arith, f .2, k, d .slide .kept), omega (arith, f .0, k)))
+    let a = s .args in
+    rw (scratch-length (c .before .before .before .before), o .before .before .before .before .across-at .ensures, o .before .before .before .up-at .ensures, o .before .before .ratio .ensures, o .before .rows-at .ensures)
+    (near-place-in (a .plan) (s .pre .0 .0) (a .cells .now) (a .fine) (s .pre .0 .1) (has t) (s .pre .1 .0) (s .pre .1 .1))
+
+firsts-requires : tie.Need-firsts-requires
+firsts-requires c κs =
+    let t = c .before .before .before .before .before .before .before .before .before .before .before .before .before .before .before .before .before .before .before .before .before in
+    let s = t .before .before .before .before .before in
+    rw (c .before .before .before .before .before .before .before .before .before .before .before .before .before .before .before .before .before .before .before .across-at .ensures) (across-in (s .args .plan) (s .pre .0 .0) _ (deep t .1))
+
+cast-windows : tie.Need-cast-windows
+cast-windows c = search needs
+
+firsts-requires-2 : tie.Need-firsts-requires-2
+firsts-requires-2 c κs =
+    let t = c .before .before .before .before .before .before .before .before .before .before .before .before .before .before .before .before .before .before .before .before .before .before in
+    let s = t .before .before .before .before .before in
+    rw (c .before .before .before .before .before .before .before .before .before .before .before .before .before .before .before .before .before .before .before .up-at .ensures) (up-in (s .args .plan) (s .pre .0 .0) _ (deep t .1))
+
+cast-windows-2 : tie.Need-cast-windows-2
+cast-windows-2 c = search needs
+
+-- the rows are placed, and as many bytes are lent
+near-length : (c : tie.After-place) → length (c .place .last .1 .1 .1 .1 .1 .0) ≡ length (c .before .before .before .before .before .before .before .before .before .before .before .before .before .before .before .before .before .before .before .before .before .before .args .near .now)
+near-length c = ap length (c .place .ensures) ∙ filled-length _ _ _ _
+
+-- how many places there are
+columns : (c : tie.After-firsts2) → let a = c .before .before .before .before .before .before .before .before .before .before .before .before .before .before .before .before .before .before .before .before .before .before .before .before .before .before .before .before .args in c .before .firsts .result ≡ firsts (acrossAt (a .plan) (ancestorLevel (a .plan) (a .fine)))
+columns c = c .before .firsts .ensures ∙ ap firsts (c .before .before .before .before .before .before .before .before .before .before .before .before .before .before .before .before .before .before .before .before .before .across-at .ensures)
+
+rows : (c : tie.After-firsts2) → let a = c .before .before .before .before .before .before .before .before .before .before .before .before .before .before .before .before .before .before .before .before .before .before .before .before .before .before .before .before .args in c .firsts2 .result ≡ firsts (upAt (a .plan) (ancestorLevel (a .plan) (a .fine)))
+rows c = c .firsts2 .ensures ∙ ap firsts (c .before .before .before .before .before .before .before .before .before .before .before .before .before .before .before .before .before .before .before .before .up-at .ensures)
+
+windows-requires : tie.Need-windows-requires
+windows-requires c κs =
+    let t = c .before .before .before .before .before .before .before .before .before .before .before .before .before .before .before .before .before .before .before .before .before .before .before in
+    let s = t .before .before .before .before .before in
+    let a = s .args in
+    rw (scratch-length (c .before .before .before .before .before .before .before .before .before .before .before), near-length (c .before .before .before .before .before .before), columns c, rows c, c .before .before .before .before .before .before .before .before .before .before .before .before .before .before .before .before .before .before .before .ratio .ensures)
+    (near-level-in (a .plan) (s .pre .0 .0) (a .cells .now) (a .fine) (s .pre .0 .1) (has t) (s .pre .1 .0) (s .pre .1 .1))
 
 same-length : tie.Need-same-length
 same-length c = search needs
@@ -128,19 +182,19 @@ same-length-2 c = search needs
 
 returns : tie.Need-returns
 returns c =
-    let n = c .before .before in
-    let d = n .before .before .before .before .before in
-    let m = d .before .before .before .before .before .before .before in
-    let o = m .before .before .before in
-    let t = o .before .before .before .before .before in
+    let w = c .before .before .before .before in
+    let f = w .before in
+    let n = f .before .before .before .before .before .before in
+    let r = n .before .before .before .before .before in
+    let o = r .before .before .before .before .before .before in
+    let t = o .before .before .before .before .before .before in
     let s = t .before .before .before .before .before in
     let a = s .args in
-    let f = fits t in
-    let k = m .parent-rows .kept in
-    let q : rowsAt (a .plan) (ancestorLevel (a .plan) (a .fine) - 1) * nearWide (a .plan) (ancestorLevel (a .plan) (a .fine)) - 2 * a .plan .«degree_across» + 2 * a .plan .«degree_across» * 1
-    ≡ rowsAt (a .plan) (ancestorLevel (a .plan) (a .fine) - 1) * nearWide (a .plan) (ancestorLevel (a .plan) (a .fine)) = omega (arith, f .4) in
-    let slides = rw q at (rw (size-is o) at (d .slide .ensures)) in
-    near-table (a .plan) (s .pre .0 .0) (a .cells .now) (a .fine) (s .pre .0 .1) (test t) _ _ _ (a .near .now) _ (m .parent-rows .ensures) (f .1) slides (omega (arith, f .2, k)) (rw (wide-is o) at (n .near-rows .ensures)) (omega (arith, f .0, k))
+    let spread = rw (o .before .before .before .before .across-at .ensures, o .before .before .before .up-at .ensures, o .before .before .ratio .ensures, o .before .rows-at .ensures) at (n .place .ensures) in
+    let made = rw (columns f, rows f, o .before .before .ratio .ensures) at (w .windows .ensures) _ _ spread
+    ∙ filled-same 0 _ _ _ _ (λ i u v. near-windows (a .plan) (s .pre .0 .0) (ancestorLevel (a .plan) (a .fine)) (deep t .0) (deep t .1) (a .cells .now) _ (a .scratch .now) (o .cell-offset .ensures) (size o) (r .repeat .ensures)
+    (near-repeat-in (a .plan) (s .pre .0 .0) (a .cells .now) (a .fine) (s .pre .0 .1) (has t) (s .pre .1 .0)) refl refl i) in
+    near-table (a .plan) (s .pre .0 .0) (a .cells .now) (a .fine) (s .pre .0 .1) (test t) _ (a .near .now) (s .pre .1 .1) made
 
 returns-2 : tie.Need-returns-2
 returns-2 c =
@@ -155,19 +209,29 @@ neighbourhoods-spec =
     sub-level
     sub-level-2
     across-at-requires
-    mul-more
-    cast-more
-    firsts-requires
-    cast-width
-    add-width
-    sub-rows-at
+    up-at-requires
+    ratio-requires
+    sub-above
     rows-at-requires
-    cast-rows
-    parent-rows-requires
-    mul-slide
-    sub-slide
-    slide-requires
-    near-rows-requires
+    cell-offset-requires
+    cast-here
+    mul-across
+    cast-across
+    mul-up
+    sub-up
+    add-up
+    cast-up
+    sub-repeat
+    part-repeat-start
+    part-repeat-end
+    mul-repeat
+    repeat-requires
+    place-requires
+    firsts-requires
+    cast-windows
+    firsts-requires-2
+    cast-windows-2
+    windows-requires
     same-length
     same-length-2
     returns

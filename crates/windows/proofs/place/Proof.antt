@@ -18,13 +18,13 @@ use Rattle.windows.proofs.place.Statement.{statement}
 use Rattle.windows.proofs.place.Tie as tie
 
 abbrev Inv-loop : tie.InvT-loop
-Inv-loop across up from out₀ more columns width high rows first₀ row₀ out first row =
-    (row ≤ up .cells) × (first ≡ row * across .cells) × (length out ≡ length out₀)
-    × ((xs : List ℕ) → out₀ ≡ filled 0 (firsts up * (firsts across + more)) (tableTo across up from more 0) xs
-    → out ≡ filled 0 (firsts up * (firsts across + more)) (tableTo across up from more row) xs)
+Inv-loop across up step rows from out₀ more columns width high first₀ row₀ out first row =
+    (row ≤ rows) × (first ≡ row * across .cells) × (length out ≡ length out₀)
+    × ((xs : List ℕ) → out₀ ≡ filled 0 (firsts up * (firsts across + more)) (tableTo across up step from more 0) xs
+    → out ≡ filled 0 (firsts up * (firsts across + more)) (tableTo across up step from more row) xs)
 
 abbrev μ-loop : tie.MeasureT-loop
-μ-loop across up from out₀ more columns width high rows first₀ row₀ out first row = up .cells - row
+μ-loop across up step rows from out₀ more columns width high first₀ row₀ out first row = rows - row
 
 cast-columns : tie.Need-cast-columns Inv-loop μ-loop
 cast-columns c = search needs
@@ -68,10 +68,10 @@ fill-requires c κs = omega (arith, sized (c .before), room (c .before .before .
 
 -- where the loop starts
 started : (c : tie.After-fill Inv-loop μ-loop) → let a = c .before .before .before .before .before .before .before .args in
-    c .fill .last .0 ≡ filled 0 (firsts (a .up) * (firsts (a .across) + a .more)) (tableTo (a .across) (a .up) (a .from .now) (a .more) 0) (a .out .now)
+    c .fill .last .0 ≡ filled 0 (firsts (a .up) * (firsts (a .across) + a .more)) (tableTo (a .across) (a .up) (a .step) (a .from .now) (a .more) 0) (a .out .now)
 started c =
     let a = c .before .before .before .before .before .before .before .args in
-    table-start (a .across) (a .up) (a .from .now) (a .more) _ (a .out .now) _ (rw (sized (c .before .before)) at (c .fill .ensures))
+    table-start (a .across) (a .up) (a .step) (a .from .now) (a .more) _ (a .out .now) _ (rw (sized (c .before .before)) at (c .fill .ensures))
 
 start-length : (c : tie.After-fill Inv-loop μ-loop) → length (c .fill .last .0) ≡ length (c .before .before .before .before .before .before .before .args .out .now)
 start-length c = ap length (started c) ∙ filled-length _ _ _ _
@@ -79,20 +79,29 @@ start-length c = ap length (started c) ∙ filled-length _ _ _ _
 loop-holds : tie.Need-loop-holds Inv-loop μ-loop
 loop-holds c = (omega arith, omega arith, refl, λ xs e. e)
 
+-- the row has a place
+stepped : (c : tie.In-loop Inv-loop μ-loop) → let a = c .before .before .before .before .before .before .before .before .before .before .before .args in c .before .loop .row * a .step < a .up .cells
+stepped c =
+    let s = c .before .before .before .before .before .before .before .before .before .before .before in
+    omega (arith, mul-le-mul-right (s .args .step) (c .loop-test .taken), s .pre .rows≤, s .pre .step≥)
+
+mul-first-over : tie.Need-mul-first-over Inv-loop μ-loop
+mul-first-over c = omega (arith, stepped c, c .before .before .before .before .before .before .before .before .before .before .before .pre .up-in .cells≤)
+
 first-over-requires : tie.Need-first-over-requires Inv-loop μ-loop
-first-over-requires c κs = (c .before .before .before .before .before .before .before .before .before .before .before .pre .up-in, c .loop-test .taken)
+first-over-requires c κs = (c .before .before .before .before .before .before .before .before .before .before .before .pre .up-in, stepped c)
 
 cast-at : tie.Need-cast-at Inv-loop μ-loop
 cast-at c = search needs
 
 -- where the row stands
 stands : (c : tie.After-first-over Inv-loop μ-loop) → let a = c .before .before .before .before .before .before .before .before .before .before .before .before .args in
-    c .first-over .result * (c .before .before .before .before .before .before .before .before .firsts .result + a .more) ≡ firstOver (a .up) (c .before .before .loop .row) * (firsts (a .across) + a .more)
+    c .first-over .result * (c .before .before .before .before .before .before .before .before .firsts .result + a .more) ≡ firstOver (a .up) (c .before .before .loop .row * a .step) * (firsts (a .across) + a .more)
 stands c = let m = c .before .before .before .before .before .before .before .before .before .before .before .before .args .more in λ i. c .first-over .ensures i * (c .before .before .before .before .before .before .before .before .firsts .ensures i + m)
 
 -- both parts lie in their tables
 lies : (c : tie.After-first-over Inv-loop μ-loop) → let a = c .before .before .before .before .before .before .before .before .before .before .before .before .args in let l = c .before .before .loop in
-    (firstOver (a .up) (l .row) * (firsts (a .across) + a .more) + (firsts (a .across) + a .more) ≤ firsts (a .up) * (firsts (a .across) + a .more))
+    (firstOver (a .up) (l .row * a .step) * (firsts (a .across) + a .more) + (firsts (a .across) + a .more) ≤ firsts (a .up) * (firsts (a .across) + a .more))
     × (firsts (a .up) * (firsts (a .across) + a .more) ≤ length (l .out)) × (l .row * a .across .cells + a .across .cells ≤ length (a .from .now))
 lies c =
     let s = c .before .before .before .before .before .before .before .before .before .before .before .before in
@@ -101,7 +110,7 @@ lies c =
     let w : ℕ = firsts (a .across) + a .more in
     let t = c .before .loop-test .taken in
     let r = room s in (
-      omega (arith, mul-le-mul-right (firsts (a .across) + a .more) (first-lt (a .up) (s .pre .up-in) (l .row) t)),
+      omega (arith, mul-le-mul-right (firsts (a .across) + a .more) (first-lt (a .up) (s .pre .up-in) (l .row * a .step) (stepped (c .before)))),
       omega (arith, r, l .inv .2, start-length (c .before .before .before .before .before)),
       omega (arith, mul-le-mul-right (a .across .cells) t, s .pre .from≤),
     )
@@ -129,12 +138,12 @@ part-place-row-end-2 c = search needs
 
 -- the table so far
 made : (c : tie.After-first-over Inv-loop μ-loop) → let a = c .before .before .before .before .before .before .before .before .before .before .before .before .args in let l = c .before .before .loop in
-    l .out ≡ filled 0 (firsts (a .up) * (firsts (a .across) + a .more)) (tableTo (a .across) (a .up) (a .from .now) (a .more) (l .row)) (a .out .now)
+    l .out ≡ filled 0 (firsts (a .up) * (firsts (a .across) + a .more)) (tableTo (a .across) (a .up) (a .step) (a .from .now) (a .more) (l .row)) (a .out .now)
 made c = c .before .before .loop .inv .3 _ (started (c .before .before .before .before .before))
 
 -- nothing stands at the row's place
 empty : (c : tie.After-first-over Inv-loop μ-loop) → let a = c .before .before .before .before .before .before .before .before .before .before .before .before .args in let l = c .before .before .loop in
-    (i : ℕ) → i < firsts (a .across) → getD (l .out) (firstOver (a .up) (l .row) * (firsts (a .across) + a .more) + i) 0 ≡ 2
+    (i : ℕ) → i < firsts (a .across) → getD (l .out) (firstOver (a .up) (l .row * a .step) * (firsts (a .across) + a .more) + i) 0 ≡ 2
 unfolding filled
 empty c i m =
     let s = c .before .before .before .before .before .before .before .before .before .before .before .before in
@@ -142,12 +151,12 @@ empty c i m =
     let l = c .before .before .loop in
     let b = lies c in
     let r = room s in
-    let t : ℕ = firstOver (a .up) (l .row) * (firsts (a .across) + a .more) + i in
+    let t : ℕ = firstOver (a .up) (l .row * a .step) * (firsts (a .across) + a .more) + i in
     let long : length (l .out) ≡ length (a .out .now) = ap length (made c) ∙ filled-length _ _ _ _ in
-    ap (λ z. getD z (firstOver (a .up) (l .row) * (firsts (a .across) + a .more) + i) 0) (made c)
-    ∙ (mapped-at _ (a .out .now) (firstOver (a .up) (l .row) * (firsts (a .across) + a .more) + i) (omega arith)
-    ∙ rw (run-in 0 (firsts (a .up) * (firsts (a .across) + a .more)) (firstOver (a .up) (l .row) * (firsts (a .across) + a .more) + i) (omega arith) (omega arith))
-    (table-fresh (a .across) (a .up) (a .from .now) (a .more) (s .pre .up-in .sized) (l .row) (omega arith) i m))
+    ap (λ z. getD z (firstOver (a .up) (l .row * a .step) * (firsts (a .across) + a .more) + i) 0) (made c)
+    ∙ (mapped-at _ (a .out .now) (firstOver (a .up) (l .row * a .step) * (firsts (a .across) + a .more) + i) (omega arith)
+    ∙ rw (run-in 0 (firsts (a .up) * (firsts (a .across) + a .more)) (firstOver (a .up) (l .row * a .step) * (firsts (a .across) + a .more) + i) (omega arith) (omega arith))
+    (table-fresh (a .across) (a .up) (a .step) (a .from .now) (a .more) (s .pre .up-in .sized) (s .pre .step≥) (l .row) (omega arith) i m))
 
 place-row-requires : tie.Need-place-row-requires Inv-loop μ-loop
 place-row-requires c κs =
@@ -181,11 +190,11 @@ loop-again c =
     let b = lies o in
     let r = room s in
     let at : ℕ = o .first-over .result * (o .before .before .before .before .before .before .before .before .firsts .result + a .more) in
-    let row = c .before .before .place-row .ensures ∙ filled-same 0 _ _ _ _ (λ i u v. row-part (a .across) (a .up) (a .from .now) (a .more) (l .first) (l .row) i (l .inv .1)) in
-    let next : (xs : List ℕ) → o .before .before .before .before .before .fill .last .0 ≡ filled 0 (firsts (a .up) * (firsts (a .across) + a .more)) (tableTo (a .across) (a .up) (a .from .now) (a .more) 0) xs
+    let row = c .before .before .place-row .ensures ∙ filled-same 0 _ _ _ _ (λ i u v. row-part (a .across) (a .up) (a .step) (a .from .now) (a .more) (l .first) (l .row) i (l .inv .1)) in
+    let next : (xs : List ℕ) → o .before .before .before .before .before .fill .last .0 ≡ filled 0 (firsts (a .up) * (firsts (a .across) + a .more)) (tableTo (a .across) (a .up) (a .step) (a .from .now) (a .more) 0) xs
     → putMid (o .first-over .result * (o .before .before .before .before .before .before .before .before .firsts .result + a .more)) (length (l .out) - o .first-over .result * (o .before .before .before .before .before .before .before .before .firsts .result + a .more)) (l .out) (c .before .before .place-row .last .1 .1 .0)
-    ≡ filled 0 (firsts (a .up) * (firsts (a .across) + a .more)) (tableTo (a .across) (a .up) (a .from .now) (a .more) (l .row + 1)) xs =
-    λ xs e. rw (stands o, add-one (l .row)) (table-next (a .across) (a .up) (a .from .now) (a .more) (s .pre .up-in .sized) (l .row) (omega arith) _ xs (l .out) _ (l .inv .3 xs e) (omega arith) (omega arith) (rw (stands o) at row)) in
+    ≡ filled 0 (firsts (a .up) * (firsts (a .across) + a .more)) (tableTo (a .across) (a .up) (a .step) (a .from .now) (a .more) (l .row + 1)) xs =
+    λ xs e. rw (stands o, add-one (l .row)) (table-next (a .across) (a .up) (a .step) (a .from .now) (a .more) (s .pre .up-in .sized) (s .pre .step≥) (l .row) (omega arith) _ xs (l .out) _ (l .inv .3 xs e) (omega arith) (omega arith) (rw (stands o) at row)) in
     (omega arith, omega (arith, l .inv .1), ap length (next _ (started (o .before .before .before .before .before))) ∙ (filled-length _ _ _ _ ∙ sym (start-length (o .before .before .before .before .before))), next)
 
 same-length : tie.Need-same-length Inv-loop μ-loop
@@ -195,8 +204,8 @@ returns : tie.Need-returns Inv-loop μ-loop
 returns c =
     let a = c .before .before .before .before .before .before .before .before .before .before .before .args in
     let l = c .before .loop in
-    let q : l .row ≡ a .up .cells = omega arith in
-    rw q at (l .inv .3 _ (started (c .before .before .before .before))) ∙ filled-same 0 _ _ _ _ (λ t u v. table-all (a .across) (a .up) (a .from .now) (a .more) t)
+    let q : l .row ≡ a .rows = omega arith in
+    rw q at (l .inv .3 _ (started (c .before .before .before .before))) ∙ filled-same 0 _ _ _ _ (λ t u v. table-all (a .across) (a .up) (a .step) (a .from .now) (a .more) (a .rows) t)
 
 pub place-spec : {M : Type 1} → statement M
 place-spec =
@@ -213,6 +222,7 @@ place-spec =
     mul-fill
     fill-requires
     loop-holds
+    mul-first-over
     first-over-requires
     cast-at
     mul-at

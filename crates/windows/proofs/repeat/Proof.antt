@@ -1,4 +1,4 @@
--- `windows::parents_row` meets its contract. Assumes nothing.
+-- `windows::repeat` meets its contract. Assumes nothing.
 use mathlib.Core.Path.{_≡_, refl, ap}
 use Prim.Native.Nat.{ℕ, _-_, _≤_}
 use native.Mathlib.Omega.{arith}
@@ -6,12 +6,12 @@ use borrow.Author.Needs.{needs}
 use lib.ListN.{length, getD}
 use Rattle.facts.specs.Mapped.{filled}
 use Rattle.facts.proofs.Mapped.{filled-none, fill-length, fill-next}
-use Rattle.windows.specs.Near.{parentsRow}
-use Rattle.windows.proofs.parents_row.Statement.{statement}
-use Rattle.windows.proofs.parents_row.Tie as tie
+use Rattle.windows.specs.Near.{repeated}
+use Rattle.windows.proofs.repeat.Statement.{statement}
+use Rattle.windows.proofs.repeat.Tie as tie
 
 abbrev Inv-loop : tie.InvT-loop
-Inv-loop plan from out₀ n x₀ out x = (x ≤ n) × (length out ≡ length out₀) × (out ≡ filled 0 x (parentsRow plan from) out₀)
+Inv-loop plan from out₀ n x₀ out x = (x ≤ n) × (length out ≡ length out₀) × (out ≡ filled 0 x (repeated plan from) out₀)
 
 abbrev μ-loop : tie.MeasureT-loop
 μ-loop plan from out₀ n x₀ out x = n - x
@@ -42,7 +42,7 @@ loop-less : tie.Need-loop-less Inv-loop μ-loop
 loop-less c = omega arith
 
 loop-again : tie.Need-loop-again Inv-loop μ-loop
-unfolding parentsRow
+unfolding repeated
 loop-again c =
     let s = c .before .before .before .before .before .before in
     let o = s .pre .out≤ in
@@ -55,8 +55,8 @@ same-length c = c .before .loop .inv .1
 returns : tie.Need-returns Inv-loop μ-loop
 returns c = let q : c .before .loop .x ≡ c .before .before .before .before .args .n = omega arith in rw q at (c .before .loop .inv .2)
 
-pub parents-row-spec : {M : Type 1} → statement M
-parents-row-spec =
+pub repeat-spec : {M : Type 1} → statement M
+repeat-spec =
     tie.close
     (tie.spec
     Inv-loop
