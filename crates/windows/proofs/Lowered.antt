@@ -2,15 +2,17 @@
 use mathlib.Core.Path.{_≡_, refl, sym, ap, _∙_}
 use mathlib.Core.Bool.{true, false, cond}
 use mathlib.Core.List.{List}
-use Prim.Native.Nat.{ℕ, min, _+_, _-_, _*_, _≤_, _<_}
-use native.Mathlib.Nat.{min-eq-left, min-le-left, min-le-right}
+use Prim.Native.Nat.{ℕ, zero, suc, min, _+_, _-_, _*_, _≤_, _<_}
+use native.Mathlib.Nat.{le-refl, le-trans, le-antisymm, le-of-eq, min-eq-left, min-le-left, min-le-right, mul-le-mul-right}
 use native.Mathlib.Omega.{arith}
+use lib.Dec.{leb, ltb, leb→le, nleb→lt, ltb→lt, nltb→le}
 use lib.ListN.{length, getD, set, length-set}
+use Rattle.facts.proofs.Tests.{cases}
 use lib.Seq.{getD-set-same, getD-set-other}
 use borrow.Rule.Slice.PartMut.{putMid, midOf}
 use Rattle.facts.specs.Least.{least}
 use Rattle.facts.specs.Mapped.{inRun, mapped, filled}
-use Rattle.facts.proofs.Least.{least-top}
+use Rattle.facts.proofs.Least.{least-le, least-top, least-ge}
 use Rattle.facts.proofs.Ranges.{least-more}
 use Rattle.facts.proofs.Mapped.{run-in, run-before, run-after, run-e, part-at, mapped-length, mapped-at, mapped-is, mapped-more, mapped-part}
 use Rattle.windows.specs.Windows.{always, lowered, leastOf, moved, slid}
@@ -146,3 +148,98 @@ module _ (from : List ℕ) (n step : ℕ) (s : step ≤ n) where
   pub pair-rest : (j : ℕ) → always 2 j ≡ slid from n step 2 (n + step + j)
   unfolding always
   pair-rest j = both-there (n + step + j) 2 2 (moved-out from n 0 (n + step + j) (run-after 0 n (n + step + j) (omega arith))) (moved-out from n step (n + step + j) (run-after step n (n + step + j) (omega arith)))
+
+-- ---- windows of windows
+
+module _ (from xs made : List ℕ) (n step h c : ℕ) (few : c ≤ h + 1) (e : made ≡ filled 0 (n + h * step) (slid from n step (h + 1)) xs) (l : n + h * step ≤ length xs) where
+  abbrev N : ℕ
+  N = n + h * step
+
+  -- nothing stands after the last
+  slid-after : (t : ℕ) → n + h * step ≤ t → slid from n step (h + 1) t ≡ 2
+  unfolding slid
+  slid-after t g = le-antisymm (least-top 2 _ _) (least-ge 2 _ _ 2 (le-refl 2) (λ d m.
+      let k = mul-le-mul-right step m in
+      rw (moved-out from n (d * step) t (run-after (d * step) n t (omega arith))) (le-refl 2)))
+
+  made-at : (t : ℕ) → t < n + h * step → getD made t 0 ≡ slid from n step (h + 1) t
+  unfolding filled
+  made-at t m = ap (λ z. getD z t 0) e ∙ (mapped-at _ xs t (omega arith) ∙ rw (run-in 0 (n + h * step) t (omega arith) (omega arith)))
+
+  moved-made : (o t : ℕ) → o ≤ t → moved made (n + h * step) o t ≡ slid from n step (h + 1) (t - o)
+  moved-made o t g = run-e o (n + h * step) t
+      (λ u. absurd (omega arith))
+      (λ u v. moved-in made (n + h * step) o t (run-in o (n + h * step) t u v) ∙ made-at (t - o) (omega arith))
+      (λ u. moved-out made (n + h * step) o t (run-after o (n + h * step) t u) ∙ sym (slid-after (t - o) (omega arith)))
+
+  -- a term of the one is a term of the other, moved
+  moved-on : (d t : ℕ) → c * step ≤ t → moved from n (d * step) (t - c * step) ≡ moved from n ((d + c) * step) t
+  moved-on d t g = run-e (d * step) n (t - c * step)
+      (λ u. moved-out from n (d * step) (t - c * step) (run-before (d * step) n (t - c * step) u) ∙ sym (moved-out from n ((d + c) * step) t (run-before ((d + c) * step) n t (omega arith))))
+      (λ u v.
+      let q : t - c * step - d * step ≡ t - (d + c) * step = omega arith in
+      moved-in from n (d * step) (t - c * step) (run-in (d * step) n (t - c * step) u v)
+      ∙ (ap (λ (m : ℕ). getD from m 0) q ∙ sym (moved-in from n ((d + c) * step) t (run-in ((d + c) * step) n t (omega arith) (omega arith)))))
+      (λ u. moved-out from n (d * step) (t - c * step) (run-after (d * step) n (t - c * step) u) ∙ sym (moved-out from n ((d + c) * step) t (run-after ((d + c) * step) n t (omega arith))))
+
+  abbrev whole : ℕ → ℕ
+  whole t = slid from n step (h + 1 + c) t
+
+  abbrev twofold : ℕ → ℕ
+  twofold t = slid made (n + h * step) (c * step) 2 t
+
+  -- the windows that end at t and c steps before it
+  first-is : (t : ℕ) → moved made (n + h * step) (0 * (c * step)) t ≡ slid from n step (h + 1) t
+  first-is t =
+      let z : 0 * (c * step) ≡ 0 = omega arith in
+      ap (λ (o : ℕ). moved made (n + h * step) o t) z ∙ (moved-made 0 t (omega arith) ∙ ap (slid from n step (h + 1)) (sub-zero t))
+
+  second-is : (t : ℕ) → c * step ≤ t → moved made (n + h * step) (1 * (c * step)) t ≡ slid from n step (h + 1) (t - c * step)
+  second-is t g = let z : 1 * (c * step) ≡ c * step = omega arith in ap (λ (o : ℕ). moved made (n + h * step) o t) z ∙ moved-made (c * step) t g
+
+  term-le : (k d t : ℕ) → d < k → slid from n step k t ≤ moved from n (d * step) t
+  unfolding slid
+  term-le k d t m = least-le 2 k (λ d. moved from n (d * step) t) d m
+
+  two-le : (d t : ℕ) → d < 2 → twofold t ≤ moved made (n + h * step) (d * (c * step)) t
+  unfolding slid
+  two-le d t m = least-le 2 2 (λ d. moved made (n + h * step) (d * (c * step)) t) d m
+
+  slid-top : (k t : ℕ) → slid from n step k t ≤ 2
+  unfolding slid
+  slid-top k t = least-top 2 k _
+
+  two-top : (t : ℕ) → twofold t ≤ 2
+  unfolding slid
+  two-top t = least-top 2 2 _
+
+  below : (t d : ℕ) → d < h + 1 + c → twofold t ≤ moved from n (d * step) t
+  below t d m = cases (ltb d (h + 1))
+      (λ u. le-trans (two-le 0 t (omega arith)) (rw (first-is t) (term-le (h + 1) d t (ltb→lt d (h + 1) u))))
+      (λ u.
+      let g : h + 1 ≤ d = nltb→le d (h + 1) u in
+      let q : d - c + c ≡ d = omega arith in
+      cases (leb (c * step) t)
+      (λ v.
+      let w : c * step ≤ t = leb→le (c * step) t v in
+      le-trans (two-le 1 t (omega arith)) (rw (second-is t w) (le-trans (term-le (h + 1) (d - c) (t - c * step) (omega arith)) (le-of-eq (moved-on (d - c) t w ∙ ap (λ (k : ℕ). moved from n (k * step) t) q)))))
+      (λ v.
+      let w : t < c * step = nleb→lt (c * step) t v in
+      let k : c ≤ d = omega arith in
+      rw (moved-out from n (d * step) t (run-before (d * step) n t (omega (arith, mul-le-mul-right step k)))) (two-top t)))
+
+  above : (t d : ℕ) → d < 2 → whole t ≤ moved made (n + h * step) (d * (c * step)) t
+  unfolding slid
+  above t zero m = rw (first-is t) (least-ge 2 (h + 1) _ _ (slid-top (h + 1 + c) t) (λ d k. term-le (h + 1 + c) d t (omega arith)))
+  above t (suc zero) m = cases (leb (c * step) t)
+      (λ v.
+      let w : c * step ≤ t = leb→le (c * step) t v in
+      rw (second-is t w) (least-ge 2 (h + 1) _ _ (slid-top (h + 1 + c) t) (λ d k. rw (moved-on d t w) (term-le (h + 1 + c) (d + c) t (omega arith)))))
+      (λ v.
+      let w : t < c * step = nleb→lt (c * step) t v in
+      rw (moved-out made (n + h * step) (1 * (c * step)) t (run-before (1 * (c * step)) (n + h * step) t (omega arith))) (slid-top (h + 1 + c) t))
+  above t (suc (suc d)) m = absurd (omega arith)
+
+  pub slid-twice : (t : ℕ) → slid made (n + h * step) (c * step) 2 t ≡ slid from n step (h + 1 + c) t
+  unfolding slid
+  slid-twice t = le-antisymm (least-ge 2 (h + 1 + c) _ _ (two-top t) (below t)) (least-ge 2 2 _ _ (slid-top (h + 1 + c) t) (above t))

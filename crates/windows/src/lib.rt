@@ -82,6 +82,17 @@ fn slide(from: &[u8], out: &mut [u8], n: usize, step: usize, times: usize)
     }
 }
 
+// The same in the table itself, in fewer passes: windows of half as many entries, and of these the two that make up the whole.
+fn slide_twice(table: &mut [u8], other: &mut [u8], n: usize, step: usize, times: usize)
+    requires { ⌜ (SlideIn (length (now table)) (length (now other)) n step times) × (n + times * step ≤ length (now table)) ⌝ }
+    ensures { λ _. ⌜ now (table .exit) ≡ filled 0 (n + times * step) (slid (now (table .entry)) n step (times + 1)) (now (table .entry)) ⌝ }
+{
+    let rest = times / 2;
+    let half = times - rest;
+    slide(table, other, n, step, half);
+    slide(other, table, n + half * step, rest * step, 1);
+}
+
 // A row, with 2 in the columns after it.
 fn spread_row(from: &[u8], out: &mut [u8], columns: usize, across: usize)
     requires { ⌜ (columns ≤ length (now from)) × (columns + across ≤ length (now out)) ⌝ }
@@ -164,6 +175,24 @@ fn windows(
     let size = rows * width;
     slide(out, scratch, size - across, 1, across);
     slide(scratch, out, size, width, up);
+}
+
+// The same, where both tables are large enough for the windows: those of neighbourhoods are twice as wide as others.
+fn wide_windows(
+    scratch: &mut [u8],
+    out: &mut [u8],
+    columns: usize,
+    rows: usize,
+    across: usize,
+    up: usize,
+)
+    requires { ⌜ (LevelIn (length (now scratch)) (length (now out)) columns rows across up) × ((rows + up) * (columns + across) ≤ length (now scratch)) ⌝ }
+    ensures { λ _. ⌜ Windowed (now (out .entry)) (now (out .exit)) columns rows across up ⌝ }
+{
+    let width = columns + across;
+    let size = rows * width;
+    slide_twice(out, scratch, size - across, 1, across);
+    slide_twice(out, scratch, size, width, up);
 }
 
 // A level's cells, each where its first functions are: the least byte of the cells there and at most `up` rows and `across` columns before.
@@ -250,7 +279,7 @@ pub fn neighbourhoods(plan: Plan, cells: &[u8], fine: u32, scratch: &mut [u8], n
         let up = (2 * plan.degree_up + (step - 1)) as usize;
         repeat(plan, &cells[here..], scratch, coarse * columns.cells);
         place(columns, rows, step, coarse, scratch, near, across);
-        windows(
+        wide_windows(
             scratch,
             near,
             columns.firsts() as usize,

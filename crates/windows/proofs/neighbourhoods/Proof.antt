@@ -143,8 +143,8 @@ firsts-requires c κs =
     let s = t .before .before .before .before .before in
     rw (c .before .before .before .before .before .before .before .before .before .before .before .before .before .before .before .before .before .before .before .across-at .ensures) (across-in (s .args .plan) (s .pre .0 .0) _ (deep t .1))
 
-cast-windows : tie.Need-cast-windows
-cast-windows c = search needs
+cast-wide-windows : tie.Need-cast-wide-windows
+cast-wide-windows c = search needs
 
 firsts-requires-2 : tie.Need-firsts-requires-2
 firsts-requires-2 c κs =
@@ -152,8 +152,8 @@ firsts-requires-2 c κs =
     let s = t .before .before .before .before .before in
     rw (c .before .before .before .before .before .before .before .before .before .before .before .before .before .before .before .before .before .before .before .up-at .ensures) (up-in (s .args .plan) (s .pre .0 .0) _ (deep t .1))
 
-cast-windows-2 : tie.Need-cast-windows-2
-cast-windows-2 c = search needs
+cast-wide-windows-2 : tie.Need-cast-wide-windows-2
+cast-wide-windows-2 c = search needs
 
 -- the rows are placed, and as many bytes are lent
 near-length : (c : tie.After-place) → length (c .place .last .1 .1 .1 .1 .1 .0) ≡ length (c .before .before .before .before .before .before .before .before .before .before .before .before .before .before .before .before .before .before .before .before .before .before .args .near .now)
@@ -166,13 +166,15 @@ columns c = c .before .firsts .ensures ∙ ap firsts (c .before .before .before 
 rows : (c : tie.After-firsts2) → let a = c .before .before .before .before .before .before .before .before .before .before .before .before .before .before .before .before .before .before .before .before .before .before .before .before .before .before .before .before .args in c .firsts2 .result ≡ firsts (upAt (a .plan) (ancestorLevel (a .plan) (a .fine)))
 rows c = c .firsts2 .ensures ∙ ap firsts (c .before .before .before .before .before .before .before .before .before .before .before .before .before .before .before .before .before .before .before .before .up-at .ensures)
 
-windows-requires : tie.Need-windows-requires
-windows-requires c κs =
+wide-windows-requires : tie.Need-wide-windows-requires
+wide-windows-requires c κs =
     let t = c .before .before .before .before .before .before .before .before .before .before .before .before .before .before .before .before .before .before .before .before .before .before .before in
     let s = t .before .before .before .before .before in
     let a = s .args in
-    rw (scratch-length (c .before .before .before .before .before .before .before .before .before .before .before), near-length (c .before .before .before .before .before .before), columns c, rows c, c .before .before .before .before .before .before .before .before .before .before .before .before .before .before .before .before .before .before .before .ratio .ensures)
-    (near-level-in (a .plan) (s .pre .0 .0) (a .cells .now) (a .fine) (s .pre .0 .1) (has t) (s .pre .1 .0) (s .pre .1 .1))
+    rw (scratch-length (c .before .before .before .before .before .before .before .before .before .before .before), near-length (c .before .before .before .before .before .before), columns c, rows c, c .before .before .before .before .before .before .before .before .before .before .before .before .before .before .before .before .before .before .before .ratio .ensures) (
+      near-level-in (a .plan) (s .pre .0 .0) (a .cells .now) (a .fine) (s .pre .0 .1) (has t) (s .pre .1 .0) (s .pre .1 .1),
+      s .pre .1 .0 .enough _ (fine-level (a .plan) (s .pre .0 .0) (a .cells .now) (a .fine) (s .pre .0 .1) (has t) .1),
+    )
 
 same-length : tie.Need-same-length
 same-length c = search needs
@@ -191,7 +193,7 @@ returns c =
     let s = t .before .before .before .before .before in
     let a = s .args in
     let spread = rw (o .before .before .before .before .across-at .ensures, o .before .before .before .up-at .ensures, o .before .before .ratio .ensures, o .before .rows-at .ensures) at (n .place .ensures) in
-    let made = rw (columns f, rows f, o .before .before .ratio .ensures) at (w .windows .ensures) _ _ spread
+    let made = rw (columns f, rows f, o .before .before .ratio .ensures) at (w .wide-windows .ensures) _ _ spread
     ∙ filled-same 0 _ _ _ _ (λ i u v. near-windows (a .plan) (s .pre .0 .0) (ancestorLevel (a .plan) (a .fine)) (deep t .0) (deep t .1) (a .cells .now) _ (a .scratch .now) (o .cell-offset .ensures) (size o) (r .repeat .ensures)
     (near-repeat-in (a .plan) (s .pre .0 .0) (a .cells .now) (a .fine) (s .pre .0 .1) (has t) (s .pre .1 .0)) refl refl i) in
     near-table (a .plan) (s .pre .0 .0) (a .cells .now) (a .fine) (s .pre .0 .1) (test t) _ (a .near .now) (s .pre .1 .1) made
@@ -228,10 +230,10 @@ neighbourhoods-spec =
     repeat-requires
     place-requires
     firsts-requires
-    cast-windows
+    cast-wide-windows
     firsts-requires-2
-    cast-windows-2
-    windows-requires
+    cast-wide-windows-2
+    wide-windows-requires
     same-length
     same-length-2
     returns
