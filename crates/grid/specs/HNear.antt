@@ -1,6 +1,6 @@
 -- The grading rule before Req 12: document 01's, "the neighbourhood for the standard basis in Buffa and Giannelli's papers on admissible
--- meshes", which call it the H-neighbourhood; that of Req 12 is their T-neighbourhood, for truncated functions. No call uses it. It is here
--- for "Old graded walls pass" (crate mesh, HAdmissible.antt). Definitions only.
+-- meshes". The literature calls it the H-neighbourhood, and that of Req 12, for truncated functions, the T-neighbourhood. No call uses it.
+-- It is here for "Old graded walls pass" (crate mesh, HAdmissible.antt). Definitions only.
 use mathlib.Core.Bool.{Bool, not, _&&_}
 use Prim.Native.Nat.{ℕ, _+_, _-_}
 use lib.Dec.{ltb, eqb}
