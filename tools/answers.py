@@ -59,6 +59,7 @@ def words_top(text):
 
 
 ENSURES = {}
+SLICES = {}  # by a function's name: its parameters that are lent slices
 
 
 def contracts():
@@ -72,6 +73,8 @@ def contracts():
             end = re.search(r"\n\s*\{|\bfn \w", rest)
             head = rest[: end.start()] if end else rest
             labels = re.findall(r"\bensures(?:\s+(\w+))?\s*\{", head)
+            lent = re.findall(r"(\w+): &mut \[", head.split("requires")[0].split("ensures")[0])
+            SLICES.setdefault(m.group(1), set()).add(tuple(lent))
             ENSURES.setdefault(m.group(1), set()).add(tuple(labels))
 
 
@@ -98,30 +101,77 @@ def project(path_digits, n):
 class Function:
     def __init__(self, names, path, crate):
         self.n, self.path, self.crate = names, path, crate
+        self.at_new = {it[2][1] for it in names["places"] if it[2][1]}
+        self.at, self.arms, self.vars, self.here = {}, {}, set(), None
         self.step, self.callee, self.place, self.depth, self.parent = {}, {}, {}, {}, {}
-        for (old, parent, (f_old, f_new), callee, _), new in zip(names["places"], names["places_by_name"]):
+        for (old, parent, (f_old, f_new), callee, _), new, arm in zip(names["places"], names["places_by_name"], names["arms"]):
+            self.at[new] = (alike(f_old), f_new, arm)
             self.place.setdefault(alike(old), new)
             self.parent[new] = self.place.get(alike(parent)) if parent else None
             self.depth[new] = self.depth[self.parent[new]] + 1 if parent else 0
             if f_old:
                 key = alike(f_old)
-                if self.step.get(key, f_new) != f_new:
-                    print(f"look: {path}: two steps {f_old}: {self.step[key]}, {f_new}", file=sys.stderr)
-                else:
-                    self.step[key] = f_new
+                self.step.setdefault(key, f_new)
                 if callee:
                     self.callee[f_new] = callee
+        self.kept = {}
+        for (old, parent, (f_old, f_new), callee, kept), new in zip(names["places"], names["places_by_name"]):
+            if kept and all(it[1].startswith("long-") for it in kept):
+                self.kept[f_new] = [it[1][5:] for it in kept]
         self.needs = {alike(old): new for old, new in names["needs"]}
         self.goal_place = {new: at[1] for (_, new), at in zip(names["needs"], names["asked_at"])}
         self.helpers = {}
 
     # ---- paths
 
+    def look_up(self, key):
+        place = self.here
+        while place is not None:
+            old, new, arm = self.at[place]
+            if old == key:
+                return new, arm
+            place = self.parent.get(place)
+        return (self.step[key], None) if key in self.step and self.here is None else (None, None)
+
+    def of_step(self, new, parts):
+        """A step's field by label, where the older form counts: what it is now, and the parts that follow."""
+        if not parts:
+            return None
+        if new in self.kept and parts[0] == "auto" and len(parts) > 1 and re.fullmatch(r"\d", parts[1]):
+            return self.one_of("auto", self.kept[new], parts)
+        if new not in self.callee:
+            return None
+        name = self.callee[new].rsplit("::", 1)[-1]
+        if parts[0] == "ensures":
+            labels = labels_of(self.callee[new])
+            at = project(parts[1:], len(labels)) if len(labels) > 1 and parts[1:] else None
+            if at:
+                return ["ensures", labels[at[0]]], parts[1 + at[1] :]
+        elif parts[0] in ("auto", "new") and len(parts) > 1 and re.fullmatch(r"\d", parts[1]):
+            return self.one_of(parts[0], max(SLICES.get(name, {()}), key=len), parts)
+        return None
+
+    def one_of(self, word, lent, parts):
+        digits = parts[1:]
+        if len(lent) == 1:
+            while digits and re.fullmatch(r"\d", digits[0]):
+                digits = digits[1:]
+            return [word, lent[0]], digits
+        for i, it in enumerate(lent):
+            want = ["1"] * i + ["0"]
+            if digits[: len(want)] == want:
+                return [word, it], digits[len(want) :]
+            if digits[:1] == [str(i)]:
+                return [word, it], digits[1:]
+        return None
+
     def paths(self, text):
         pre = (self.n["pre"] or {}).get("fields", [])
 
         def one(m):
             head, rest = m.group(1), m.group(2)
+            if head not in self.vars:
+                return m.group(0)
             parts = rest.split(".")[1:]
             befores = 0
             while parts and parts[0] == "before":
@@ -131,20 +181,17 @@ class Function:
                 return m.group(0)
             out = [head]
             first = parts[0]
-            key = alike(first)
-            if key in self.step and first not in ("args", "requires", "ranges"):
-                new = self.step[key]
+            new, arm = self.look_up(alike(first)) if first not in ("args", "requires", "ranges") else (None, None)
+            if new:
+                if arm:
+                    for field, old_step, path in sorted(arm[2], key=lambda it: -len(it[2])):
+                        if alike(old_step) == alike(first) and path and parts[1 : 1 + len(path)] == path:
+                            return ".".join([head, arm[0], field] + parts[1 + len(path) :])
                 out.append(new)
                 parts = parts[1:]
-                if parts and parts[0] == "ensures" and new in self.callee:
-                    labels = labels_of(self.callee[new])
-                    if len(labels) > 1:
-                        at = project(parts[1:], len(labels))
-                        if at and parts[1:]:
-                            out += ["ensures", labels[at[0]]]
-                            parts = parts[1 + at[1] :]
-                        else:
-                            return self.plain(head, befores, out, parts)
+                tail = self.of_step(new, parts)
+                if tail:
+                    out, parts = out + tail[0], tail[1]
             elif first == "requires" and len(pre) > 1:
                 digits = parts[1:]
                 at = project(digits, len(pre))
@@ -155,7 +202,22 @@ class Function:
                 return m.group(0)
             return ".".join(out + parts)
 
-        return re.sub(rf"(?<![\w.'-])({WORD})((?:\.{WORD})+)", one, text)
+        text = re.sub(rf"(?<![\w.'-])({WORD})((?:\.{WORD})+)", one, text)
+        # a name for a step
+        for m in re.finditer(rf"\blet ({WORD}) = ({WORD})\.({WORD})(\.auto|\.ensures|\.new)? in", text):
+            if m.group(2) in self.vars and m.group(3) in self.at_new:
+                var, new, more = m.group(1), m.group(3), m.group(4)
+
+                def field(k, var=var, new=new, more=more):
+                    parts = k.group(2).split(".")[1:]
+                    if more:
+                        tail = self.of_step(new, [more[1:]] + parts)
+                        return ".".join([var] + tail[0][1:] + tail[1]) if tail else k.group(0)
+                    tail = self.of_step(new, parts)
+                    return ".".join([var] + tail[0] + tail[1]) if tail else k.group(0)
+
+                text = text[: m.end()] + re.sub(rf"(?<![\w.'-])({re.escape(var)})((?:\.{WORD})+)", field, text[m.end() :])
+        return text
 
     def plain(self, head, befores, out, parts):
         return ".".join(out + parts)
@@ -165,7 +227,14 @@ class Function:
         text = re.sub(rf"\blet ({WORD}) = ({WORD})(?:\.before)+ in", r"let \1 = \2 in", text)
         return text
 
-    def term(self, text):
+    def term(self, text, here=None, params=("c",)):
+        self.here = here
+        self.vars = {p for p in params}
+        for m in re.finditer(rf"\blet ({WORD}) = ({WORD})(?:\.before)* in", text):
+            if m.group(2) in self.vars:
+                self.vars.add(m.group(1))
+        for m in re.finditer(rf"\blet ({WORD}) = ({WORD})(?:\.before)*\.({WORD})(?:\.auto|\.ensures|)(?= in)", text):
+            pass
         # records handed to a lemma about a place
         for name, place in self.helpers.items():
             text = re.sub(
@@ -235,10 +304,16 @@ def clauses(body, labels):
     if not got:
         if re.search(r"\bsearch rules$", body.strip()):
             return body
+        m = re.match(r"([\s\S]*\bin\s+|)((?:omega|search|grind)\s[\s\S]*)$", body.strip())
+        if m and not re.search(r"\bin\b", m.group(2)):
+            return m.group(1) + "record { " + "; ".join(f"{l} = {m.group(2)}" for l in labels) + " }"
         return None
     before, parts = got
     while len(parts) < len(labels):
         last = parts[-1]
+        if re.match(r"(omega|search|grind)\b", last):
+            parts = parts + [last]
+            continue
         if last.startswith("(") and last.endswith(")"):
             more = split_top(last[1:-1])
             if len(more) < 2:
@@ -343,7 +418,7 @@ def turn(path, names, crate):
                 k += 1
                 continue
             raise Give(f"argument not understood: {a[:60]}")
-    available = {at[1] for at in names["asked_at"]} - {"Start"}
+    available = {at[1] for (_, goal), at in zip(names["needs"], names["asked_at"]) if "-requires" not in goal} - {"Start"}
 
     def above(place, of):
         while of is not None:
@@ -403,7 +478,7 @@ def turn(path, names, crate):
                 continue
             here = f.goal_place.get(new)
             c = params[0] if params else "c"
-            value = f.settle(f.term(rename_own(value)), here)
+            value = f.settle(f.term(rename_own(value), here, [c]), here)
             labels = own if new.startswith("returns") else names["asked"].get(new, names["asked"].get(renamed[name][0], []))
             for k_old, v in names["asked"].items():
                 if f.needs.get(alike(k_old)) == new or k_old == new:
@@ -419,8 +494,9 @@ def turn(path, names, crate):
             return t
 
         here = f.helpers.get(name)
-        t = f.settle(f.term(places_in(type_)), here)
-        v = f.settle(f.term(rename_own(value)), here)
+        bound = re.findall(rf"\(({WORD}) : tie\.", type_) or ["c"]
+        t = f.settle(f.term(places_in(type_), here, bound), here)
+        v = f.settle(f.term(rename_own(value), here, params), here)
         answers.append((said, f"{name} : {t}\n{unfold}{' '.join([name] + params)} = {v}"))
     for new, (params, value) in inline.items():
         here = f.goal_place.get(new)
@@ -428,7 +504,7 @@ def turn(path, names, crate):
         for k_old, v in names["asked"].items():
             if f.needs.get(alike(k_old)) == new or k_old == new:
                 labels = v
-        value = f.settle(f.term(rename_own(value)), here)
+        value = f.settle(f.term(rename_own(value), here, params[:1]), here)
         made = clauses(value, labels)
         if made is None:
             made = f"let whole = ({value}) in record {{ " + "; ".join(f"{l} = whole.{i}" for i, l in enumerate(labels)) + " }"

@@ -1,0 +1,17 @@
+-- `read_all` meets its contract: whoever reads what is left has read all the numbers. Assumes nothing.
+use mathlib.Core.Path.{◌≡◌, refl}
+use Prim.Native.Nat.{◌-◌, ◌≤◌}
+use native.Mathlib.Omega.{arith}
+use borrow.Author.Rules.{rules}
+use lib.ListN.{length, length-set}
+use Rattle.codec.proofs.Steps.{found, missing, Left, left_all, left_next, left_bad, left_none}
+use Rattle.codec.proofs.read_all.Reads as reads
+use Rattle.codec.proofs.read_all.Lts as lts
+use Rattle.codec.proofs.read.Reads as read-reads
+use Rattle.codec.proofs.read_all.Given as goal
+
+abbrev pub invariant-loop-i : goal.invariant-loop-i
+invariant-loop-i l = (length l.numbers ≡ length l.initial.numbers) × (l.at ≤ length l.s) × (l.i ≤ length l.numbers) × Left l.s l.initial.at (length l.initial.numbers) l.numbers l.at l.i
+
+abbrev pub decreases-loop-i : goal.decreases-loop-i
+decreases-loop-i l = length l.numbers - l.i

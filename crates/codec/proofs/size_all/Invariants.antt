@@ -1,0 +1,16 @@
+-- `size_all` meets its contract: what is counted and what is left are all the bytes. Assumes nothing.
+use mathlib.Core.Path.{◌≡◌, refl}
+use Prim.Native.Nat.{◌+◌, ◌-◌, ◌*◌, ◌≤◌}
+use native.Mathlib.Omega.{arith}
+use borrow.Author.Rules.{rules}
+use lib.ListN.{length, get_or, drop}
+use Rattle.codec.specs.Numbers.{encode_numbers}
+use Rattle.codec.proofs.Numbers.{short}
+use Rattle.codec.proofs.Lists.{numbers_longer, numbers_end, small_at_lem}
+use Rattle.codec.proofs.size_all.Given as goal
+
+abbrev pub invariant-loop-i : goal.invariant-loop-i
+invariant-loop-i l = (l.bytes + length (encode_numbers (drop l.i l.numbers)) ≡ length (encode_numbers l.numbers)) × (l.bytes ≤ 3 * l.i) × (l.i ≤ length l.numbers)
+
+abbrev pub decreases-loop-i : goal.decreases-loop-i
+decreases-loop-i l = length l.numbers - l.i

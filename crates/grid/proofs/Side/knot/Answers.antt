@@ -1,0 +1,9 @@
+-- `Side::knot` meets its contract. Assumes nothing.
+use mathlib.Core.Path.{◌≡◌, refl, sym, ◌∙◌}
+use Rattle.grid.proofs.SideLaws.{knot_is}
+use borrow.Author.Rules.{rules}
+use Rattle.grid.proofs.Side.knot.Goals as goal
+
+pub returns : goal.returns
+returns c = let s = c in
+    rw (c.smaller.ensures, c.columns_before-line.ensures, c.less.ensures) (sym (knot_is s.args.self s.requires.side_in.sized s.args.i s.requires.i_bound))

@@ -1,0 +1,24 @@
+-- `find` meets its contract: what is left from `i` on says where the first stop is. Assumes nothing.
+use mathlib.Core.Path.{◌≡◌}
+use Prim.Native.Nat.{◌+◌, ◌-◌}
+use native.Mathlib.Omega.{arith}
+use borrow.Author.Rules.{rules}
+use lib.ListN.{length, drop}
+use Rattle.lines.specs.Reading.{up_to}
+use Rattle.lines.proofs.Texts.{up_to_end, up_to_here, up_to_next}
+use Rattle.lines.proofs.find.Goals as goal
+
+pub returns-then-text-i : goal.returns-then-text-i
+returns-then-text-i c = let a = c.args in
+    let at = c.loop-i in
+    omega (arith, up_to_here a.stop a.text.now at.i (omega arith) c.if-text-i.true)
+
+pub loop-i-preserved : goal.loop-i-preserved
+loop-i-preserved c = let a = c.args in
+    let at = c.loop-i in
+    omega (arith, up_to_next a.stop a.text.now at.i (omega arith) c.if-text-i.false)
+
+pub returns : goal.returns
+returns c = let a = c.args in
+    let at = c.loop-i in
+    omega (arith, up_to_end a.stop a.text.now at.i (omega arith))

@@ -1,0 +1,16 @@
+-- `judge` meets its contract. The invariant: the marks passed are not refused. Assumes nothing.
+use mathlib.Core.Path.{◌≡◌, sym, ◌∙◌}
+use Prim.Native.Nat.{◌-◌, ◌≤◌}
+use native.Mathlib.Omega.{arith}
+use lib.ListN.{length, drop}
+use borrow.Author.Rules.{rules}
+use Rattle.facts.specs.Numbers.{first}
+use Rattle.facts.proofs.Turns.{first_end, first_skip, first_stop}
+use Rattle.marks.specs.Marks.{verdict}
+use Rattle.marks.proofs.judge.Given as goal
+
+abbrev pub invariant-loop-i : goal.invariant-loop-i
+invariant-loop-i l = (l.i ≤ length l.marks) × (first (verdict l.kinds l.deep) l.marks ≡ first (verdict l.kinds l.deep) (drop l.i l.marks))
+
+abbrev pub decreases-loop-i : goal.decreases-loop-i
+decreases-loop-i l = length l.marks - l.i

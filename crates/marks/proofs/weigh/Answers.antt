@@ -1,0 +1,23 @@
+-- `weigh` meets its contract: the marks are flagged in a table of what the others weigh. Assumes nothing.
+use mathlib.Core.Path.{◌≡◌, ap, ◌∙◌}
+use Prim.Native.Nat.{ℕ}
+use native.Mathlib.Omega.{arith}
+use lib.ListN.{length}
+use Rattle.facts.proofs.Numbers.{length_tabulate}
+use Rattle.marks.specs.Marks.{with_marks}
+use Rattle.marks.proofs.Marks.{weighed_is}
+use borrow.Author.Rules.{rules}
+use Rattle.marks.proofs.weigh.Goals as goal
+
+-- that table is as long
+sized : (c : goal.After-unmarked) → length c.unmarked.new.out ≡ length c.args.out.now
+sized c = ap length c.unmarked.ensures ∙ length_tabulate _ _
+
+pub flag-requires : goal.flag-requires
+flag-requires c = record { inside = λ x m. omega (arith, c.requires.marks_below.inside x m, sized c.before.before.before) }
+
+pub returns : goal.returns
+returns c = let a = c.args in
+    c.flag.ensures
+    ∙ ap (λ (n : ℕ). with_marks n a.marks.now c.unmarked.new.out) (sized c.before.before.before.before.before.before)
+    ∙ weighed_is (length a.out.now) a.marks.now a.table.now _ c.unmarked.ensures
