@@ -74,13 +74,16 @@ def contracts():
             head = rest[: end.start()] if end else rest
             labels = re.findall(r"\bensures(?:\s+(\w+))?\s*\{", head)
             lent = re.findall(r"(\w+): &mut \[", head.split("requires")[0].split("ensures")[0])
-            SLICES.setdefault(m.group(1), set()).add(tuple(lent))
-            ENSURES.setdefault(m.group(1), set()).add(tuple(labels))
+            SLICES.setdefault((crate, m.group(1)), set()).add(tuple(lent))
+            ENSURES.setdefault((crate, m.group(1)), set()).add(tuple(labels))
+
+
+def key(callee):
+    return callee.split("::")[0], callee.rsplit("::", 1)[-1]
 
 
 def labels_of(callee):
-    name = callee.rsplit("::", 1)[-1]
-    found = ENSURES.get(name, set())
+    found = ENSURES.get(key(callee), set())
     return max(found, key=len) if found else ()
 
 
@@ -141,14 +144,13 @@ class Function:
             return self.one_of("auto", self.kept[new], parts)
         if new not in self.callee:
             return None
-        name = self.callee[new].rsplit("::", 1)[-1]
         if parts[0] == "ensures":
             labels = labels_of(self.callee[new])
             at = project(parts[1:], len(labels)) if len(labels) > 1 and parts[1:] else None
             if at:
                 return ["ensures", labels[at[0]]], parts[1 + at[1] :]
         elif parts[0] in ("auto", "new") and len(parts) > 1 and re.fullmatch(r"\d", parts[1]):
-            return self.one_of(parts[0], max(SLICES.get(name, {()}), key=len), parts)
+            return self.one_of(parts[0], max(SLICES.get(key(self.callee[new]), {()}), key=len), parts)
         return None
 
     def one_of(self, word, lent, parts):
@@ -337,8 +339,7 @@ def turn(path, names, crate):
     text = read(path)
     folder = os.path.dirname(path)
     inner = folder.split("/proofs/", 1)[1].replace("/", ".")
-    own = tuple(next(iter(ENSURES.get(inner.rsplit(".", 1)[-1], {()}))))
-    cands = ENSURES.get(inner.rsplit(".", 1)[-1], {()})
+    cands = ENSURES.get((crate, inner.rsplit(".", 1)[-1]), {()})
     own = max(cands, key=len)
     f = Function(names, inner, crate)
     head_lines, rest = [], []

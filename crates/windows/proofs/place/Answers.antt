@@ -53,11 +53,11 @@ sized_1 c = let m = c.args.more in λ i. c.firsts-high.ensures i * (c.firsts.ens
 
 -- where the loop starts
 started : (c : After-fill) → let a = c.args in
-    c.fill.new.part ≡ filled 0 (firsts a.up * (firsts a.across + a.more)) (table_to a.across a.up a.step a.from.now a.more 0) a.out.now
+    c.fill.new.out ≡ filled 0 (firsts a.up * (firsts a.across + a.more)) (table_to a.across a.up a.step a.from.now a.more 0) a.out.now
 started c = let a = c.args in
     table_start a.across a.up a.step a.from.now a.more _ a.out.now _ (rw (sized_1 c) at c.fill.ensures)
 
-start_length : (c : After-fill) → length c.fill.new.part ≡ length c.args.out.now
+start_length : (c : After-fill) → length c.fill.new.out ≡ length c.args.out.now
 start_length c = ap length (started c) ∙ filled_length _ _ _ _
 
 pub loop-row-init : goal.loop-row-init
@@ -93,11 +93,11 @@ sized_2 : (c : After-first_over) → let a = c.args in
 sized_2 c = let m = c.args.more in λ i. c.firsts-high.ensures i * (c.firsts.ensures i + m)
 
 started_1 : (c : After-first_over) → let a = c.args in
-    c.fill.new.part ≡ filled 0 (firsts a.up * (firsts a.across + a.more)) (table_to a.across a.up a.step a.from.now a.more 0) a.out.now
+    c.fill.new.out ≡ filled 0 (firsts a.up * (firsts a.across + a.more)) (table_to a.across a.up a.step a.from.now a.more 0) a.out.now
 started_1 c = let a = c.args in
     table_start a.across a.up a.step a.from.now a.more _ a.out.now _ (rw (sized_2 c) at c.fill.ensures)
 
-start_length_1 : (c : After-first_over) → length c.fill.new.part ≡ length c.args.out.now
+start_length_1 : (c : After-first_over) → length c.fill.new.out ≡ length c.args.out.now
 start_length_1 c = ap length (started_1 c) ∙ filled_length _ _ _ _
 
 stepped_1 : (c : After-first_over) → let a = c.args in c.loop-row.row * a.step < a.up.cells
@@ -180,7 +180,7 @@ loop-row-preserved c = let o = c in
     let r = room (goal.at.loop-row-preserved c).After-shared_slice_known-1 in
     let at : ℕ = o.first_over.result * (o.firsts.result + a.more) in
     let row = c.place_row.ensures ∙ filled_same 0 _ _ _ _ (λ i u v. row_part a.across a.up a.step a.from.now a.more l.first l.row i l.invariant.1) in
-    let next : (xs : List ℕ) → o.fill.new.part ≡ filled 0 (firsts a.up * (firsts a.across + a.more)) (table_to a.across a.up a.step a.from.now a.more 0) xs
+    let next : (xs : List ℕ) → o.fill.new.out ≡ filled 0 (firsts a.up * (firsts a.across + a.more)) (table_to a.across a.up a.step a.from.now a.more 0) xs
     → put_mid (o.first_over.result * (o.firsts.result + a.more)) (length l.out - o.first_over.result * (o.firsts.result + a.more)) l.out c.place_row.new.out
     ≡ filled 0 (firsts a.up * (firsts a.across + a.more)) (table_to a.across a.up a.step a.from.now a.more (l.row + 1)) xs =
     λ xs e. rw (stands (goal.at.loop-row-preserved c).After-first_over, add-one l.row) (table_next a.across a.up a.step a.from.now a.more s.requires.up_in.sized s.requires.step≥ l.row (omega arith) _ xs l.out _ (l.invariant.3 xs e) (omega arith) (omega arith) (rw (stands (goal.at.loop-row-preserved c).After-first_over) at row)) in
