@@ -1,6 +1,5 @@
 -- `measure` meets its contract. Assumes nothing.
 use mathlib.Core.Path.{◌≡◌, sym, ap, ◌∙◌}
-use mathlib.Core.Logic.{⊎_elim}
 use Prim.Native.Nat.{ℕ, ◌-◌, ◌*◌, ◌≤◌}
 use native.Mathlib.Omega.{arith}
 use borrow.Author.Rules.{rules}
@@ -13,6 +12,7 @@ use Rattle.listing.proofs.measure.Reads as reads
 use Rattle.listing.proofs.measure.Lts as lts
 use Rattle.codec.proofs.size.Reads as size-reads
 use Rattle.listing.proofs.measure.Goals as goal
+use Rattle.listing.proofs.measure.Goals.{then-table-i-eq2, else-table-i-eq2}
 
 pub loop-i-init : goal.loop-i-init
 loop-i-init c = let t = c.args.table.now in
@@ -27,26 +27,26 @@ overflow_add-bytes c = omega (arith, short (c.loop-i.i - c.loop-i.last), c.size-
 pub loop-i-preserved : goal.loop-i-preserved
 loop-i-preserved c = let t = c.args.table.now in
     let at = c.loop-i in
-    ⊎_elim
-    (λ w. (
-      omega arith,
-      omega (arith, w.4),
-      omega (arith, w.1.ensures, w.3, short (at.i - at.last)),
-      omega (arith, w.1.ensures, w.3, length_more t at.i at.last w.0.taken at.invariant.4),
-      w.4 ∙ sym (last_yes t at.i w.0.taken),
-      omega (arith, w.2, at.invariant.5, count_yes t at.i w.0.taken),
-      omega (arith, w.2),
-    ))
-    (λ w. (
-      omega arith,
-      omega (arith, w.3),
-      omega (arith, w.2),
-      w.2 ∙ at.invariant.3 ∙ ap length (sym (bytes_no t at.i w.0.left)),
-      w.3 ∙ at.invariant.4 ∙ sym (last_no t at.i w.0.left),
-      w.1 ∙ at.invariant.5 ∙ ap length (sym (refined_no t at.i w.0.left)),
-      omega (arith, w.1),
-    ))
-    c.if-table-i-eq2.branch
+    elim c.if-table-i-eq2.branch [
+      | then-table-i-eq2 w ↦ (
+        omega arith,
+        omega (arith, w.last-is),
+        omega (arith, w.size-bytes.ensures, w.bytes-is, short (at.i - at.last)),
+        omega (arith, w.size-bytes.ensures, w.bytes-is, length_more t at.i at.last w.if-table-i-eq2.true at.invariant.4),
+        w.last-is ∙ sym (last_yes t at.i w.if-table-i-eq2.true),
+        omega (arith, w.count-is, at.invariant.5, count_yes t at.i w.if-table-i-eq2.true),
+        omega (arith, w.count-is),
+      )
+      | else-table-i-eq2 w ↦ (
+        omega arith,
+        omega (arith, w.last-is),
+        omega (arith, w.bytes-is),
+        w.bytes-is ∙ at.invariant.3 ∙ ap length (sym (bytes_no t at.i w.if-table-i-eq2.false)),
+        w.last-is ∙ at.invariant.4 ∙ sym (last_no t at.i w.if-table-i-eq2.false),
+        w.count-is ∙ at.invariant.5 ∙ ap length (sym (refined_no t at.i w.if-table-i-eq2.false)),
+        omega (arith, w.count-is),
+      )
+    ]
 
 pub returns : goal.returns
 returns c = let t = c.args.table.now in

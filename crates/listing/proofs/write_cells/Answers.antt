@@ -1,6 +1,5 @@
 -- `write_cells` meets its contract. Assumes nothing.
 use mathlib.Core.Path.{◌≡◌, sym, ◌∙◌}
-use mathlib.Core.Logic.{⊎_elim}
 use Prim.Native.Nat.{◌-◌, ◌≤◌}
 use native.Mathlib.Omega.{arith}
 use borrow.Author.Rules.{rules}
@@ -14,6 +13,7 @@ use Rattle.listing.proofs.write_cells.Reads as reads
 use Rattle.listing.proofs.write_cells.Lts as lts
 use Rattle.codec.proofs.write.Reads as write-reads
 use Rattle.listing.proofs.write_cells.Goals as goal
+use Rattle.listing.proofs.write_cells.Goals.{then-table-i-eq2, else-table-i-eq2}
 
 pub loop-i-init : goal.loop-i-init
 loop-i-init c = let a = c.args in
@@ -28,20 +28,20 @@ pub loop-i-preserved : goal.loop-i-preserved
 loop-i-preserved c = let a = c.args in
     let t = a.table.now in
     let at = c.loop-i in
-    ⊎_elim
-    (λ w. (
-      omega arith,
-      omega (arith, w.7),
-      w.7 ∙ sym (last_yes t at.i w.0.taken),
-      rw (w.5, w.6) (write_turn t at.i at.last w.0.taken at.invariant.2 a.from at.at a.out.now at.out (omega arith) c.requires.table_in_bounds at.invariant.3 _ _ w.2.ensures),
-    ))
-    (λ w. (
-      omega arith,
-      omega (arith, w.3),
-      w.3 ∙ at.invariant.2 ∙ sym (last_no t at.i w.0.left),
-      rw (w.1, w.2, bytes_no t at.i w.0.left) at.invariant.3,
-    ))
-    c.if-table-i-eq2.branch
+    elim c.if-table-i-eq2.branch [
+      | then-table-i-eq2 w ↦ (
+        omega arith,
+        omega (arith, w.last-is),
+        w.last-is ∙ sym (last_yes t at.i w.if-table-i-eq2.true),
+        rw (w.out-is, w.at-is) (write_turn t at.i at.last w.if-table-i-eq2.true at.invariant.2 a.from at.at a.out.now at.out (omega arith) c.requires.table_in_bounds at.invariant.3 _ _ w.write-at.ensures),
+      )
+      | else-table-i-eq2 w ↦ (
+        omega arith,
+        omega (arith, w.last-is),
+        w.last-is ∙ at.invariant.2 ∙ sym (last_no t at.i w.if-table-i-eq2.false),
+        rw (w.out-is, w.at-is, bytes_no t at.i w.if-table-i-eq2.false) at.invariant.3,
+      )
+    ]
 
 pub shape_of-out : goal.shape_of-out
 shape_of-out c = let a = c.args in
