@@ -205,7 +205,7 @@ pub fn room_refusal(
     requires cells_len { length cells.now ≡ cell_total plan }
     requires mesh_table { MeshTable plan new_cells.now }
     requires rooms { Rooms plan functions.now made.old }
-    ensures { result ≡ room_refusal plan cells.now functions.now cell_room_lem function_room new_cells.now }
+    ensures { result ≡ room_refusal plan cells.now functions.now cell_room function_room new_cells.now }
 {
     if is_short(cells, new_cells, cell_room) {
         return 10;
