@@ -59,6 +59,7 @@ def words_top(text):
 
 
 ENSURES = {}
+IDS = set()  # the names in the sources
 SLICES = {}  # by a function's name: its parameters that are lent slices
 
 
@@ -67,6 +68,7 @@ def contracts():
     for path in glob.glob("crates/*/src/**/*.rt", recursive=True):
         crate = path.split("/")[1]
         text = re.sub(r"//[^\n]*", "", read(path))
+        IDS.update(re.findall(r"[a-z_]\w*", text))
         for m in re.finditer(r"\bfn (\w+)", text):
             rest = text[m.end() : m.end() + 6000]
             # up to the body: the first brace that opens a line, or the next function
@@ -204,6 +206,8 @@ class Function:
             return ".".join(out + parts)
 
         text = re.sub(rf"(?<![\w.'-])({WORD})((?:\.{WORD})+)", one, text)
+        # names of the source keep their spelling
+        text = re.sub(r"\.([a-z][a-z0-9]*(?:-[a-z0-9]+)+)(?![\w'-])", lambda m: "." + m.group(1).replace("-", "_") if m.group(1) not in self.at_new and m.group(1).replace("-", "_") in IDS else m.group(0), text)
         # a name for what an arm gives
         for m in re.finditer(rf"\blet ({WORD}) = ({WORD})\.({WORD})\.given in", text):
             var, new = m.group(1), m.group(3)

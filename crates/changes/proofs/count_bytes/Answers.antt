@@ -1,6 +1,5 @@
 -- `count_bytes` meets its contract. The invariant: the count is that of the numbers passed. Assumes nothing.
 use mathlib.Core.Path.{◌≡◌, sym, ap, ◌∙◌}
-use mathlib.Core.Logic.{⊎_elim}
 use Prim.Native.Nat.{◌+◌, ◌-◌, ◌≤◌}
 use native.Mathlib.Omega.{arith}
 use lib.ListN.{length}
@@ -8,23 +7,19 @@ use borrow.Author.Rules.{rules}
 use Rattle.outcomes.specs.Calls.{changed}
 use Rattle.changes.proofs.Changes.{changed_no, changed_longer}
 use Rattle.changes.proofs.count_bytes.Goals as goal
+use Rattle.changes.proofs.count_bytes.Goals.{then-differ, else-differ}
 
 pub loop-i-init : goal.loop-i-init
 loop-i-init c = (omega arith, omega arith, omega arith, omega arith)
 
--- a turn counts the number if it changed
-counted : (c : tie.Joined1 invariant_loop decreases_loop) → let a = c.args in
-    length (changed a.from a.old.now a.new.now) + c.if-differ.n ≡ length (changed (c.loop-i.i + 1) a.old.now a.new.now)
-counted c = let a = c.args in
+pub loop-i-preserved : goal.loop-i-preserved
+loop-i-preserved c = let a = c.args in
     let at = c.loop-i in
     let tested = sym c.differ.ensures in
-    ⊎_elim
-    (λ w. omega (arith, w.1, at.invariant.3, changed_longer a.old.now a.new.now at.i (tested ∙ w.0.taken)))
-    (λ w. omega (arith, w.1, at.invariant.3, ap length (changed_no a.old.now a.new.now at.i (tested ∙ w.0.left))))
-    c.if-differ.branch
-
-pub loop-i-preserved : goal.loop-i-preserved
-loop-i-preserved c = (omega arith, omega arith, ⊎_elim (λ w. omega arith) (λ w. omega arith) c.if-differ.branch, counted c)
+    elim c.if-differ.branch [
+      | then-differ w ↦ let e = changed_longer a.old.now a.new.now at.i (tested ∙ w.if-differ.true) in (omega arith, omega arith, omega arith, omega (arith, w.n-is, at.invariant.3, e))
+      | else-differ w ↦ let e = ap length (changed_no a.old.now a.new.now at.i (tested ∙ w.if-differ.false)) in (omega arith, omega arith, omega arith, omega (arith, w.n-is, at.invariant.3, e))
+    ]
 
 pub returns : goal.returns
 returns c = let a = c.args in

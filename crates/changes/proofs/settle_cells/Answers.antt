@@ -16,7 +16,7 @@ take_over-count-requires c = let s = c in
     record {
       same = s.requires.cells_len ∙ sym s.requires.mesh_table.sized.size;
       small = omega (arith, s.requires.cells_len, s.requires.rooms.cells_small);
-      room = cell_room_lem s.args.plan s.args.cells.now s.args.functions.now s.args.cell-list.now s.args.room s.args.new_cells.now c.room_refusal-number.ensures s.requires.cells_len none;
+      room = cell_room_lem s.args.plan s.args.cells.now s.args.functions.now s.args.cell_list.now s.args.room s.args.new_cells.now c.room_refusal-number.ensures s.requires.cells_len none;
     }
 
 pub returns : goal.returns
