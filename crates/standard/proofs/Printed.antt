@@ -27,7 +27,7 @@ none_printed input = refl
 due_is : {input : List ℕ} {n : ℕ} {text : List ℕ} → Due input n text → get_or (replies input) n [] ≡ text
 due_is d = cc
 
-next_printed : (input : List ℕ) (n : ℕ) (text : List ℕ) → Due input n text → printed input (n + 1) ≡ printed input n ++ text
+pub next_printed : (input : List ℕ) (n : ℕ) (text : List ℕ) → Due input n text → printed input (n + 1) ≡ printed input n ++ text
 next_printed input n text d =
     ap (λ (k : ℕ). printed input k) (add-one n)
     ∙ ap joined (take-suc (replies input) n [] d.place)
