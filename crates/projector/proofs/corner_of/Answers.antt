@@ -26,9 +26,9 @@ lines_1 : (c : After-line_at-up) → OnLines c.args.plan c.args.place c.args.rig
 lines_1 c = on_lines c.args.plan c.args.place c.requires.ready.range c.requires.cell_inside c.requires.right_bound.0 c.requires.right_bound.1
 
 -- both lines are small
-on_small : (c : After-line_at-up) → (c.line_at_lem.result ≤ 2048) × (c.line_at-up.result ≤ 2048)
+on_small : (c : After-line_at-up) → (c.line_at-across.result ≤ 2048) × (c.line_at-up.result ≤ 2048)
 on_small c = let o = lines_1 c in
-    (omega (arith, c.line_at_lem.ensures, o.across≤), omega (arith, c.line_at-up.ensures, o.up≤))
+    (omega (arith, c.line_at-across.ensures, o.across≤), omega (arith, c.line_at-up.ensures, o.up≤))
 
 pub overflow_mul-across : goal.overflow_mul-across
 overflow_mul-across c = omega (arith, on_small (goal.at.overflow_mul-across c).After-line_at-up)
@@ -38,8 +38,8 @@ overflow_mul-up c = omega (arith, on_small (goal.at.overflow_mul-up c).After-lin
 
 pub height_at-height-requires : goal.height_at-height-requires
 height_at-height-requires c = let s = c in
-    s.requires.ready.surface _ _ (on_mesh_lem (lines (goal.at.height_at-height-requires c).After-shared_slice_known-1) (omega (arith, c.line_at_lem.ensures)) (omega (arith, c.line_at-up.ensures)))
+    s.requires.ready.surface _ _ (on_mesh_lem (lines (goal.at.height_at-height-requires c).After-shared_slice_known-1) (omega (arith, c.line_at-across.ensures)) (omega (arith, c.line_at-up.ensures)))
 
 pub returns : goal.returns
 returns c = let s = c in
-    corner_is s.args.plan s.args.functions.now s.args.heights.now s.args.place s.args.right s.args.upper (lines (goal.at.returns c).After-shared_slice_known-1) c.line_at_lem.ensures c.line_at-up.ensures c.height_at-height.ensures
+    corner_is s.args.plan s.args.functions.now s.args.heights.now s.args.place s.args.right s.args.upper (lines (goal.at.returns c).After-shared_slice_known-1) c.line_at-across.ensures c.line_at-up.ensures c.height_at-height.ensures

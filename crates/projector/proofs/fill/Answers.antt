@@ -37,4 +37,4 @@ overflow_mul-result c = let s = c in
 pub returns : goal.returns
 returns c = let a = c.args in
     let n = corners_length a.plan a.functions.now a.heights.now a.cells.now in
-    all_written _ a.out.now (enough (goal.at.returns c).Else-out-count) (omega (arith, count (goal.at.returns c).After-tally-count, n)) c.put_all_lem.ensures
+    all_written _ a.out.now (enough (goal.at.returns c).Else-out-count) (omega (arith, count (goal.at.returns c).After-tally-count, n)) c.put_all.ensures

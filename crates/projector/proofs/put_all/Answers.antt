@@ -1,6 +1,5 @@
 -- `put_all` meets its contract: cell by cell. Assumes nothing.
 use mathlib.Core.Path.{◌≡◌}
-use mathlib.Core.Logic.{⊎_elim}
 use Prim.Native.Nat.{◌+◌, ◌-◌, ◌≤◌, ◌<◌}
 use native.Mathlib.Omega.{arith}
 use lib.ListN.{length}
@@ -11,6 +10,7 @@ use Rattle.grid.proofs.Laws.{cell_inside}
 use Rattle.projector.proofs.Words.{words_below, words_none, words_no, words_all, kept, room, turn}
 use borrow.Author.Rules.{rules}
 use Rattle.projector.proofs.put_all.Goals as goal
+use Rattle.projector.proofs.put_all.Goals.{then-cells-c-eq1, else-cells-c-eq1}
 
 pub loop-c-init : goal.loop-c-init
 loop-c-init c = let a = c.args in
@@ -34,13 +34,13 @@ pub loop-c-preserved : goal.loop-c-preserved
 loop-c-preserved c = let s = c in
     let a = s.args in
     let l = c.loop-c in
-    ⊎_elim
-    (λ w. (
-      omega arith,
-      rw (w.6, w.7) (turn a.plan a.functions.now a.heights.now a.cells.now l.c {out = a.out.now} {mid = l.out} (omega (arith, s.requires.cells_len)) w.0.taken w.1.ensures s.requires.cells_in_bounds l.invariant.1 w.3.ensures),
-    ))
-    (λ w. (omega arith, rw (w.1, w.2, words_no a.plan a.functions.now a.heights.now a.cells.now l.c w.0.left) l.invariant.1))
-    c.if-cells-c-eq1.branch
+    elim c.if-cells-c-eq1.branch [
+      | then-cells-c-eq1 w ↦ (
+        omega arith,
+        rw (w.out-is, w.at-is) (turn a.plan a.functions.now a.heights.now a.cells.now l.c {out = a.out.now} {mid = l.out} (omega (arith, s.requires.cells_len)) w.if-cells-c-eq1.true w.cell_place-place.ensures s.requires.cells_in_bounds l.invariant.1 w.put_cell-at.ensures),
+      )
+      | else-cells-c-eq1 w ↦ (omega arith, rw (w.out-is, w.at-is, words_no a.plan a.functions.now a.heights.now a.cells.now l.c w.if-cells-c-eq1.false) l.invariant.1)
+    ]
 
 pub shape_of-out : goal.shape_of-out
 shape_of-out c = let s = c in
