@@ -381,6 +381,8 @@ def turn(path, names, crate):
         if m:
             new = f.needs.get(alike(m.group(1)))
             if new is None:
+                new = {alike(it): it for it in f.needs.values()}.get(alike(m.group(1)))
+            if new is None:
                 stripped = alike(re.sub(r"^(overflow|nonzero|offset-bounds|slice-bounds|slice_bounds|bounds)[-_]", "", m.group(1)))
                 new = f.needs.get(stripped)
             renamed[name] = (m.group(1), new)

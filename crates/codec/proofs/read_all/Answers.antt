@@ -29,8 +29,8 @@ pub loop-i-preserved : goal.loop-i-preserved
 loop-i-preserved c = let a = c.args in
     let l = c.loop-i in
     let r = c.read in
-    let v = c.n-1.given in
-    let f = found a.s.now l.at r.result v.0.0 v.0.1.0 r.ensures v.1 in
+    let v = c.in-Number in
+    let f = found a.s.now l.at r.result v.n v.next r.ensures v.is in
     let t = c.loop-i-test.true in
     (rw length-set l.invariant.0, f.inside, rw length-set (omega arith), left_next l.invariant.3 f (omega (arith, l.invariant.0, t)) t)
 

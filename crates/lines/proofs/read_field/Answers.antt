@@ -8,6 +8,9 @@ use Rattle.lines.specs.Reading.{up_to, number_of}
 use Rattle.lines.proofs.Texts.{take_up_to, up_to_inside}
 use Rattle.lines.proofs.read_field.Goals as goal
 
+pub slice_bounds-read_number-end : goal.slice_bounds-read_number-end
+slice_bounds-read_number-end c = omega (arith, up_to_inside 32 c.args.line.now (c.args.at + 1) (omega (arith, c.requires)))
+
 pub returns : goal.returns
 returns c = let a = c.args in
     let line = a.line.now in

@@ -19,7 +19,7 @@ store_numbers-requires c = let s = c.args.line.now in
     let e = c.find-end in
     let k = c.kind_of-kind in
     let n = c.count_numbers-count in
-    let g = line_good s e.result n.result k.result e.ensures k.ensures n.ensures (sym c.fits2.ensures ∙ c.if-fits.true) in
+    let g = line_good s e.result n.result k.result e.ensures k.ensures n.ensures (sym c.fits.ensures ∙ c.if-fits.true) in
     record { line_value = g.0; line_in_bounds = omega (arith, g, c.if-numbers-lt64) }
 
 pub returns-then-fits : goal.returns-then-fits
@@ -27,11 +27,11 @@ returns-then-fits c = let s = c.args.line.now in
     let e = c.find-end in
     let k = c.kind_of-kind in
     let n = c.count_numbers-count in
-    line_read s e.result n.result k.result e.ensures k.ensures n.ensures _ (omega (arith, c.if-numbers-lt64)) _ (sym c.fits2.ensures ∙ c.if-fits.true) c.store_numbers.ensures
+    line_read s e.result n.result k.result e.ensures k.ensures n.ensures _ (omega (arith, c.if-numbers-lt64)) _ (sym c.fits.ensures ∙ c.if-fits.true) c.store_numbers.ensures
 
 pub returns : goal.returns
 returns c = let s = c.args.line.now in
     let e = c.find-end in
     let k = c.kind_of-kind in
     let n = c.count_numbers-count in
-    line_not s e.result n.result k.result e.ensures k.ensures n.ensures _ (omega (arith, c.if-numbers-lt64)) (sym c.fits2.ensures ∙ c.if-fits.false)
+    line_not s e.result n.result k.result e.ensures k.ensures n.ensures _ (omega (arith, c.if-numbers-lt64)) (sym c.fits.ensures ∙ c.if-fits.false)
