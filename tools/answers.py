@@ -19,7 +19,7 @@ WORD = r"[^\s(){}.;,@\"«»\[\]\\:`]+"
 
 
 def alike(name):
-    return re.sub(r"[-_]", "", name)
+    return re.sub(r"[-_]", "", name).lower()
 
 
 def read(path):
@@ -74,13 +74,16 @@ def contracts():
             head = rest[: end.start()] if end else rest
             labels = re.findall(r"\bensures(?:\s+(\w+))?\s*\{", head)
             lent = re.findall(r"(\w+): &mut \[", head.split("requires")[0].split("ensures")[0])
-            SLICES.setdefault(m.group(1), set()).add(tuple(lent))
-            ENSURES.setdefault(m.group(1), set()).add(tuple(labels))
+            SLICES.setdefault((crate, m.group(1)), set()).add(tuple(lent))
+            ENSURES.setdefault((crate, m.group(1)), set()).add(tuple(labels))
+
+
+def key(callee):
+    return callee.split("::")[0], callee.rsplit("::", 1)[-1]
 
 
 def labels_of(callee):
-    name = callee.rsplit("::", 1)[-1]
-    found = ENSURES.get(name, set())
+    found = ENSURES.get(key(callee), set())
     return max(found, key=len) if found else ()
 
 
@@ -120,7 +123,7 @@ class Function:
                 self.kept[f_new] = [it[1][5:] for it in kept]
         self.needs = {alike(old): new for old, new in names["needs"]}
         self.goal_place = {new: at[1] for (_, new), at in zip(names["needs"], names["asked_at"])}
-        self.helpers = {}
+        self.helpers, self.used, self.instances = {}, set(), {}
 
     # ---- paths
 
@@ -141,14 +144,13 @@ class Function:
             return self.one_of("auto", self.kept[new], parts)
         if new not in self.callee:
             return None
-        name = self.callee[new].rsplit("::", 1)[-1]
         if parts[0] == "ensures":
             labels = labels_of(self.callee[new])
             at = project(parts[1:], len(labels)) if len(labels) > 1 and parts[1:] else None
             if at:
                 return ["ensures", labels[at[0]]], parts[1 + at[1] :]
         elif parts[0] in ("auto", "new") and len(parts) > 1 and re.fullmatch(r"\d", parts[1]):
-            return self.one_of(parts[0], max(SLICES.get(name, {()}), key=len), parts)
+            return self.one_of(parts[0], max(SLICES.get(key(self.callee[new]), {()}), key=len), parts)
         return None
 
     def one_of(self, word, lent, parts):
@@ -225,10 +227,12 @@ class Function:
     def bound(self, text):
         """let s = c.before.before in ..: s is c, whose fields are those of all steps before."""
         text = re.sub(rf"\blet ({WORD}) = ({WORD})(?:\.before)+ in", r"let \1 = \2 in", text)
+        # omega reads the whole record by itself
+        text = re.sub(rf",\s*{WORD}(?:\.before)+(?=[,)])", "", text)
         return text
 
-    def term(self, text, here=None, params=("c",)):
-        self.here = here
+    def term(self, text, here=None, params=("c",), goal=None):
+        self.here, self.goal, self.main = here, goal, (list(params) or ["c"])[0]
         self.vars = {p for p in params}
         for m in re.finditer(rf"\blet ({WORD}) = ({WORD})(?:\.before)* in", text):
             if m.group(2) in self.vars:
@@ -238,25 +242,27 @@ class Function:
         # records handed to a lemma about a place
         for name, place in self.helpers.items():
             text = re.sub(
-                rf"(?<![\w.'-]){re.escape(name)} (\(?)({WORD}(?:\.before)*)(?=[\s),;]|$)",
-                lambda m: f"{name} {m.group(1)}{self.handed(m.group(2), place)}",
+                rf"(?<![\w.'-]){re.escape(name)} ({WORD}?(?:\.before)*)(?=[\s),;]|$)",
+                lambda m: f"{self.instance(name, place, m.group(1))} {self.handed(m.group(1), place)}",
                 text,
             )
         return self.paths(self.bound(text))
 
+    def instance(self, name, place, record):
+        """A lemma about a place, for one about a later place."""
+        if self.goal or place == self.here or record.split(".")[0] not in self.vars:
+            return name
+        at = self.instances.setdefault((name, self.here), f"{name}_{1 + sum(n == name for n, _ in self.instances)}")
+        return at
+
     def handed(self, record, place):
-        head = record.split(".")[0]
-        return f"«{head}@{place}»"
-
-    def settle(self, text, here, given=None):
-        """Writes how a lemma's record is reached from here."""
-
-        def one(m):
-            head, place = m.group(1).split("@")
-            d = self.depth.get(here, 0) - self.depth.get(place, 0)
-            return head + ".before" * max(d, 0)
-
-        return re.sub(r"«([^»]*@[^»]*)»", one, text)
+        """What a lemma about a place is given: the record of that place, as the goal's own record has it."""
+        if record.split(".")[0] not in self.vars:
+            return record
+        if self.goal:
+            self.used.add(place)
+            return f"(goal.at.{self.goal} {self.main}).{place}"
+        return self.main
 
 
 def blocks(text):
@@ -315,7 +321,7 @@ def clauses(body, labels):
             parts = parts + [last]
             continue
         if last.startswith("(") and last.endswith(")"):
-            more = split_top(last[1:-1])
+            more = [it for it in split_top(last[1:-1]) if it]
             if len(more) < 2:
                 return None
             parts = parts[:-1] + more
@@ -333,8 +339,7 @@ def turn(path, names, crate):
     text = read(path)
     folder = os.path.dirname(path)
     inner = folder.split("/proofs/", 1)[1].replace("/", ".")
-    own = tuple(next(iter(ENSURES.get(inner.rsplit(".", 1)[-1], {()}))))
-    cands = ENSURES.get(inner.rsplit(".", 1)[-1], {()})
+    cands = ENSURES.get((crate, inner.rsplit(".", 1)[-1]), {()})
     own = max(cands, key=len)
     f = Function(names, inner, crate)
     head_lines, rest = [], []
@@ -347,7 +352,7 @@ def turn(path, names, crate):
     invariants, answers, spec = [], [], None
     bs = blocks("\n".join(rest))
     renamed = {}  # the file's own names of goals
-    parsed = []
+    parsed, mods = [], {}
     for b in bs:
         lines = b.split("\n")
         said = []
@@ -362,6 +367,7 @@ def turn(path, names, crate):
         m = re.match(rf"(abbrev )?(pub )?({WORD}) : ([\s\S]*?)\n((?:unfolding [^\n]*\n)?)(?=\3\b)", code)
         if not m:
             raise Give(f"block not understood: {lines[0][:80]}")
+        mods[m.group(3)] = m.group(1) or ""
         name, type_, unfold, body = m.group(3), m.group(4), m.group(5), code[m.end() :]
         parsed.append((said, name, type_.strip(), unfold, body))
     loop_names = {}
@@ -381,10 +387,13 @@ def turn(path, names, crate):
         if m:
             new = f.needs.get(alike(m.group(1)))
             if new is None:
-                new = {alike(it): it for it in f.needs.values()}.get(alike(m.group(1)))
-            if new is None:
                 stripped = alike(re.sub(r"^(overflow|nonzero|offset-bounds|slice-bounds|slice_bounds|bounds)[-_]", "", m.group(1)))
                 new = f.needs.get(stripped)
+                ends = [k for k in f.needs if k.endswith(stripped)]
+                if new is None and len(ends) == 1:
+                    new = f.needs[ends[0]]
+            if new is None:
+                new = {alike(it): it for it in f.needs.values()}.get(alike(m.group(1)))
             renamed[name] = (m.group(1), new)
     # goals that are answered in the list itself, by their place in it
     inline = {}
@@ -420,7 +429,7 @@ def turn(path, names, crate):
                 k += 1
                 continue
             raise Give(f"argument not understood: {a[:60]}")
-    available = {at[1] for (_, goal), at in zip(names["needs"], names["asked_at"]) if "-requires" not in goal} - {"Start"}
+    available = set(f.depth) - {"Start"}
 
     def above(place, of):
         while of is not None:
@@ -445,10 +454,22 @@ def turn(path, names, crate):
                 f.helpers[name] = min(fit, key=lambda p: f.depth[p])
             else:
                 print(f"look: {path}: no place for {name}", file=sys.stderr)
+    for _ in range(4):
+        for name in f.helpers:
+            for _, other, type_, _, body in parsed:
+                if other in f.helpers and other != name and re.search(rf"(?<![\w.'-]){re.escape(name)}(?![\w'-])", type_ + body.split("=", 1)[-1]) and above(f.helpers[name], f.helpers[other]):
+                    users = []
+                    for _, third, t3, _, b3 in parsed:
+                        if third != name and re.search(rf"(?<![\w.'-]){re.escape(name)}(?![\w'-])", t3 + b3.split("=", 1)[-1]):
+                            users.append(f.goal_place.get(renamed[third][1]) if third in renamed else f.helpers.get(third))
+                    if all(u and above(f.helpers[other], u) for u in users):
+                        f.helpers[name] = f.helpers[other]
     own_new = {}
     for name, (old, new) in renamed.items():
         if new:
             own_new[name] = new
+
+    at_places = set()
 
     def rename_own(body):
         return re.sub(rf"(?<![\w.'«-])({WORD})(?![\w'-])", lambda m: own_new.get(m.group(1), m.group(1)) if m.group(1) in own_new else m.group(1), body)
@@ -480,7 +501,7 @@ def turn(path, names, crate):
                 continue
             here = f.goal_place.get(new)
             c = params[0] if params else "c"
-            value = f.settle(f.term(rename_own(value), here, [c]), here)
+            value = (f.term(rename_own(value), here, [c], new))
             labels = own if new.startswith("returns") else names["asked"].get(new, names["asked"].get(renamed[name][0], []))
             for k_old, v in names["asked"].items():
                 if f.needs.get(alike(k_old)) == new or k_old == new:
@@ -488,25 +509,38 @@ def turn(path, names, crate):
             made = clauses(value, labels)
             if made is None:
                 made = f"let whole = ({value}) in record {{ " + "; ".join(f"{l} = whole.{i}" for i, l in enumerate(labels)) + " }"
-            answers.append((said, f"pub {new} : goal.{new}\n{unfold}{new} {c} = {made}"))
+            more = params[1:] if "-requires" not in new else params[2:]
+            answers.append((said, f"pub {new} : goal.{new}\n{unfold}{' '.join([new, c] + more)} = {made}"))
             continue
         # a lemma of the file's own
         def places_in(t):
-            t = re.sub(rf"tie\.((?:After|In|At|Then|Else|Start)[^\s).]*)((?: (?:invariant|decreases)[-_]\S+?)*)(?=[)\s]|$)", lambda m: "goal." + f.helpers.get(name, f.place.get(alike(m.group(1)), m.group(1))), t)
+            t = re.sub(rf"tie\.((?:After|In|At|Then|Else|Start)[^\s).]*)((?: (?:invariant|decreases)[-_]\S+?)*)(?=[)\s]|$)", lambda m: f.helpers.get(name, f.place.get(alike(m.group(1)), m.group(1))), t)
             return t
 
-        here = f.helpers.get(name)
-        bound = re.findall(rf"\(({WORD}) : tie\.", type_) or ["c"]
-        t = f.settle(f.term(places_in(type_), here, bound), here)
-        v = f.settle(f.term(rename_own(value), here, params), here)
-        answers.append((said, f"{name} : {t}\n{unfold}{' '.join([name] + params)} = {v}"))
+        def helper(name, as_name, here, said=said, type_=type_, params=params, value=value, unfold=unfold, depth=0):
+            """The lemma for a place, after those that it uses."""
+            bound = re.findall(rf"\(({WORD}) : tie\.", type_) or ["c"]
+            known = set(f.instances)
+            t = f.term(re.sub(r"tie\.((?:After|In|At|Then|Else|Start)[^\s).]*)((?: (?:invariant|decreases)[-_]\S+?)*)(?=[)\s]|$)", lambda m: here or m.group(1), type_), here, bound)
+            v = f.term(rename_own(value), here, params)
+            for (other, place), instance in list(f.instances.items()):
+                if (other, place) not in known and depth < 5:
+                    for said2, name2, type2, unfold2, body2 in parsed:
+                        if name2 == other:
+                            m2 = re.match(rf"{re.escape(name2)}((?: {WORD}| \{{[^}}]*\}}| \([^)]*\))*?)\s*=\s+([\s\S]*)$", body2)
+                            helper(other, instance, place, said2, type2, m2.group(1).split(), m2.group(2), unfold2, depth + 1)
+            answers.append((said if as_name == name else [], f"{mods.get(name, '')}{as_name} : {t}\n{unfold}{' '.join([as_name] + params)} = {v}"))
+            if here:
+                at_places.add(here)
+
+        helper(name, name, f.helpers.get(name))
     for new, (params, value) in inline.items():
         here = f.goal_place.get(new)
         labels = own if new.startswith("returns") else []
         for k_old, v in names["asked"].items():
             if f.needs.get(alike(k_old)) == new or k_old == new:
                 labels = v
-        value = f.settle(f.term(rename_own(value), here, params[:1]), here)
+        value = (f.term(rename_own(value), here, params[:1], new))
         made = clauses(value, labels)
         if made is None:
             made = f"let whole = ({value}) in record {{ " + "; ".join(f"{l} = whole.{i}" for i, l in enumerate(labels)) + " }"
@@ -524,7 +558,8 @@ def turn(path, names, crate):
             it.write(out)
 
     write("Invariants.antt", invariants, f"use {module}.Given as goal")
-    write("Answers.antt", answers, f"use {module}.Goals as goal")
+    places = sorted(at_places)
+    write("Answers.antt", answers, f"use {module}.Goals as goal" + (f"\nuse {module}.Goals.{{{', '.join(places)}}}" if places else ""))
     os.remove(path)
 
 

@@ -50,9 +50,11 @@ middle_some false false (suc u) v g a b = omega arith
 
 middle_none_left : (l r : Bool) (u v : ℕ) → T l → u ≡ 0 → middle2 l r u v u v ≡ 0
 middle_none_left true r u v a e = rw e (omega arith)
+middle_none_left false r u v a e = elim a [ ]
 
 middle_none_right : (l r : Bool) (u v : ℕ) → T r → v ≡ 0 → middle2 l r u v u v ≡ 0
 middle_none_right l true u v a e = rw e (omega arith)
+middle_none_right l false u v a e = elim a [ ]
 
 module _ (s : Side) (h x : ℕ) (on : OnSide s h x) where
   abbrev p : ℕ
@@ -212,9 +214,11 @@ module _ (s : Side) (h x : ℕ) (on : OnSide s h x) where
 
     after_of : (b : Bool) → left_line b c * h < x → T b → 1 ≤ u
     after_of true g t = omega arith
+    after_of false g t = elim t [ ]
 
     before_of : (b : Bool) → x < right_line b c * h → T b → 1 ≤ v
     before_of true g t = omega arith
+    before_of false g t = elim t [ ]
 
     middle_is : (d : ℕ) → d ≡ 2 → cond (eqb 1 d) (outer d r h u) (between d l r h u v) ≡ middle2 l r u v u v
     middle_is d g = rw g (between_2 l r h u v place.parts)

@@ -9,15 +9,11 @@ use Rattle.marks.proofs.Marks.{weighed_is}
 use borrow.Author.Rules.{rules}
 use Rattle.marks.proofs.weigh.Goals as goal
 
--- that table is as long
-sized : (c : goal.After-flag-arg-1) → length c.unmarked.new.out ≡ length c.args.out.now
-sized c = ap length c.unmarked.ensures ∙ length_tabulate _ _
-
 pub flag-requires : goal.flag-requires
-flag-requires c = record { inside = λ x m. omega (arith, c.requires.marks_below.inside x m, sized c) }
+flag-requires c = record { inside = λ x m. omega (arith, c.requires.marks_below.inside x m, ap length c.unmarked.ensures ∙ length_tabulate _ _) }
 
 pub returns : goal.returns
 returns c = let a = c.args in
     c.flag.ensures
-    ∙ ap (λ (n : ℕ). with_marks n a.marks.now c.unmarked.new.out) (sized c.before.before.before)
+    ∙ ap (λ (n : ℕ). with_marks n a.marks.now c.unmarked.new.out) (ap length c.unmarked.ensures ∙ length_tabulate _ _)
     ∙ weighed_is (length a.out.now) a.marks.now a.table.now _ c.unmarked.ensures

@@ -1,0 +1,19 @@
+-- `run_level` meets its contract. The invariant: the rows passed are visited, and the number of the next. Assumes nothing.
+use mathlib.Core.Path.{◌≡◌, refl, ap, ◌∙◌}
+use mathlib.Core.List.{List}
+use Prim.Native.Nat.{ℕ, ◌+◌, ◌-◌, ◌*◌, ◌≤◌}
+use native.Mathlib.Omega.{arith}
+use borrow.Author.Rules.{rules}
+use lib.ListN.{length}
+use Rattle.grid.specs.Plan.{columns_at, rows_at, cell_offset}
+use Rattle.grid.proofs.Levels.{row_within}
+use Rattle.closure.specs.Walk.{sweep, told, visit, over_row, over, level_cells}
+use Rattle.closure.proofs.Sweeps.{sweep_none, sweep_more}
+use Rattle.closure.proofs.run_level.Given as goal
+
+abbrev pub invariant-loop-row : goal.invariant-loop-row
+invariant-loop-row l = (length l.cells ≡ length l.initial.cells) × (l.row ≤ l.rows) × (l.first ≡ cell_offset l.plan l.level + l.row * columns_at l.plan l.level) × (l.rows ≡ rows_at l.plan l.level) × (l.columns ≡ columns_at l.plan l.level)
+    × (l.cells ≡ sweep (λ y. over_row (visit l.step l.plan l.flags (told l.plan l.near)) l.level y (level_cells l.plan l.level).columns) 0 (l.row - 0) l.initial.cells)
+
+abbrev pub decreases-loop-row : goal.decreases-loop-row
+decreases-loop-row l = l.rows - l.row

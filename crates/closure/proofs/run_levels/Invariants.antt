@@ -1,0 +1,17 @@
+-- `run_levels` meets its contract. The invariant: the levels passed are visited, each by the table made when it was entered. Assumes nothing.
+use mathlib.Core.Path.{◌≡◌, refl, ap, ◌∙◌}
+use mathlib.Core.List.{List}
+use Prim.Native.Nat.{ℕ, ◌-◌, ◌≤◌}
+use native.Mathlib.Omega.{arith}
+use borrow.Author.Rules.{rules}
+use lib.ListN.{length}
+use Rattle.closure.specs.Walk.{sweep, pass_level, pass}
+use Rattle.closure.proofs.Sweeps.{sweep_none, sweep_more}
+use Rattle.closure.proofs.Model.{level_told}
+use Rattle.closure.proofs.run_levels.Given as goal
+
+abbrev pub invariant-loop-level : goal.invariant-loop-level
+invariant-loop-level l = (length l.cells ≡ length l.initial.cells) × (length l.near ≡ length l.initial.near) × (length l.scratch ≡ length l.initial.scratch) × (l.level ≤ l.last) × (l.cells ≡ sweep (pass_level l.step l.plan l.flags) 0 (l.level - 0) l.initial.cells)
+
+abbrev pub decreases-loop-level : goal.decreases-loop-level
+decreases-loop-level l = l.last - l.level

@@ -1,0 +1,20 @@
+-- `nesting::complete` meets its contract. The invariant: the levels so far have their bytes. Assumes nothing.
+use mathlib.Core.Path.{◌≡◌, refl, ◌∙◌}
+use Prim.Native.Nat.{◌+◌, ◌-◌, ◌≤◌}
+use native.Mathlib.Omega.{arith}
+use borrow.Author.Rules.{rules}
+use lib.ListN.{length}
+use Rattle.facts.specs.Mapped.{filled}
+use Rattle.grid.specs.Plan.{columns_at, rows_at, cell_offset}
+use Rattle.grid.proofs.Levels.{offset_mono}
+use Rattle.mesh.specs.Mesh.{refined}
+use Rattle.nesting.specs.Completed.{completed}
+use Rattle.nesting.proofs.Completed.{filled_zero, filled_size, levels_next, all_completed}
+use Rattle.nesting.proofs.complete.Given as goal
+
+abbrev pub invariant-loop-level : goal.invariant-loop-level
+invariant-loop-level l = (l.level ≤ l.last) × (length l.cells ≡ length l.initial.cells)
+    × (l.cells ≡ filled (cell_offset l.plan 1) (cell_offset l.plan (l.level + 1) - cell_offset l.plan 1) (completed l.plan (refined l.initial.cells)) l.initial.cells)
+
+abbrev pub decreases-loop-level : goal.decreases-loop-level
+decreases-loop-level l = l.last - l.level

@@ -1,0 +1,21 @@
+-- `nesting::complete_level` meets its contract. The invariant: the rows so far have their bytes, and where the next begins. Assumes nothing.
+use mathlib.Core.Path.{◌≡◌, refl, ◌∙◌}
+use Prim.Native.Nat.{◌+◌, ◌-◌, ◌*◌, ◌≤◌}
+use native.Mathlib.Omega.{arith}
+use borrow.Author.Rules.{rules}
+use lib.ListN.{length}
+use Rattle.facts.specs.Mapped.{filled}
+use Rattle.grid.specs.Plan.{ratio, columns_at, rows_at, cell_offset}
+use Rattle.mesh.specs.Mesh.{refined}
+use Rattle.nesting.specs.Table.{RowUnder}
+use Rattle.nesting.specs.Completed.{completed}
+use Rattle.nesting.proofs.Rows.{columns_are, row_under, row_in, over_in}
+use Rattle.nesting.proofs.Completed.{filled_zero, filled_size, rows_next}
+use Rattle.nesting.proofs.complete_level.Given as goal
+
+abbrev pub invariant-loop-row : goal.invariant-loop-row
+invariant-loop-row l = (l.at ≡ cell_offset l.plan (l.level + 1) + l.row * columns_at l.plan (l.level + 1)) × (l.row ≤ l.rows) × (length l.cells ≡ length l.initial.cells)
+    × (l.cells ≡ filled (cell_offset l.plan (l.level + 1)) (l.row * columns_at l.plan (l.level + 1)) (completed l.plan (refined l.initial.cells)) l.initial.cells)
+
+abbrev pub decreases-loop-row : goal.decreases-loop-row
+decreases-loop-row l = l.rows - l.row

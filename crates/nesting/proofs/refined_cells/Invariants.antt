@@ -1,0 +1,17 @@
+-- `nesting::refined_cells` meets its contract. The invariant: the bytes so far are written. Assumes nothing.
+use mathlib.Core.Path.{◌≡◌, refl}
+use Prim.Native.Nat.{◌-◌, ◌≤◌}
+use native.Mathlib.Omega.{arith}
+use borrow.Author.Rules.{rules}
+use lib.ListN.{length, length-set}
+use Rattle.facts.specs.Mapped.{filled}
+use Rattle.mesh.specs.Mesh.{refined}
+use Rattle.nesting.specs.Reactivable.{refined_byte}
+use Rattle.nesting.proofs.Reactivable.{filled_start, filled_next}
+use Rattle.nesting.proofs.refined_cells.Given as goal
+
+abbrev pub invariant-loop-i : goal.invariant-loop-i
+invariant-loop-i l = (l.from ≤ l.i) × (l.i ≤ l.to) × (length l.out ≡ length l.initial.out) × (l.out ≡ filled l.from (l.i - l.from) (refined_byte l.cells l.kept) l.initial.out)
+
+abbrev pub decreases-loop-i : goal.decreases-loop-i
+decreases-loop-i l = l.to - l.i

@@ -1,0 +1,21 @@
+-- `nesting::rule_out_level` meets its contract. The invariant: the rows so far have ruled out their parents, and where the next begins.
+-- Assumes nothing.
+use mathlib.Core.Path.{◌≡◌, refl, ◌∙◌}
+use Prim.Native.Nat.{◌+◌, ◌-◌, ◌*◌, ◌≤◌}
+use native.Mathlib.Omega.{arith}
+use borrow.Author.Rules.{rules}
+use lib.ListN.{length}
+use Rattle.facts.specs.Mapped.{mapped}
+use Rattle.grid.specs.Plan.{ratio, columns_at, rows_at, cell_offset}
+use Rattle.nesting.specs.Table.{RowUnder}
+use Rattle.nesting.specs.Reactivable.{ruled_out}
+use Rattle.nesting.proofs.Rows.{columns_are, row_under, row_in, over_in}
+use Rattle.nesting.proofs.Reactivable.{ruled_none, ruled_rows, ruled_length}
+use Rattle.nesting.proofs.rule_out_level.Given as goal
+
+abbrev pub invariant-loop-row : goal.invariant-loop-row
+invariant-loop-row l = (l.at ≡ cell_offset l.plan (l.level + 1) + l.row * columns_at l.plan (l.level + 1)) × (l.row ≤ l.rows) × (length l.out ≡ length l.initial.out)
+    × (l.out ≡ mapped (ruled_out l.plan l.cells (cell_offset l.plan (l.level + 1)) (l.row * columns_at l.plan (l.level + 1))) l.initial.out)
+
+abbrev pub decreases-loop-row : goal.decreases-loop-row
+decreases-loop-row l = l.rows - l.row
