@@ -1,24 +1,25 @@
 PREFIX ?= /usr/local
 DESTDIR ?=
 
-ARCHIVE := target/staticlib/libwallmirror.a
+LIBRARY := crates/wallmirror/out
+ARCHIVE := $(LIBRARY)/libwallmirror.a
 HEADER := include/wallmirror.h
 VERSION := $(shell sed -n 's/^\#define WALLMIRROR_VERSION "\(.*\)"$$/\1/p' $(HEADER))
-CARGO := WALLMIRROR_LIB_DIR="$(CURDIR)/target/staticlib" CARGO_TARGET_DIR="$(CURDIR)/target/cargo" cargo
+CARGO := WALLMIRROR_LIB_DIR="$(CURDIR)/$(LIBRARY)" CARGO_TARGET_DIR="$(CURDIR)/target/cargo" cargo
 INSTALLED = $(DESTDIR)$(PREFIX)
 
 .PHONY: all tool test bench pictures install install-library clean
 
 # Proves the library and writes the archive; what has not changed is not proved again.
 all:
-	rt staticlib wallmirror
+	cd crates/wallmirror && rt lib
 
 # The command for setters, target/wallmirror.
 tool: all
 	cd rust && $(CARGO) build --release --offline --locked --quiet -p tool
 	cp target/cargo/release/wallmirror target/wallmirror
 
-# Everything: proofs from nothing, must-fail edits, programs, C and Rust.
+# Everything: proofs, must-fail edits, programs, C and Rust.
 test:
 	.ci/run
 
@@ -42,6 +43,7 @@ install-library: all
 	install -d "$(INSTALLED)/include" "$(INSTALLED)/lib/pkgconfig"
 	install -m 644 $(HEADER) "$(INSTALLED)/include/"
 	install -m 644 $(ARCHIVE) "$(INSTALLED)/lib/"
+	mkdir -p target
 	sed 's|@PREFIX@|$(subst &,\&,$(PREFIX))|; s|@VERSION@|$(VERSION)|' include/wallmirror.pc.in > target/wallmirror.pc
 	install -m 644 target/wallmirror.pc "$(INSTALLED)/lib/pkgconfig/"
 
@@ -51,5 +53,6 @@ install: install-library tool
 	install target/wallmirror "$(INSTALLED)/bin/"
 	install -m 644 rust/tool/wallmirror.bash "$(INSTALLED)/share/bash-completion/completions/wallmirror"
 
+# What was built and what the proofs kept.
 clean:
-	rm -rf target
+	rm -rf target crates/*/out

@@ -8,7 +8,8 @@ awk '
 BEGIN { FS = ":" ; W = 118 ; H = 30 ; DX = 22 ; DY = 46 ; M = 16 }
 /^[ \t]*(#|$)/ { next }
 {
-    name = $1 ; gsub(/[ \t]/, "", name) ; order[++n] = name ; known[name] = 1
+    # a static library has the word "staticlib" after its name
+    split($1, head, " ") ; name = head[1] ; order[++n] = name ; known[name] = 1
     uses[name] = $2
 }
 function has(a, b,    w, i, k) { k = split(uses[a], w, /[ \t]+/) ; for (i = 1; i <= k; i++) if (w[i] == b) return 1 ; return 0 }

@@ -131,7 +131,8 @@
  * draft. In the example above, with three levels, class 2 and cell 0 refined, let a draft have the
  * marks 3, 4 and 3. Closed, it lists cells 1, 3 and 4 and functions 1, 5, 8 and 9.
  *
- * Rounds. wallmirror_rounds says how today's mesh becomes a wanted one of the same plan: by rounds
+ * Rounds. These are not released: the version is the one without them, and they may change until
+ * they are. wallmirror_rounds says how today's mesh becomes a wanted one of the same plan: by rounds
  * of marks of cells, one round for each level but the last. Round k has, in rising order, the cells
  * of level k that are refined in the wanted mesh and are active by then, when the rounds before it
  * have been made. The call is lent the tables of both meshes, which it only reads, a list for the
@@ -310,9 +311,9 @@ extern "C" {
 /* The version of this header, and the same as one number: major * 1000000 + minor * 1000 + patch.
  * The library answers its own with wallmirror_version. */
 #define WALLMIRROR_VERSION_MAJOR 0
-#define WALLMIRROR_VERSION_MINOR 13
+#define WALLMIRROR_VERSION_MINOR 12
 #define WALLMIRROR_VERSION_PATCH 0
-#define WALLMIRROR_VERSION "0.13.0"
+#define WALLMIRROR_VERSION "0.12.0"
 #define WALLMIRROR_VERSION_NUMBER \
     (WALLMIRROR_VERSION_MAJOR * 1000000 + WALLMIRROR_VERSION_MINOR * 1000 + \
      WALLMIRROR_VERSION_PATCH)
@@ -446,11 +447,13 @@ enum WallmirrorRefusal {
     WALLMIRROR_DRAFT_OPEN = 18,
     /* no draft is open to add to, to close or to drop */
     WALLMIRROR_NO_DRAFT = 19,
-    /* of wallmirror_rounds: a cell that is refined is not refined in the wanted mesh */
+    /* of wallmirror_rounds, which is not released: a cell that is refined is not refined in the
+     * wanted mesh */
     WALLMIRROR_REFINED_CELL_NOT_WANTED = 20
 };
 
-/* What a number that a call answered means, in words. The texts last as long as the program. */
+/* What a number that a call answered means, in words. The texts last as long as the program. Rounds
+ * are not released: 20 has no text yet, and the text of 10 does not speak of rounds. */
 static inline const char *wallmirror_refusal_text(uint32_t number)
 {
     switch (number) {
@@ -478,8 +481,8 @@ static inline const char *wallmirror_refusal_text(uint32_t number)
         return "a mark is of the last level, which cannot be refined";
     case WALLMIRROR_CELL_LIST_TOO_SHORT:
         return "the cell list is too short for the cells that change, the lent bytes for the file, "
-               "the lent doubles for the corners of the cells, the list of the draft for the added "
-               "marks, or a list for the marks or for the lengths of the rounds";
+               "the lent doubles for the corners of the cells, or the list of the draft for the "
+               "added marks";
     case WALLMIRROR_FUNCTION_LIST_TOO_SHORT:
         return "the function list is too short for the functions that change";
     case WALLMIRROR_MALFORMED_FILE:
@@ -500,8 +503,6 @@ static inline const char *wallmirror_refusal_text(uint32_t number)
         return "a draft is open";
     case WALLMIRROR_NO_DRAFT:
         return "no draft is open";
-    case WALLMIRROR_REFINED_CELL_NOT_WANTED:
-        return "a cell that is refined is not refined in the wanted mesh";
     default:
         return "no refusal has this number";
     }

@@ -59,6 +59,7 @@ def words_top(text):
 
 
 ENSURES = {}
+IDS = set()  # the names in the sources
 SLICES = {}  # by a function's name: its parameters that are lent slices
 
 
@@ -67,6 +68,7 @@ def contracts():
     for path in glob.glob("crates/*/src/**/*.rt", recursive=True):
         crate = path.split("/")[1]
         text = re.sub(r"//[^\n]*", "", read(path))
+        IDS.update(re.findall(r"[a-z_]\w*", text))
         for m in re.finditer(r"\bfn (\w+)", text):
             rest = text[m.end() : m.end() + 6000]
             # up to the body: the first brace that opens a line, or the next function
@@ -150,7 +152,8 @@ class Function:
             if at:
                 return ["ensures", labels[at[0]]], parts[1 + at[1] :]
         elif parts[0] in ("auto", "new") and len(parts) > 1 and re.fullmatch(r"\d", parts[1]):
-            return self.one_of(parts[0], max(SLICES.get(key(self.callee[new]), {()}), key=len), parts)
+            lent = max(SLICES.get(key(self.callee[new]), {()}), key=len)
+            return self.one_of(parts[0], lent if len(lent) == 1 else self.n["params"].get(self.callee[new], lent), parts)
         return None
 
     def one_of(self, word, lent, parts):
@@ -163,8 +166,6 @@ class Function:
             want = ["1"] * i + ["0"]
             if digits[: len(want)] == want:
                 return [word, it], digits[len(want) :]
-            if digits[:1] == [str(i)]:
-                return [word, it], digits[1:]
         return None
 
     def paths(self, text):
@@ -205,6 +206,31 @@ class Function:
             return ".".join(out + parts)
 
         text = re.sub(rf"(?<![\w.'-])({WORD})((?:\.{WORD})+)", one, text)
+        # names of the source keep their spelling
+        text = re.sub(r"\.([a-z][a-z0-9]*(?:-[a-z0-9]+)+)(?![\w'-])", lambda m: "." + m.group(1).replace("-", "_") if m.group(1) not in self.at_new and m.group(1).replace("-", "_") in IDS else m.group(0), text)
+        # a name for what an arm gives
+        for m in re.finditer(rf"\blet ({WORD}) = ({WORD})\.({WORD})\.given in", text):
+            var, new = m.group(1), m.group(3)
+            found = [(place, arm) for place, (_, it, arm) in self.at.items() if it == new and arm]
+            if not found or m.group(2) not in self.vars:
+                continue
+            place, arm = found[0]
+            old = next(k for k, (o, it, a) in self.at.items() if k == place)
+            rows = [(field, path[1:]) for field, step, path in arm[2] if alike(step) == self.at[place][0] and path[:1] == ["given"]]
+
+            def field_of(k, rows=rows, var=var):
+                parts = k.group(2).split(".")[1:]
+                for field, path in sorted(rows, key=lambda it: -len(it[1])):
+                    if parts[: len(path)] == path:
+                        return ".".join([var, field] + parts[len(path) :])
+                return k.group(0)
+
+            tail = re.sub(rf"(?<![\w.'-])({re.escape(var)})((?:\.{WORD})+)", field_of, text[m.end() :])
+            text = text[: m.start()] + f"let {var} = {m.group(2)}.{arm[0]} in" + tail
+            return self.paths_steps(text)
+        return self.paths_steps(text)
+
+    def paths_steps(self, text):
         # a name for a step
         for m in re.finditer(rf"\blet ({WORD}) = ({WORD})\.({WORD})(\.auto|\.ensures|\.new)? in", text):
             if m.group(2) in self.vars and m.group(3) in self.at_new:

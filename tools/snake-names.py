@@ -36,7 +36,8 @@ def files(*patterns):
 def snake(name):
     name = name.replace("-", "_")
     if name[0].islower():
-        name = re.sub(r"([a-z0-9])([A-Z])", lambda m: m.group(1) + "_" + m.group(2).lower(), name)
+        while HUMP.search(name):
+            name = re.sub(r"([a-z0-9])([A-Z])", lambda m: m.group(1) + "_" + m.group(2).lower(), name)
     return name
 
 

@@ -66,6 +66,14 @@ static uint32_t make(const char *name, struct mesh *of, const uint32_t *cells, s
     return count.refined_cells;
 }
 
+/* The header has no text for 20 while rounds are not released. */
+static const char *text_of(uint32_t number)
+{
+    return number == WALLMIRROR_REFINED_CELL_NOT_WANTED
+               ? "a cell that is refined is not refined in the wanted mesh"
+               : wallmirror_refusal_text(number);
+}
+
 /* Finds the rounds between two meshes; answers whether there are any. */
 static int find(const char *name, const struct mesh *from, const struct mesh *to)
 {
@@ -73,7 +81,7 @@ static int find(const char *name, const struct mesh *from, const struct mesh *to
                                                to->cells, CELLS, to->functions, FUNCTIONS, marks,
                                                marks_len, lengths, ROUNDS);
     uint32_t round, at = 0;
-    printf("%s: %u, %s\n", name, (unsigned)found.number, wallmirror_refusal_text(found.number));
+    printf("%s: %u, %s\n", name, (unsigned)found.number, text_of(found.number));
     for (round = 0; round < found.rounds; round++) {
         print_list("round", marks + at, lengths[round]);
         at += lengths[round];

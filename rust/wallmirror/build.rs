@@ -14,7 +14,7 @@ fn main() {
     }
     let folder = match env::var_os(OVERRIDE) {
         Some(folder) => PathBuf::from(folder),
-        None => repository_root().join("target").join("staticlib"),
+        None => repository_root().join("crates/wallmirror/out"),
     };
     // Cargo runs this in the folder of the crate, so a relative path would not mean what its writer saw.
     if !folder.is_absolute() {
@@ -24,7 +24,7 @@ fn main() {
     println!("cargo:rerun-if-changed={}", archive.display());
     if !archive.is_file() {
         fail(&format!(
-            "there is no {}: run 'rt staticlib wallmirror' in the root of the repository, or set {OVERRIDE} to the folder that has it",
+            "there is no {}: run 'rt lib' in crates/wallmirror of the repository, or set {OVERRIDE} to the folder that has it",
             archive.display()
         ));
     }

@@ -166,8 +166,7 @@ static WallmirrorClosed run_without(int kind, const struct lent *l)
     case OPEN:
         return answered(WALLMIRROR_ACCEPTED, draft_of(1, 0));
     case ADD:
-        if (l->marks_len > 0)
-            memcpy(l->list + l->draft.marks, l->marks, l->marks_len * sizeof *l->marks);
+        memcpy(l->list + l->draft.marks, l->marks, l->marks_len * sizeof *l->marks);
         return answered(WALLMIRROR_ACCEPTED,
                         draft_of(l->draft.open, l->draft.marks + l->marks_len));
     case CLOSE:

@@ -35,6 +35,14 @@ static const Change changes[4] = {
 
 static unsigned long accepted[KINDS];
 
+/* the same numbers on every machine */
+static uint32_t random_below(uint32_t n)
+{
+    static uint32_t state = 20261117;
+    state = state * 1664525u + 1013904223u;
+    return (state >> 8) % n;
+}
+
 static int changes_mesh(int kind)
 {
     return kind >= CHANGE && kind < FROM_CELLS;

@@ -499,6 +499,14 @@ static void try_examples(void)
         try_example(&examples[i]);
 }
 
+/* the same numbers on every machine */
+static uint32_t random_below(uint32_t n)
+{
+    static uint32_t state = 20261117;
+    state = state * 1664525u + 1013904223u;
+    return (state >> 8) % n;
+}
+
 /* Some active cells that can be refined, rather of a coarse level. */
 static size_t random_marks(const struct lent *l, const uint8_t *cells, uint32_t *marks, size_t most)
 {
@@ -632,6 +640,23 @@ static void try_nothing(void)
     try_refused(&lent, WALLMIRROR_TABLE_LENGTH);
 }
 
+/* The struct is laid out as Rust has it, and no plan that is taken has more rounds than the header
+ * says. */
+static void try_sizes(void)
+{
+    WallmirrorPlan plan = WALLMIRROR_PLAN(1, 1, 1, 1, 1, 0);
+    uint32_t most = 0;
+    if (sizeof(WallmirrorRounds) != 12 || offsetof(WallmirrorRounds, number) != 0 ||
+        offsetof(WallmirrorRounds, marks) != 4 || offsetof(WallmirrorRounds, rounds) != 8)
+        wrong++;
+    for (; plan.levels < 20; plan.levels++) {
+        if (wallmirror_cells_len(plan) > 0)
+            most = plan.levels - 1; /* one for each level but the last */
+    }
+    if (most != WALLMIRROR_MAX_ROUNDS)
+        wrong++;
+}
+
 int main(void)
 {
     int variant;
@@ -647,6 +672,7 @@ int main(void)
     try_empty(NULL);
     try_empty((uint32_t *)end_of(LIST, 0));
     try_nothing();
+    try_sizes();
     printf("wallmirror_rounds: %lu accepted\n", accepted);
     printf("%lu rounds with %lu marks made and taken back, %lu of them empty\n", rounds_made,
            marks_made, empty_rounds);

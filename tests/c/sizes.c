@@ -14,7 +14,7 @@
 static uint8_t cells[WALLMIRROR_MAX_CELLS + 1], functions[WALLMIRROR_MAX_FUNCTIONS + 1];
 static uint64_t present[WALLMIRROR_MAX_PLANE_WORDS + 1], refined[WALLMIRROR_MAX_PLANE_WORDS + 1];
 static unsigned long taken, refused, wrong;
-static size_t most_cells, most_functions, most_words, most_projected, most_rounds;
+static size_t most_cells, most_functions, most_words, most_projected;
 
 /* Of the projector the plan alone is tried, with nothing lent: it is refused as by open, with 16
  * where it has too many cells, or with 3 for the empty tables. */
@@ -71,8 +71,6 @@ static void try_plan(WallmirrorPlan plan)
         most_cells = t;
     if (f > most_functions)
         most_functions = f;
-    if (plan.levels - 1 > most_rounds) /* one for each level but the last */
-        most_rounds = plan.levels - 1;
     if (wallmirror_open(plan, cells, t + 1, functions, f) != WALLMIRROR_TABLE_LENGTH ||
         wallmirror_open(plan, cells, t, functions, f + 1) != WALLMIRROR_TABLE_LENGTH)
         wrong++;
@@ -130,9 +128,6 @@ static void try_structs(void)
         wrong++;
     if (sizeof(WallmirrorReadWithDraft) != 56 || offsetof(WallmirrorReadWithDraft, answer) != 0 ||
         offsetof(WallmirrorReadWithDraft, draft) != 40)
-        wrong++;
-    if (sizeof(WallmirrorRounds) != 12 || offsetof(WallmirrorRounds, number) != 0 ||
-        offsetof(WallmirrorRounds, marks) != 4 || offsetof(WallmirrorRounds, rounds) != 8)
         wrong++;
     if (sizeof(WallmirrorLevel) != 24 || offsetof(WallmirrorLevel, first_cell) != 0 ||
         offsetof(WallmirrorLevel, columns) != 4 || offsetof(WallmirrorLevel, rows) != 8 ||
@@ -347,11 +342,10 @@ int main(void)
     try_corners();
     try_bits();
     printf("%lu plans taken, %lu refused, %lu wrong\n", taken, refused, wrong);
-    printf("at most %lu cells and %lu functions, planes of at most %lu words, and %lu rounds\n",
-           (unsigned long)most_cells, (unsigned long)most_functions, (unsigned long)most_words,
-           (unsigned long)most_rounds);
+    printf("at most %lu cells and %lu functions, and planes of at most %lu words\n",
+           (unsigned long)most_cells, (unsigned long)most_functions, (unsigned long)most_words);
     if (most_cells != WALLMIRROR_MAX_CELLS || most_functions != WALLMIRROR_MAX_FUNCTIONS ||
-        most_words != WALLMIRROR_MAX_PLANE_WORDS || most_rounds != WALLMIRROR_MAX_ROUNDS)
+        most_words != WALLMIRROR_MAX_PLANE_WORDS)
         wrong++;
     printf("version %s, %lu of header and library\n", WALLMIRROR_VERSION,
            (unsigned long)wallmirror_version());

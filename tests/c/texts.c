@@ -10,7 +10,7 @@
 int main(void)
 {
     uint32_t number;
-    for (number = 0; number <= WALLMIRROR_REFINED_CELL_NOT_WANTED + 1; number++)
+    for (number = 0; number <= WALLMIRROR_NO_DRAFT + 1; number++)
         printf("%lu: %s\n", (unsigned long)number, wallmirror_refusal_text(number));
     number = UINT32_MAX;
     printf("%lu: %s\n", (unsigned long)number, wallmirror_refusal_text(number));

@@ -51,14 +51,6 @@ static const uint8_t shallow_file[10] = {3, 1, 3, 1, 1, 2, 3, 0, 1, 2};
 static uint8_t *pages[SLICES];
 static unsigned long refused[WALLMIRROR_REFINED_CELL_NOT_WANTED + 1], wrong;
 
-/* the same numbers on every machine */
-static inline uint32_t random_below(uint32_t n)
-{
-    static uint32_t state = 20261117;
-    state = state * 1664525u + 1013904223u;
-    return (state >> 8) % n;
-}
-
 static inline void on_touch(int number)
 {
     static const char said[] = "what may only be read was written, or more than was lent\n";

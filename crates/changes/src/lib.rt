@@ -126,7 +126,7 @@ fn list_block(old: &[u8], new: &[u8], list: &mut [u32], n: usize, from: usize, t
 }
 
 // The same of any numbers from `from` up to, not including, `to`, in blocks.
-pub fn list_changed(
+pub fn list_changed_between(
     old: &[u8],
     new: &[u8],
     list: &mut [u32],
@@ -140,14 +140,23 @@ pub fn list_changed(
     ensures value { result ≡ length (changed to old.now new.now) }
     ensures list_after { list.new ≡ written (changed to old.now new.now) list.old }
 {
-    let mut k = n;
+    let mut listed = n;
     let mut at = from;
     while at < to {
         let end = block_end(at, to);
-        k = list_block(old, new, list, k, at, end);
+        listed = list_block(old, new, list, listed, at, end);
         at = end;
     }
-    k
+    listed
+}
+
+// The numbers that changed, in rising order; the entries past them stay. Answers how many they are.
+fn list_changed(old: &[u8], new: &[u8], list: &mut [u32]) -> usize
+    requires { ListRoom old.now new.now list.old }
+    ensures value { result ≡ length (changed (length old.now) old.now new.now) }
+    ensures list_after { list.new ≡ written (changed (length old.now) old.now new.now) list.old }
+{
+    list_changed_between(old, new, list, 0, 0, old.len())
 }
 
 // A refusal answers its number, with zero lengths.
@@ -205,7 +214,7 @@ pub fn room_refusal(
     requires cells_len { length cells.now ≡ cell_total plan }
     requires mesh_table { MeshTable plan new_cells.now }
     requires rooms { Rooms plan functions.now made.old }
-    ensures { result ≡ room_refusal plan cells.now functions.now cell_room_lem function_room new_cells.now }
+    ensures { result ≡ room_refusal plan cells.now functions.now cell_room function_room new_cells.now }
 {
     if is_short(cells, new_cells, cell_room) {
         return 10;
@@ -221,7 +230,7 @@ pub fn take_over(table: &mut [u8], list: &mut [u32], new: &[u8]) -> u32
     requires { ListRoom table.old new.now list.old }
     ensures { Taken table list new.now result }
 {
-    let n = list_changed(table, new, list, 0, 0, table.len());
+    let n = list_changed(table, new, list);
     copy_bytes(table, new);
     n as u32
 }

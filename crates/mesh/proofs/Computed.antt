@@ -9,7 +9,7 @@ use Rattle.grid.specs.Plan.{between, numbers_in_range, corners_in_range, in_rang
 use Rattle.grid.specs.HNear.{h_near_at, h_near}
 use Rattle.grid.specs.Knots.{is_set, is_corner, corners_to, times, knot_from, knot, beyond, functions, covers, apart, together}
 use Rattle.mesh.specs.Mesh.{absent, active, refined, children, cell_fits, is_mesh, is_admissible, table_of, label_of, labels, is_labelled, refusal3, refusal6, check}
-use Rattle.mesh.specs.HAdmissible.{is_hAdmissible, h_check}
+use Rattle.mesh.specs.HAdmissible.{is_h_admissible, h_check}
 use Rattle.mesh.proofs.AfterP7.{W2}
 
 -- both numbers, of the tables in which just these cells are refined
@@ -20,5 +20,5 @@ checks xs =
 
 -- cell 3 needed cell 1, and does not now; what passed passes; cell 4 needs cell 1 by both
 pub worked : checks (0 ∷ 3 ∷ []) ∷ checks (0 ∷ 1 ∷ 3 ∷ []) ∷ checks (0 ∷ 4 ∷ []) ∷ [] ≡ (5 ∷ 0 ∷ []) ∷ (0 ∷ 0 ∷ []) ∷ (5 ∷ 5 ∷ []) ∷ []
-unfolding some every elem tabulate offset number level_of place_on place between numbers_in_range corners_in_range in_range ratio grown too_large plan_refusal last_level above below parent child is_set is_corner corners_to times knot_from knot beyond functions covers apart together supported_at supported ancestor common_at near_at near h_near_at h_near absent active refined children cell_fits is_mesh is_admissible is_hAdmissible table_of label_of labels is_labelled refusal3 refusal6 check h_check
+unfolding some every elem tabulate offset number level_of place_on place between numbers_in_range corners_in_range in_range ratio grown too_large plan_refusal last_level above below parent child is_set is_corner corners_to times knot_from knot beyond functions covers apart together supported_at supported ancestor common_at near_at near h_near_at h_near absent active refined children cell_fits is_mesh is_admissible is_h_admissible table_of label_of labels is_labelled refusal3 refusal6 check h_check
 worked = refl

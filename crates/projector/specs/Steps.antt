@@ -9,11 +9,11 @@ use Rattle.heights.specs.Steps.{OnSurface}
 use Rattle.projector.specs.declared.Corner.{Corner}
 use Rattle.projector.specs.declared.CornersAnswer.{CornersAnswer}
 use Rattle.projector.specs.Projector.{most_projected, CornersOutcome}
-use Rattle.std.specs.Borrow.{Bor}
+use Rattle.std.specs.Borrow.{MutBor}
 use denote.Triple.Both.{Both}
 
 -- an answer, and what the lent words hold at exit
-abbrev pub left_by_corners : CornersAnswer → Both (Bor (List ℕ)) (Bor (List ℕ)) → CornersOutcome
+abbrev pub left_by_corners : CornersAnswer → Both (MutBor (List ℕ)) (MutBor (List ℕ)) → CornersOutcome
 left_by_corners r out = record { answer = r; out = out.exit.now }
 
 -- none of a corner's floats is a NaN, so each has bits of its own

@@ -10,12 +10,12 @@ use Rattle.outcomes.specs.Meets.{Lent, left}
 use Rattle.heights.specs.Heights.{heights_refusal}
 use Rattle.carry.specs.Steps.{Grows}
 use Rattle.refining.specs.Refining.{WithHeights, carry_into}
-use Rattle.std.specs.Borrow.{Bor}
+use Rattle.std.specs.Borrow.{MutBor}
 use denote.Triple.Both.{Both}
 
 -- what lent heights hold at entry and at exit
 abbrev pub LentHeights : Type 0
-LentHeights = Both (Bor (List ℤ)) (Bor (List ℤ))
+LentHeights = Both (MutBor (List ℤ)) (MutBor (List ℤ))
 
 -- an answer, with tables, heights and lists as the function leaves them
 abbrev pub left_with_heights : Answer → Lent → Lent → LentHeights → Lent → Lent → WithHeights

@@ -39,7 +39,7 @@ fn make(
 ) -> u32
     requires functions_value { check plan cells.now functions.now ≡ 0 }
     requires new_cells_len { (length new_cells.old ≡ cell_total plan) × (length new_functions.old ≡ function_total plan) }
-    ensures { Made (by_of by) plan cells.now functions.now marks.now cell_room_lem function_room result new_cells.new new_functions.new }
+    ensures { Made (by_of by) plan cells.now functions.now marks.now cell_room function_room result new_cells.new new_functions.new }
 {
     let total = plan.cell_total() as usize;
     let mut room = [0u8; MOST_CELLS];

@@ -58,7 +58,7 @@ fn list_levels(
     while k < last {
         let from = plan.cell_offset(k as u32) as usize;
         let to = plan.cell_offset(k as u32 + 1) as usize;
-        let end = changes::list_changed(cells, wanted, marks, n, from, to);
+        let end = changes::list_changed_between(cells, wanted, marks, n, from, to);
         lengths[k] = (end - n) as u32;
         n = end;
         k += 1;

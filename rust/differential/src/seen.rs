@@ -1,10 +1,9 @@
 //! What calls answered in a test, so that one in which a refusal never came up is found.
 
 use std::fmt::Debug;
-use wallmirror::Refusal;
 
-/// 0 and the refusals.
-const NUMBERS: usize = 1 + Refusal::ALL.len();
+/// 0 and the refusals, 20 of rounds among them.
+const NUMBERS: usize = 21;
 
 /// How often each call answered each number.
 pub struct Seen<Call>(Vec<(Call, [u32; NUMBERS])>);

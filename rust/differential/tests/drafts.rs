@@ -1,7 +1,7 @@
 //! Drafts: calls of every kind in every order, on drafts that the calls made and on others, against
 //! the model; whole runs taken back; and what a draft is to the calls that know none.
 
-use differential::draft::{none_open, Call, Input};
+use differential::draft::{Call, Input};
 use differential::scenario;
 use differential::seen::Seen;
 use differential::surface::{damage, random_heights, with_heights, Fill, DAMAGES, DEGREES};
@@ -468,6 +468,22 @@ fn while_a_draft_is_open() {
 }
 
 // ---- No draft open ----
+
+/// A draft that counts as not open.
+fn none_open(random: &mut Random) -> Draft {
+    let entries = random.pick(&[0, 1, 3, 20]);
+    let list = random.numbers(entries);
+    match random.below(4) {
+        0 => Draft::none(list),
+        1 => Draft { open: 0, marks: random.below(entries + 2), list },
+        2 => Draft { open: random.pick(&[1, 2, u32::MAX]), marks: entries + 1, list },
+        _ => Draft {
+            open: random.pick(&[1, 1 << 31]),
+            marks: random.pick(&[1 << 32, usize::MAX]),
+            list,
+        },
+    }
+}
 
 /// The forms without a draft, which are to do the same.
 fn make_without_draft(input: &mut Input, call: Call) -> Outcome {

@@ -1,7 +1,7 @@
 //! The built session program, started on inputs of all kinds, against the model's session.
 //!
 //! `WALLMIRROR_SESSION`, an absolute path, names the program; without it the tests take the one
-//! that `rt check session` leaves in this repository.
+//! that `rt run` in crates/session leaves in this repository.
 
 use differential::{plan, Kind, Random, Tables};
 use model::session::{answer, session, Wall, INPUT_BYTES, LINE_MARKS, WALL_CELLS};
@@ -15,12 +15,12 @@ use std::time::Duration;
 const VARIABLE: &str = "WALLMIRROR_SESSION";
 
 fn program() -> PathBuf {
-    let built = || Path::new(env!("CARGO_MANIFEST_DIR")).join("../../target/bin/session");
+    let built = || Path::new(env!("CARGO_MANIFEST_DIR")).join("../../crates/session/out/session");
     let path = std::env::var_os(VARIABLE).map_or_else(built, PathBuf::from);
     assert!(path.is_absolute(), "{VARIABLE} is to be an absolute path, not '{}'", path.display());
     assert!(
         path.is_file(),
-        "there is no session program '{}': run 'rt check session' in the root of the repository, \
+        "there is no session program '{}': run 'rt run' in crates/session of the repository, \
          or set {VARIABLE} to its path",
         path.display()
     );

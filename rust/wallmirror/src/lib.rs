@@ -282,6 +282,8 @@
 //!
 //! # From one mesh to another
 //!
+//! This is not released: [`VERSION`] is that without it, and it may change until it is.
+//!
 //! [`Mesh::rounds_to`] tells which cells to mark so that a mesh becomes a wanted one of the same
 //! plan, in rounds: one for each level but the last, and some of them may be empty. Round k has, in
 //! rising order, the cells of level k that are refined in the wanted mesh and active after the rounds
@@ -774,12 +776,13 @@ pub enum Refusal {
     DraftOpen = 18,
     /// No draft is open to add to, to close or to drop.
     NoDraft = 19,
-    /// Of [`rounds`]: a cell that is refined is not refined in the wanted mesh.
+    /// Of [`rounds`]: a cell that is refined is not refined in the wanted mesh. While rounds are not
+    /// released, [`Refusal::ALL`], [`Refusal::from_number`] and the header's texts do without it.
     RefinedCellNotWanted = 20,
 }
 
 impl Refusal {
-    /// All refusals in the order of their numbers.
+    /// All refusals of the released calls, 1 to 19, in the order of their numbers.
     pub const ALL: &[Refusal] = &[
         Refusal::PlanOutOfRange,
         Refusal::TooManyCells,
@@ -800,7 +803,6 @@ impl Refusal {
         Refusal::CarriedHeightOutOfRange,
         Refusal::DraftOpen,
         Refusal::NoDraft,
-        Refusal::RefinedCellNotWanted,
     ];
 
     /// The number that the library answers, 1 to 20.
@@ -808,7 +810,8 @@ impl Refusal {
         self as u32
     }
 
-    /// The refusal with that number; `None` for 0 (accepted) and for numbers that none has.
+    /// The refusal of [`Refusal::ALL`] with that number; `None` for 0 (accepted) and for numbers that
+    /// none has.
     ///
     /// ```
     /// # use wallmirror::Refusal;
@@ -849,7 +852,7 @@ impl Refusal {
             Refusal::MarkOfWrongKind => "a mark is not of the kind that the call takes",
             Refusal::MarkOfLastLevel => "a mark is of the last level, which cannot be refined",
             Refusal::CellListTooShort => {
-                "the cell list is too short for the cells that change, the lent bytes for the file, the lent doubles for the corners of the cells, the list of the draft for the added marks, or a list for the marks or for the lengths of the rounds"
+                "the cell list is too short for the cells that change, the lent bytes for the file, the lent doubles for the corners of the cells, or the list of the draft for the added marks"
             }
             Refusal::FunctionListTooShort => {
                 "the function list is too short for the functions that change"

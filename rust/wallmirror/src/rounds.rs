@@ -113,6 +113,9 @@ pub fn rounds(
             lengths.len(),
         )
     };
+    if answer.number == Refusal::RefinedCellNotWanted.number() {
+        return Err(Refusal::RefinedCellNotWanted);
+    }
     accepted(answer.number)?;
     Ok(Rounds { marks: answer.marks as usize, rounds: answer.rounds as usize })
 }

@@ -1,10 +1,8 @@
 -- `run_levels` meets its contract. The invariant: the levels passed are visited, each by the table made when it was entered. Assumes nothing.
 use mathlib.Core.Path.{◌≡◌, refl, ap, ◌∙◌}
 use mathlib.Core.List.{List}
-use Prim.Native.Nat.{ℕ, ◌-◌, ◌≤◌}
+use Prim.Native.Nat.{ℕ, ◌-◌}
 use native.Mathlib.Omega.{arith}
-use borrow.Author.Rules.{rules}
-use lib.ListN.{length}
 use Rattle.closure.specs.Walk.{sweep, pass_level, pass}
 use Rattle.closure.proofs.Sweeps.{sweep_none, sweep_more}
 use Rattle.closure.proofs.Model.{level_told}
@@ -24,7 +22,7 @@ neighbourhoods-requires c = let s = c in
 pub run_level-requires : goal.run_level-requires
 run_level-requires c = let s = c in
     let l = c.loop-level in
-    record { table_size = rw l.invariant.0 s.requires.table_size; flags_len = (s.requires.flags_len, rw (c.neighbourhoods.auto.near.1.1.1.0 ∙ l.invariant.1) s.requires.near_room.0); level_bound = omega arith }
+    record { table_size = rw l.invariant.0 s.requires.table_size; flags_len = (s.requires.flags_len, rw (c.neighbourhoods.auto.near ∙ l.invariant.1) s.requires.near_room.0); level_bound = omega arith }
 
 pub loop-level-preserved : goal.loop-level-preserved
 loop-level-preserved c = let a = c.args in
@@ -32,8 +30,8 @@ loop-level-preserved c = let a = c.args in
     let n = c.neighbourhoods in
     let v : ℕ → List ℕ → List ℕ = pass_level a.step a.plan a.flags.now in (
       c.run_level.auto.cells ∙ l.invariant.0,
-      n.auto.near.1.1.1.0 ∙ l.invariant.1,
-      n.auto.near.1.1.0 ∙ l.invariant.2,
+      n.auto.near ∙ l.invariant.1,
+      n.auto.scratch ∙ l.invariant.2,
       omega arith,
       c.run_level.ensures
           ∙ (level_told a.step a.plan a.flags.now _ l.cells l.level (omega arith) n.ensures

@@ -1,13 +1,8 @@
 -- `run_levels` meets its contract. The invariant: the levels passed are visited, each by the table made when it was entered. Assumes nothing.
-use mathlib.Core.Path.{◌≡◌, refl, ap, ◌∙◌}
-use mathlib.Core.List.{List}
-use Prim.Native.Nat.{ℕ, ◌-◌, ◌≤◌}
-use native.Mathlib.Omega.{arith}
-use borrow.Author.Rules.{rules}
+use mathlib.Core.Path.{◌≡◌}
+use Prim.Native.Nat.{◌-◌, ◌≤◌}
 use lib.ListN.{length}
-use Rattle.closure.specs.Walk.{sweep, pass_level, pass}
-use Rattle.closure.proofs.Sweeps.{sweep_none, sweep_more}
-use Rattle.closure.proofs.Model.{level_told}
+use Rattle.closure.specs.Walk.{sweep, pass_level}
 use Rattle.closure.proofs.run_levels.Given as goal
 
 abbrev pub invariant-loop-level : goal.invariant-loop-level

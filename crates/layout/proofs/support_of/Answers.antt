@@ -22,7 +22,7 @@ known : (c : Then-function-functions_len) â†’ let a = c.args in InRange a.plan Ã
 known c = let (r, l) = functions_below _ _ (below c) in (r, function_inside _ r _ l)
 
 pub support_of-cover-requires : goal.support_of-cover-requires
-support_of-cover-requires c = let whole = (rw c.function_place.ensures (known (goal.at.support_of-cover-requires c).Then-function-functions_len)) in record { in_range = whole.0; function_inside = whole.1 }
+support_of-cover-requires c = let both = known (goal.at.support_of-cover-requires c).Then-function-functions_len in record { in_range = both.0; function_inside = rw c.function_place.ensures both.1 }
 
 pub returns-then-function-functions_len : goal.returns-then-function-functions_len
 returns-then-function-functions_len c = let s = c in

@@ -33,8 +33,8 @@ cell_offset_requires c κs = (c.before.before.before.before.before.before.before
 cell_offset_requires_2 : tie.Need-cell-offset-requires-2 invariant_loop decreases_loop
 cell_offset_requires_2 c κs = (c.before.before.before.before.before.before.before.before.requires.range, omega arith)
 
-list_changed_requires : tie.Need-list-changed-requires invariant_loop decreases_loop
-list_changed_requires c κs =
+list_changed_between_requires : tie.Need-list-changed-between-requires invariant_loop decreases_loop
+list_changed_between_requires c κs =
     let s = c.before.before.before.before.before.before.before.before.before.before in
     let a = s.args in
     let l = c.before.before.before.before.loop in
@@ -44,17 +44,17 @@ list_changed_requires c κs =
     (list_room a.plan _ _ _ _ L l.invariant.2, (block a.plan _ _ _ _ L l.k (omega arith) from to, listed_to a.plan _ _ _ _ L l.k l.n l.invariant.4 from))
 
 -- what a level adds
-level : (c : tie.After-list-changed invariant_loop decreases_loop) → let a = c.before.before.before.before.before.before.before.before.before.before.before.args in c.before.before.before.before.before.loop.n + missing_on a.plan a.cells.now a.wanted.now c.before.before.before.before.before.loop.k ≡ c.list-changed.result
+level : (c : tie.After-list-changed-between invariant_loop decreases_loop) → let a = c.before.before.before.before.before.before.before.before.before.before.before.args in c.before.before.before.before.before.loop.n + missing_on a.plan a.cells.now a.wanted.now c.before.before.before.before.before.loop.k ≡ c.list-changed-between.result
 level c =
     let s = c.before.before.before.before.before.before.before.before.before.before.before in
     let l = c.before.before.before.before.before.loop in
-    let b = c.list-changed in
+    let b = c.list-changed-between in
     one_level s.args.plan _ _ _ _ s.requires l.k l.n l.invariant.4 (omega arith) b.result (b.ensures.0 ∙ ap (λ t. length (changed t s.args.cells.now s.args.wanted.now)) c.before.before.cell-offset2.ensures)
 
-fits : (c : tie.After-list-changed invariant_loop decreases_loop) → c.list-changed.result ≤ most_cells
+fits : (c : tie.After-list-changed-between invariant_loop decreases_loop) → c.list-changed-between.result ≤ most_cells
 fits c =
     let s = c.before.before.before.before.before.before.before.before.before.before.before in
-    let b = c.list-changed in
+    let b = c.list-changed-between in
     omega (arith, b.ensures.0, changed_short s.args.cells.now s.args.wanted.now c.before.before.cell-offset2.result, c.before.before.cell-offset2.ensures, offset_mono (columns_at s.args.plan) (rows_at s.args.plan) (c.before.before.before.before.before.loop.k + 1) s.args.plan.levels (omega arith), s.requires.small)
 
 sub_lengths : tie.Need-overflow-sub-lengths invariant_loop decreases_loop
@@ -73,7 +73,7 @@ loop_again : tie.Need-loop-preserved invariant_loop decreases_loop
 loop_again c =
     let s = c.before.before.before.before.before.before.before.before.before.before.before.before.before in
     let l = c.before.before.before.before.before.before.before.loop in
-    let b = c.before.before.list-changed in
+    let b = c.before.before.list-changed-between in
     let to = c.before.before.before.before.cell-offset2.ensures in
     (omega arith, refl, b.auto.1.1.0 ∙ l.invariant.2, simp length-set l.invariant.3, next s.args.plan _ _ _ _ s.requires l.k l.n l.invariant.4 (omega arith) b.result (b.ensures.0 ∙ ap (λ t. length (changed t s.args.cells.now s.args.wanted.now)) to) (b.ensures.1 ∙ ap (λ t. written (changed t s.args.cells.now s.args.wanted.now) l.marks) to) (omega (arith, s.requires.levels≤)) (omega arith))
 
@@ -94,5 +94,5 @@ list_levels_spec =
     tie.close
     (tie.spec
     invariant_loop decreases_loop sub_last (λ c. search rules) loop_holds (λ c. search rules) cell_offset_requires (λ c. search rules) (λ c. search rules)
-    (λ c. search rules) cell_offset_requires_2 (λ c. search rules) list_changed_requires sub_lengths cast_lengths mul_lengths slice_write_lengths
+    (λ c. search rules) cell_offset_requires_2 (λ c. search rules) list_changed_between_requires sub_lengths cast_lengths mul_lengths slice_write_lengths
     (λ c. search rules) (λ c. search rules) loop_again cast_result same_length same_length_2 returns)

@@ -1,0 +1,20 @@
+-- `admissible::level_admissible` meets its contract. The invariant: whether the rows so far pass. Assumes nothing.
+use mathlib.Core.Path.{◌≡◌, refl, sym, ap, ◌∙◌}
+use Prim.Native.Nat.{ℕ, ◌+◌, ◌-◌, ◌*◌, ◌≤◌}
+use native.Mathlib.Nat.{zero-mul}
+use native.Mathlib.Omega.{arith}
+use borrow.Author.Rules.{rules}
+use Rattle.facts.specs.Ranges.{every_from}
+use Rattle.facts.proofs.Ranges.{from_none}
+use Rattle.grid.specs.Plan.{columns_at, rows_at, cell_offset}
+use Rattle.grid.proofs.Levels.{row_within}
+use Rattle.admissible.specs.Admissible.{cell_admissible}
+use Rattle.facts.proofs.Rows.{rows_join}
+use Rattle.admissible.proofs.level_admissible.Given as goal
+
+abbrev pub invariant-loop-row : goal.invariant-loop-row
+invariant-loop-row l = (l.row ≤ l.rows) × (l.at ≡ cell_offset l.plan l.level + l.row * columns_at l.plan l.level) × (l.ok ≡ every_from (cell_offset l.plan l.level) (l.row * columns_at l.plan l.level) (cell_admissible l.plan l.cells))
+    × (l.rows ≡ rows_at l.plan l.level) × (l.columns ≡ columns_at l.plan l.level)
+
+abbrev pub decreases-loop-row : goal.decreases-loop-row
+decreases-loop-row l = l.rows - l.row

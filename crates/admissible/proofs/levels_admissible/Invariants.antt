@@ -1,0 +1,18 @@
+-- `admissible::levels_admissible` meets its contract. The invariant: whether the levels so far pass. Assumes nothing.
+use mathlib.Core.Path.{◌≡◌, refl, sym, ◌∙◌}
+use Prim.Native.Nat.{◌-◌, ◌≤◌}
+use native.Mathlib.Omega.{arith}
+use borrow.Author.Rules.{rules}
+use lib.ListN.{length}
+use Rattle.facts.specs.Ranges.{every_from}
+use Rattle.grid.specs.Plan.{columns_at, rows_at, cell_offset}
+use Rattle.grid.proofs.Levels.{levels_none, levels_join}
+use Rattle.admissible.specs.Admissible.{cell_admissible}
+use Rattle.admissible.proofs.Cells.{levels_passed}
+use Rattle.admissible.proofs.levels_admissible.Given as goal
+
+abbrev pub invariant-loop-level : goal.invariant-loop-level
+invariant-loop-level l = (length l.near ≡ length l.initial.near) × (length l.scratch ≡ length l.initial.scratch) × (l.level ≤ l.last) × (l.ok ≡ every_from 0 (cell_offset l.plan l.level) (cell_admissible l.plan l.cells))
+
+abbrev pub decreases-loop-level : goal.decreases-loop-level
+decreases-loop-level l = l.last - l.level

@@ -1,0 +1,14 @@
+-- `count_changed` meets its contract. The invariant: the count is that of the numbers passed. Assumes nothing.
+use mathlib.Core.Path.{◌≡◌, sym, ap}
+use Prim.Native.Nat.{◌-◌, ◌≤◌}
+use native.Mathlib.Omega.{arith}
+use lib.ListN.{length}
+use Rattle.outcomes.specs.Calls.{changed}
+use Rattle.changes.proofs.Changes.{changed_none, changed_short}
+use Rattle.changes.proofs.count_changed.Given as goal
+
+abbrev pub invariant-loop-at : goal.invariant-loop-at
+invariant-loop-at l = (l.at ≤ length l.old) × (l.n ≡ length (changed l.at l.old l.new))
+
+abbrev pub decreases-loop-at : goal.decreases-loop-at
+decreases-loop-at l = length l.old - l.at

@@ -1,0 +1,149 @@
+-- `refine_cell` and `refine_neighbourhood` meet their contracts, at every fuel above the level. The measure is twice the level, and one
+-- more for the cell itself. The loops' invariants: the table is the model's after the rows, or the columns, passed. Assumes nothing.
+use mathlib.Core.Path.{◌≡◌, refl, sym, ap, ◌∙◌}
+use mathlib.Core.List.{List}
+use Prim.Native.Nat.{ℕ, ◌+◌, ◌-◌, ◌≤◌}
+use native.Mathlib.Nat.{le_refl}
+use native.Mathlib.Omega.{arith}
+use lib.ListN.{get_or}
+use Rattle.grid.specs.declared.Plan.{Plan}
+use Rattle.grid.specs.declared.Place.{Place}
+use Rattle.grid.specs.declared.Rectangle.{Rectangle}
+use Rattle.grid.specs.Plan.{CellInside}
+use Rattle.grid.specs.Spans.{neighbourhood}
+use Rattle.grid.proofs.Laws.{cell_number_lt}
+use Rattle.closure.specs.Ready.{TableSize}
+use Rattle.closure.specs.Walk.{sweep, at, refine_cell}
+use Rattle.closure.proofs.Sweeps.{sweep_none, sweep_more}
+use Rattle.closure.proofs.Places.{Sited, sited}
+use Rattle.closure.proofs.Model.{refine_done, refine_opened, near_plain, near_low, near_over, Lower, lower}
+use Rattle.closure.proofs.+refine_cell_refine_neighbourhood.Goals as goal
+use Rattle.closure.proofs.+refine_cell_refine_neighbourhood.Goals.{refine_neighbourhood-In-loop-column}
+
+-- ---- the cell
+
+pub refine_cell-bounds-cells-number : goal.refine_cell-bounds-cells-number
+refine_cell-bounds-cells-number t c =
+    let a = c.args in
+    omega (arith, cell_number_lt a.plan c.requires.table_size.range a.place c.requires.cell_inside, c.requires.table_size.size, c.requires.cell_value)
+
+pub refine_cell-returns-then-cells-number-eq2 : goal.refine_cell-returns-then-cells-number-eq2
+refine_cell-returns-then-cells-number-eq2 t c = λ n l.
+    let a = c.args in
+    refine_done a.plan a.place a.cells.now n l (ap (λ (i : ℕ). get_or a.cells.now i 0) (sym c.requires.cell_value) ∙ c.if-cells-number-eq2.true)
+
+pub refine_cell-refine_neighbourhood-requires : goal.refine_cell-refine_neighbourhood-requires
+refine_cell-refine_neighbourhood-requires t c =
+    (omega (arith, c.decreases), (c.requires.table_size, (c.requires.cell_inside, c.requires.level_bound)))
+
+pub refine_cell-returns : goal.refine_cell-returns
+refine_cell-returns t c = λ n l.
+    let a = c.args in
+    c.write_cell.ensures
+    ∙ refine_opened a.plan a.place a.cells.now n _ l (λ e. c.if-cells-number-eq2.false (ap (λ (i : ℕ). get_or a.cells.now i 0) c.requires.cell_value ∙ e)) c.refine_neighbourhood.ensures
+
+-- ---- its neighbourhood
+
+pub refine_neighbourhood-returns-then-class-eq0 : goal.refine_neighbourhood-returns-then-class-eq0
+refine_neighbourhood-returns-then-class-eq0 t c = λ n l. near_plain _ _ _ _ c.if-class-eq0.true
+
+pub refine_neighbourhood-returns-then-level-class : goal.refine_neighbourhood-returns-then-level-class
+refine_neighbourhood-returns-then-level-class t c = λ n l. near_low _ _ _ _ c.if-class-eq0.false c.if-level-class.true
+
+-- the rectangle that is walked
+walked : {p : Plan} {x : Place} {r : Rectangle} {n : ℕ} → r ≡ neighbourhood p x → TableSize p n → CellInside p x → (p.class ≡ 0 → ⊥) → p.class ≤ x.level + 1 → Lower p x r
+walked e size inside class≢ level≥ = lower e size.range inside (record { class≢ = class≢; level≥ = level≥ })
+
+pub refine_neighbourhood-cell_offset-offset-requires-clause-level_le_levels :
+    goal.refine_neighbourhood-cell_offset-offset-requires-clause-level_le_levels
+refine_neighbourhood-cell_offset-offset-requires-clause-level_le_levels t c =
+    let down = (walked c.neighbourhood-near.ensures c.requires.table_size c.requires.cell_inside c.if-class-eq0.false c.if-level-class.false).level< in
+    omega arith
+
+pub refine_neighbourhood-columns_at-width-requires-clause-level_lt_levels :
+    goal.refine_neighbourhood-columns_at-width-requires-clause-level_lt_levels
+refine_neighbourhood-columns_at-width-requires-clause-level_lt_levels t c =
+    let down = (walked c.neighbourhood-near.ensures c.requires.table_size c.requires.cell_inside c.if-class-eq0.false c.if-level-class.false).level< in
+    omega arith
+
+pub refine_neighbourhood-loop-row-init : goal.refine_neighbourhood-loop-row-init
+refine_neighbourhood-loop-row-init t c =
+    let k = walked c.neighbourhood-near.ensures c.requires.table_size c.requires.cell_inside c.if-class-eq0.false c.if-level-class.false in
+    (refl, le_refl _, k.rows≤, λ n l. sweep_none _ _ _)
+
+pub refine_neighbourhood-loop-column-init : goal.refine_neighbourhood-loop-column-init
+refine_neighbourhood-loop-column-init t c =
+    let k = walked c.neighbourhood-near.ensures c.requires.table_size c.requires.cell_inside c.if-class-eq0.false c.if-level-class.false in
+    (refl, le_refl _, k.columns≤, λ n l. sweep_none _ _ _)
+
+-- the cell that is reached
+reached : (t : ℕ) (c : refine_neighbourhood-In-loop-column t) → CellInside c.args.plan (at c.neighbourhood-near.result.level c.loop-row.row c.loop-column.column)
+reached t c =
+    let k = walked c.neighbourhood-near.ensures c.requires.table_size c.requires.cell_inside c.if-class-eq0.false c.if-level-class.false in
+    k.inside c.loop-row.row c.loop-column.column (omega arith) (omega arith)
+
+site : (t : ℕ) (c : refine_neighbourhood-In-loop-column t)
+    → Sited c.args.plan (at c.neighbourhood-near.result.level c.loop-row.row c.loop-column.column) c.cell_offset-offset.result c.columns_at-width.result
+site t c = sited c.requires.table_size (reached t c) c.cell_offset-offset.ensures c.columns_at-width.ensures
+
+pub refine_neighbourhood-overflow_mul-number : goal.refine_neighbourhood-overflow_mul-number
+refine_neighbourhood-overflow_mul-number t c = omega (arith, site t c)
+
+pub refine_neighbourhood-overflow_add-number : goal.refine_neighbourhood-overflow_add-number
+refine_neighbourhood-overflow_add-number t c = omega (arith, site t c, c.requires.table_size.small)
+
+pub refine_neighbourhood-overflow_add-number-in-loop-column :
+    goal.refine_neighbourhood-overflow_add-number-in-loop-column
+refine_neighbourhood-overflow_add-number-in-loop-column t c = omega (arith, site t c, c.requires.table_size.small)
+
+pub refine_neighbourhood-refine_cell-requires : goal.refine_neighbourhood-refine_cell-requires
+refine_neighbourhood-refine_cell-requires t c =
+    let i = (goal.at.refine_neighbourhood-refine_cell-requires t c).In-loop-column in
+    let down = (walked c.neighbourhood-near.ensures c.requires.table_size c.requires.cell_inside c.if-class-eq0.false c.if-level-class.false).level< in (
+      omega (arith, c.decreases),
+      (rw (c.loop-column.invariant.0 ∙ c.loop-row.invariant.0) c.requires.table_size, (reached t i, ((site t i).same, omega arith))),
+    )
+
+pub refine_neighbourhood-loop-column-preserved : goal.refine_neighbourhood-loop-column-preserved
+refine_neighbourhood-loop-column-preserved t c =
+    let a = c.args in
+    let l = c.loop-column in
+    let k = walked c.neighbourhood-near.ensures c.requires.table_size c.requires.cell_inside c.if-class-eq0.false c.if-level-class.false in
+    let x : ℕ → Place = at c.neighbourhood-near.result.level c.loop-row.row in (
+      c.refine_cell.auto.cells ∙ l.invariant.0,
+      omega arith,
+      omega arith,
+      λ n m.
+          c.refine_cell.ensures n (omega (arith, k.level<))
+          ∙ ap (refine_cell n a.plan (x l.column)) (l.invariant.3 n m)
+          ∙ sweep_more (λ j. refine_cell n a.plan (x j)) _ l.column _ l.invariant.1,
+    )
+
+pub refine_neighbourhood-loop-row-preserved : goal.refine_neighbourhood-loop-row-preserved
+refine_neighbourhood-loop-row-preserved t c =
+    let a = c.args in
+    let l = c.loop-row in
+    let r = c.neighbourhood-near.result in
+    let w : ℕ = r.columns.first in
+    let e : c.loop-column.column ≡ r.columns.end = omega arith in
+    let f : ℕ → ℕ → ℕ → List ℕ → List ℕ = λ n y x. refine_cell n a.plan (at r.level y x) in (
+      c.loop-column.invariant.0 ∙ l.invariant.0,
+      omega arith,
+      omega arith,
+      λ n m.
+          c.loop-column.invariant.3 n m
+          ∙ ap (λ (j : ℕ). sweep (f n l.row) w (j - w) l.cells) e
+          ∙ ap (sweep (f n l.row) w (r.columns.end - w)) (l.invariant.3 n m)
+          ∙ sweep_more (λ y. sweep (f n y) w (r.columns.end - w)) _ l.row _ l.invariant.1,
+    )
+
+pub refine_neighbourhood-returns : goal.refine_neighbourhood-returns
+refine_neighbourhood-returns t c = λ n l.
+    let a = c.args in
+    let r = c.neighbourhood-near.result in
+    let w : ℕ = r.columns.first in
+    let s : ℕ = r.rows.first in
+    let e : c.loop-row.row ≡ r.rows.end = omega arith in
+    c.loop-row.invariant.3 n l
+    ∙ ap (λ (j : ℕ). sweep (λ y. sweep (λ x. refine_cell n a.plan (at r.level y x)) w (r.columns.end - w)) s (j - s) a.cells.now) e
+    ∙ near_over a.plan a.place a.cells.now (refine_cell n a.plan) c.neighbourhood-near.ensures c.if-class-eq0.false c.if-level-class.false

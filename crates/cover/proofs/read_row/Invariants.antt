@@ -1,0 +1,19 @@
+-- `cover::read_row` meets its contract. The invariant: the entries so far. Assumes nothing.
+use mathlib.Core.Path.{◌≡◌, refl, sym, ap, ◌∙◌}
+use Prim.Native.Nat.{◌+◌, ◌-◌, ◌≤◌, ◌<◌}
+use native.Mathlib.Omega.{arith}
+use borrow.Author.Rules.{rules}
+use lib.ListN.{length, get_or}
+use Rattle.facts.specs.Mapped.{filled}
+use Rattle.facts.proofs.Mapped.{part_at, filled_none, fill_length, fill_part}
+use Rattle.facts.proofs.Ranges.{mid_len}
+use Rattle.grid.specs.Side.{first_over}
+use Rattle.windows.proofs.Placed.{run_ends}
+use Rattle.cover.specs.Level.{row_read}
+use Rattle.cover.proofs.read_row.Given as goal
+
+abbrev pub invariant-loop-column : goal.invariant-loop-column
+invariant-loop-column l = (l.column ≤ l.across.cells) × (length l.out ≡ length l.initial.out) × (l.out ≡ filled 0 l.column (row_read l.across l.table) l.initial.out)
+
+abbrev pub decreases-loop-column : goal.decreases-loop-column
+decreases-loop-column l = l.across.cells - l.column
