@@ -89,6 +89,11 @@ def labels_of(callee):
     return max(found, key=len) if found else ()
 
 
+def nested(i, n):
+    """How the i-th of n clauses stands in their conjunction, which nests to the right."""
+    return ".1" * i + (".0" if i < n - 1 else "")
+
+
 class Give(Exception):
     pass
 
@@ -534,7 +539,7 @@ def turn(path, names, crate):
                     labels = v
             made = clauses(value, labels)
             if made is None:
-                made = f"let whole = ({value}) in record {{ " + "; ".join(f"{l} = whole.{i}" for i, l in enumerate(labels)) + " }"
+                made = f"let whole = ({value}) in record {{ " + "; ".join(f"{l} = whole{nested(i, len(labels))}" for i, l in enumerate(labels)) + " }"
             more = params[1:] if "-requires" not in new else params[2:]
             answers.append((said, f"pub {new} : goal.{new}\n{unfold}{' '.join([new, c] + more)} = {made}"))
             continue
@@ -569,7 +574,7 @@ def turn(path, names, crate):
         value = (f.term(rename_own(value), here, params[:1], new))
         made = clauses(value, labels)
         if made is None:
-            made = f"let whole = ({value}) in record {{ " + "; ".join(f"{l} = whole.{i}" for i, l in enumerate(labels)) + " }"
+            made = f"let whole = ({value}) in record {{ " + "; ".join(f"{l} = whole{nested(i, len(labels))}" for i, l in enumerate(labels)) + " }"
         answers.append(([], f"pub {new} : goal.{new}\n{new} {params[0] if params else 'c'} = {made}"))
 
     def write(file, items, last):
