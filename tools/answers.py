@@ -526,7 +526,7 @@ def turn(path, names, crate):
             continue
         if name in renamed:
             new = renamed[name][1]
-            if new is None or value.strip() == "search rules":
+            if new is None or value.strip() == "search rules" and not unfold:
                 if value.strip() != "search rules":
                     print(f"look: {path}: no goal for {name} : {type_}", file=sys.stderr)
                 continue
