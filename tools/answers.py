@@ -189,6 +189,8 @@ class Function:
                 return m.group(0)
             out = [head]
             first = parts[0]
+            if first.endswith("_lem"):  # port.py took a function for a lemma
+                first = first[:-4] if self.look_up(alike(first[:-4]))[0] else first
             new, arm = self.look_up(alike(first)) if first not in ("args", "requires", "ranges") else (None, None)
             if new:
                 if arm:
@@ -413,7 +415,8 @@ def turn(path, names, crate):
             place = f.place.get(key)
             if not place:
                 raise Give(f"no place {m.group(1)}")
-            f.helpers[name] = place
+            base = re.sub(r"-\d+$", "", place)
+            f.helpers[name] = base if base.startswith("In-") and base in f.depth else place
         m = re.match(r"tie\.Need-(\S+)", type_)
         if m:
             new = f.needs.get(alike(m.group(1)))
@@ -526,7 +529,7 @@ def turn(path, names, crate):
             continue
         if name in renamed:
             new = renamed[name][1]
-            if new is None or value.strip() == "search rules":
+            if new is None or value.strip() == "search rules" and not unfold:
                 if value.strip() != "search rules":
                     print(f"look: {path}: no goal for {name} : {type_}", file=sys.stderr)
                 continue

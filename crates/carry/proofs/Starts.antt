@@ -27,14 +27,14 @@ pub record ActiveTo (functions : List ℕ) (heights : List ℤ) (i : ℕ) (out :
   pub size : length out ≡ length heights
   pub done : (g : ℕ) → g < i → at out g ≡ active_height functions heights g
 
--- ---- what is written, as a word
+-- ---- what is written, by way of a word
 
-module _ (functions : List ℕ) (heights : List ℤ) (i : ℕ) {w : ℕ} where
-  pub active_yes : get_or functions i 0 ≡ 1 → mag (at heights i) < 2 ^ 31 → w ≡ of_z w32 (at heights i) → to_z w32 w ≡ active_height functions heights i
+module _ (functions : List ℕ) (heights : List ℤ) (i : ℕ) {z : ℤ} where
+  pub active_yes : get_or functions i 0 ≡ 1 → mag (at heights i) < 2 ^ 31 → z ≡ to_z w32 (of_z w32 (at heights i)) → z ≡ active_height functions heights i
   unfolding active
   active_yes y m e = rw (e, eq-eqb (get_or functions i 0) 1 y) (element (at heights i) m)
 
-  pub active_no : (get_or functions i 0 ≡ 1 → ⊥) → w ≡ 0 → to_z w32 w ≡ active_height functions heights i
+  pub active_no : (get_or functions i 0 ≡ 1 → ⊥) → z ≡ pos 0 → z ≡ active_height functions heights i
   unfolding active
   active_no n e = rw (e, ne_eqb (get_or functions i 0) 1 n)
 

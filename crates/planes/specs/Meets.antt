@@ -1,7 +1,7 @@
 -- How the contracts of the calls on planes are said: an answer, and what the lent slices hold at exit. Definitions only.
 use Rattle.std.specs.Prelude.{◌≡◌, List, ℕ}
 use Rattle.outcomes.specs.declared.Answer.{Answer}
-use Rattle.outcomes.specs.Meets.{Lent}
+use Rattle.outcomes.specs.Meets.{Lent, Seen}
 use Rattle.planes.specs.Planes.{OpenedPlanes, PlanesOutcome, PlanesMade, CellsMade}
 
 abbrev pub left_by_open : ℕ → Lent → Lent → Lent → OpenedPlanes
@@ -18,7 +18,7 @@ left_on_planes r present refined functions cell_list function_list = record {
 }
 
 -- the outcome is what the call, a definition, makes of what the function finds
-abbrev pub MeetsOnPlanes : (List ℕ → List ℕ → List ℕ → List ℕ → List ℕ → List ℕ → PlanesOutcome) → Answer → Lent → Lent → Lent → Lent → Lent → Lent → Type 0
+abbrev pub MeetsOnPlanes : (List ℕ → List ℕ → List ℕ → List ℕ → List ℕ → List ℕ → PlanesOutcome) → Answer → Lent → Lent → Lent → Seen → Lent → Lent → Type 0
 MeetsOnPlanes call r present refined functions marks cell_list function_list =
     left_on_planes r present refined functions cell_list function_list
     ≡ call present.entry.now refined.entry.now functions.entry.now marks.entry.now cell_list.entry.now function_list.entry.now

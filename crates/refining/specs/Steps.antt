@@ -6,7 +6,7 @@ use Rattle.mesh.specs.Mesh.{labels, check}
 use Rattle.outcomes.specs.declared.Answer.{Answer}
 use Rattle.outcomes.specs.Calls.{By, refine, changed, new_cells, refusal, settle}
 use Rattle.outcomes.specs.Steps.{room_refusal}
-use Rattle.outcomes.specs.Meets.{Lent, left}
+use Rattle.outcomes.specs.Meets.{Lent, Seen, left}
 use Rattle.heights.specs.Heights.{heights_refusal}
 use Rattle.carry.specs.Steps.{Grows}
 use Rattle.refining.specs.Refining.{WithHeights, carry_into}
@@ -23,7 +23,7 @@ left_with_heights r cells functions heights cell_list function_list =
     record { outcome = left r cells functions cell_list function_list; heights = heights.exit.now }
 
 -- the outcome is what the call, a definition, makes of the tables, heights, marks and lists that the function finds
-abbrev pub MeetsWithHeights : (List ℕ → List ℕ → List ℤ → List ℕ → List ℕ → List ℕ → WithHeights) → Answer → Lent → Lent → LentHeights → Lent → Lent → Lent → Type 0
+abbrev pub MeetsWithHeights : (List ℕ → List ℕ → List ℤ → List ℕ → List ℕ → List ℕ → WithHeights) → Answer → Lent → Lent → LentHeights → Seen → Lent → Lent → Type 0
 MeetsWithHeights call r cells functions heights marks cell_list function_list =
     left_with_heights r cells functions heights cell_list function_list
     ≡ call cells.entry.now functions.entry.now heights.entry.now marks.entry.now cell_list.entry.now function_list.entry.now

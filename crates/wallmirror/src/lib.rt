@@ -32,12 +32,12 @@ use outcomes::Answer;
 use projector::CornersAnswer;
 use rounds::RoundsAnswer;
 
-// 0.13.0, as major * 1,000,000 + minor * 1,000 + patch.
+// 0.12.0, as major * 1,000,000 + minor * 1,000 + patch.
 #[unsafe(no_mangle)]
 pub extern "C" fn wallmirror_version() -> u32
-    ensures { result ≡ 13000 }
+    ensures { result ≡ 12000 }
 {
-    13000
+    12000
 }
 
 #[unsafe(no_mangle)]

@@ -1,0 +1,40 @@
+-- `carry_on` meets its contract: level by level. Assumes nothing.
+use mathlib.Core.Path.{◌≡◌, sym, ◌∙◌}
+use Prim.Native.Nat.{◌-◌, ◌≤◌}
+use native.Mathlib.Omega.{arith}
+use Rattle.grid.specs.Plan.{function_offset}
+use Rattle.carry.specs.Carry.{carried}
+use Rattle.carry.specs.Steps.{Underway}
+use Rattle.carry.proofs.Joins.{underway_size, levels_none, levels_more, levels_all}
+use borrow.Author.Rules.{rules}
+use Rattle.carry.proofs.carry_on.Goals as goal
+use Rattle.carry.proofs.carry_on.Goals.{At-loop-level}
+
+pub overflow_sub-last : goal.overflow_sub-last
+overflow_sub-last c = c.requires.started.allowed.range.levels≥
+
+pub loop-level-init : goal.loop-level-init
+loop-level-init c = (omega arith, levels_none _ _ _)
+
+-- the levels below are done
+below : (c : At-loop-level) → Underway c.args.plan c.args.functions.now (function_offset c.args.plan c.loop-level.level) c.loop-level.heights
+below c = let s = c in record { start = s.args.heights.now; started = s.requires.started; sized = s.requires.functions_len.0; is = c.loop-level.invariant.1 }
+
+pub pass_level-requires : goal.pass_level-requires
+pass_level-requires c = record { underway = below (goal.at.pass_level-requires c).At-loop-level; level_bound = omega arith }
+
+pub loop-level-smaller : goal.loop-level-smaller
+loop-level-smaller c = omega arith
+
+pub loop-level-preserved : goal.loop-level-preserved
+loop-level-preserved c = let s = c in
+    let l = c.loop-level in
+    (omega arith, levels_more s.args.plan s.args.functions.now l.level s.args.heights.now l.invariant.1 c.pass_level.ensures)
+
+pub shape_of-heights : goal.shape_of-heights
+shape_of-heights c = underway_size (below (goal.at.shape_of-heights c).At-loop-level) ∙ sym c.requires.started.sized
+
+pub returns : goal.returns
+returns c = let s = c in
+    let k : c.loop-level.level ≡ s.args.plan.levels - 1 = omega arith in
+    (rw k at c.loop-level.invariant.1) ∙ levels_all s.args.plan s.args.functions.now s.args.heights.now s.requires.functions_len.1

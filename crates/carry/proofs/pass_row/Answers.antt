@@ -1,0 +1,51 @@
+-- `pass_row` meets its contract: child by child. Assumes nothing.
+use mathlib.Core.Path.{ap, ◌∙◌}
+use Prim.Native.Nat.{◌+◌, ◌-◌, ◌≤◌}
+use native.Mathlib.Omega.{arith}
+use mir.Syntax.{w32}
+use mir.Val.{to_z, of_z}
+use mir.ValLaws.{to_z-of_z}
+use Rattle.carry.specs.Steps.{row_quarters, row_passed, RowRoom}
+use Rattle.carry.proofs.Portions.{PassedTo}
+use Rattle.carry.proofs.Rows.{row_none, row_in, part_room, sum_room, sum_read, row_next, row_all}
+use borrow.Author.Rules.{rules}
+use Rattle.carry.proofs.pass_row.Goals as goal
+use Rattle.carry.proofs.pass_row.Goals.{Start}
+
+-- the row's room, of the height as a word
+room : (c : Start) → RowRoom c.args.begin c.args.children (to_z w32 (of_z w32 c.args.height)) c.args.heights.now
+room c = rw (to_z-of_z w32 c.args.height c.ranges.height) c.requires
+
+pub loop-j-init : goal.loop-j-init
+loop-j-init c = (omega arith, row_none (room (goal.at.loop-j-init c).Start))
+
+pub slice_copy_out-own : goal.slice_copy_out-own
+slice_copy_out-own c = row_in (room (goal.at.slice_copy_out-own c).Start) (omega arith) c.loop-j.invariant.1
+
+pub part_of-requires : goal.part_of-requires
+part_of-requires c = rw c.quarters.ensures (part_room (room (goal.at.part_of-requires c).Start) (omega arith) c.loop-j.invariant.1)
+
+-- what a child has is its own height and its part
+pub loop-j-preserved : goal.loop-j-preserved
+loop-j-preserved c = let r = room (goal.at.loop-j-preserved c).Start in
+    let l = c.loop-j in
+    let m : l.j ≤ c.args.children.last = omega arith in
+    (omega arith, row_next r m l.invariant.1 (sum_read r m l.invariant.1 (rw c.quarters.ensures at c.part_of.ensures)))
+
+pub overflow_add-heights : goal.overflow_add-heights
+overflow_add-heights c = sum_room (room (goal.at.overflow_add-heights c).Start) (omega arith) c.loop-j.invariant.1 (rw c.quarters.ensures at c.part_of.ensures)
+
+pub bounds-heights-at : goal.bounds-heights-at
+bounds-heights-at c = row_in (room (goal.at.bounds-heights-at c).Start) (omega arith) c.loop-j.invariant.1
+
+pub overflow_add-j : goal.overflow_add-j
+overflow_add-j c = omega (arith, c.requires.few.last≤)
+
+pub loop-j-smaller : goal.loop-j-smaller
+loop-j-smaller c = omega arith
+
+pub shape_of-heights : goal.shape_of-heights
+shape_of-heights c = c.loop-j.invariant.1.size
+
+pub returns : goal.returns
+returns c = let s = c in row_all (room (goal.at.returns c).Start) (omega arith) c.loop-j.invariant.1 ∙ ap (λ h. row_passed s.args.begin s.args.children h s.args.heights.now) (to_z-of_z w32 s.args.height s.ranges.height)

@@ -1,0 +1,17 @@
+-- `refuse` meets its contract. Assumes nothing.
+use mathlib.Core.Path.{sym, ap, ◌∙◌}
+use Rattle.grid.specs.declared.Plan.{Plan}
+use Rattle.files.proofs.Reading.{answered_none, answered_some}
+use borrow.Author.Rules.{rules}
+use Rattle.files.proofs.refuse.Reads as reads
+use Rattle.files.proofs.refuse.Lts as lts
+use Rattle.files.proofs.no_plan.Reads as no-plan-reads
+use Rattle.files.proofs.refuse.Goals as goal
+
+pub returns-then-number : goal.returns-then-number
+returns-then-number c = let a = c.args in
+    ap (λ (q : Plan). record { number = a.number; plan = q }) (c.no_plan.ensures ∙ sym (answered_none a.number a.plan c.if-number.true))
+
+pub returns : goal.returns
+returns c = let a = c.args in
+    ap (λ (q : Plan). record { number = a.number; plan = q }) (sym (answered_some a.number a.plan c.if-number.false))

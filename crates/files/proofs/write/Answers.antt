@@ -1,0 +1,21 @@
+-- `write` meets its contract. Assumes nothing.
+use Rattle.files.proofs.Writing.{unchecked, room, checked}
+use borrow.Author.Rules.{rules}
+use Rattle.files.proofs.write.Reads as reads
+use Rattle.files.proofs.write.Lts as lts
+use Rattle.files.proofs.unwritten.Reads as unwritten-reads
+use Rattle.files.proofs.write_mesh.Reads as write-mesh-reads
+use Rattle.tables.proofs.check.Reads as check-reads
+use Rattle.files.proofs.write.Goals as goal
+
+pub returns-then-checked-ne0 : goal.returns-then-checked-ne0
+returns-then-checked-ne0 c = let a = c.args in
+    unchecked a.plan a.cells.now a.functions.now a.file.now _ c.check-checked.ensures c.if-checked-ne0.true c.unwritten.result c.unwritten.ensures
+
+pub write_mesh-requires : goal.write_mesh-requires
+write_mesh-requires c = let a = c.args in
+    room a.plan a.cells.now a.functions.now a.file.now _ c.check-checked.ensures c.if-checked-ne0.false
+
+pub returns : goal.returns
+returns c = let a = c.args in
+    checked a.plan a.cells.now a.functions.now a.file.now _ c.check-checked.ensures c.if-checked-ne0.false _ c.write_mesh.ensures

@@ -1,0 +1,24 @@
+-- `all_low` meets its contract: level by level. Assumes nothing.
+use mathlib.Core.Path.{◌≡◌, sym, ◌∙◌}
+use Prim.Native.Nat.{◌-◌, ◌≤◌}
+use native.Mathlib.Omega.{arith}
+use Rattle.facts.specs.Ranges.{every_from}
+use Rattle.grid.specs.Plan.{function_columns_at, function_rows_at, function_offset}
+use Rattle.grid.proofs.Levels.{levels_none, levels_join}
+use Rattle.heights.specs.Heights.{low_at}
+use Rattle.heights.proofs.Lows.{all_low_lem}
+use borrow.Author.Rules.{rules}
+use Rattle.heights.proofs.all_low.Goals as goal
+
+pub loop-level-init : goal.loop-level-init
+loop-level-init c = (omega arith, sym (levels_none (function_columns_at _) (function_rows_at _) _))
+
+pub loop-level-preserved : goal.loop-level-preserved
+loop-level-preserved c = let s = c in
+    let l = c.loop-level in
+    (omega arith, levels_join (function_columns_at s.args.plan) (function_rows_at s.args.plan) _ l.level l.invariant.1 c.level_low-ok.ensures)
+
+pub returns : goal.returns
+returns c = let s = c in
+    let k : c.loop-level.level ≡ s.args.plan.levels = omega arith in
+    rw k at c.loop-level.invariant.1 ∙ all_low_lem s.args.plan _ _

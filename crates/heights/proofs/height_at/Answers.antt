@@ -1,0 +1,28 @@
+-- `height_at` meets its contract: level by level. Assumes nothing.
+use mathlib.Core.Path.{◌≡◌, ap, ◌∙◌}
+use Prim.Native.Nat.{◌-◌, ◌≤◌}
+use native.Mathlib.Omega.{arith}
+use Rattle.exact.specs.Dyadic.{dyadic}
+use Rattle.exact.specs.Sums.{sumℤ}
+use Rattle.grid.specs.Plan.{function_offset}
+use Rattle.heights.specs.Heights.{places, product_at}
+use Rattle.heights.proofs.Turns.{start_level, turn_level, up_all}
+use borrow.Author.Rules.{rules}
+use Rattle.heights.proofs.height_at.Goals as goal
+
+pub loop-level-init : goal.loop-level-init
+loop-level-init c = (omega arith, start_level c.requires)
+
+pub level_height-sum-requires : goal.level_height-sum-requires
+level_height-sum-requires c = let s = c in
+    record { on_surface = s.requires; level_lt_levels = omega arith; unit = record { levels≤ = s.requires.point.levels≤; is = c.unit-unit.ensures } }
+
+pub loop-level-preserved : goal.loop-level-preserved
+loop-level-preserved c = let s = c in
+    let l = c.loop-level in
+    (omega arith, turn_level s.requires (omega arith) l.invariant.1 c.level_height-sum.ensures)
+
+pub returns : goal.returns
+returns c = let s = c in
+    let k : c.loop-level.level ≡ s.args.plan.levels = omega arith in
+    rw k at c.loop-level.invariant.1 ∙ ap (dyadic (places s.args.plan.levels)) (up_all s.requires)

@@ -1,0 +1,37 @@
+-- `rows` meets its contract: row by row. Assumes nothing.
+use mathlib.Core.Path.{◌≡◌}
+use Prim.Native.Nat.{◌+◌, ◌-◌, ◌*◌, ◌≤◌}
+use native.Mathlib.Omega.{arith}
+use lib.Ieee.{of_bits}
+use Rattle.exact.specs.Dyadic.{dyadic}
+use Rattle.exact.specs.Sums.{sumℤ}
+use Rattle.splines.specs.Local.{piece_of}
+use Rattle.heights.specs.Heights.{places}
+use Rattle.heights.specs.Steps.{row_sum, level_sum}
+use Rattle.heights.proofs.Turns.{turn_row}
+use borrow.Author.Rules.{rules}
+use Rattle.heights.proofs.sums.rows.Goals as goal
+
+pub loop-i-init : goal.loop-i-init
+unfolding of_bits dyadic sumℤ
+loop-i-init c = search rules
+
+pub overflow_mul-begin : goal.overflow_mul-begin
+overflow_mul-begin c = let s = c in omega (arith, (s.requires.rows.row c.loop-i.i (omega arith)).in_functions)
+
+pub overflow_add-begin : goal.overflow_add-begin
+overflow_add-begin c = let s = c in omega (arith, (s.requires.rows.row c.loop-i.i (omega arith)).in_functions)
+
+pub row-sum-requires : goal.row-sum-requires
+row-sum-requires c = let s = c in record { row = rw c.value.ensures (s.requires.rows.row c.loop-i.i (omega arith)); unit = s.requires.unit }
+
+pub loop-i-preserved : goal.loop-i-preserved
+loop-i-preserved c = let s = c in
+    let l = c.loop-i in
+    (search rules, turn_row s.requires.rows s.requires.unit.levels≤ (omega arith) l.invariant.1 (rw c.value.ensures at c.row-sum.ensures))
+
+pub returns : goal.returns
+unfolding level_sum
+returns c = let s = c in
+    let k : c.loop-i.i ≡ s.args.up.degree + 1 = omega arith in
+    rw k at c.loop-i.invariant.1

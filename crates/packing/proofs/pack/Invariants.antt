@@ -1,0 +1,20 @@
+-- `packing::pack` meets its contract. The invariant: the words so far. Assumes nothing.
+use mathlib.Core.Path.{◌≡◌, refl, ap, ◌∙◌}
+use Prim.Native.Nat.{ℕ, ◌-◌, ◌*◌, ◌≤◌}
+use native.Mathlib.Omega.{arith}
+use borrow.Author.Rules.{rules}
+use lib.ListN.{length}
+use Rattle.facts.specs.Mapped.{filled}
+use Rattle.facts.proofs.Mapped.{filled_none, filled_all, fill_length, fill_next}
+use Rattle.mesh.specs.Mesh.{refined as isRefined}
+use Rattle.planes.specs.Bits.{word_from, word_at, plane_of, is_present}
+use Rattle.packing.proofs.Packed.{packs}
+use Rattle.packing.proofs.pack.Given as goal
+
+abbrev pub invariant-loop-w : goal.invariant-loop-w
+invariant-loop-w l = (l.w ≤ length l.initial.present) × (l.at ≡ 64 * l.w)
+    × ((length l.present ≡ length l.initial.present) × (l.present ≡ filled 0 l.w (word_at (is_present l.bytes)) l.initial.present))
+    × ((length l.refined ≡ length l.initial.refined) × (l.refined ≡ filled 0 l.w (word_at (isRefined l.bytes)) l.initial.refined))
+
+abbrev pub decreases-loop-w : goal.decreases-loop-w
+decreases-loop-w l = length l.initial.present - l.w

@@ -1,0 +1,6 @@
+-- `packing::spread` meets its contract. Assumes nothing.
+use borrow.Author.Rules.{rules}
+use Rattle.packing.proofs.spread.Goals as goal
+
+pub returns : goal.returns
+returns c = c.requires.spreads _ c.requires.bits_bound

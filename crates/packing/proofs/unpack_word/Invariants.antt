@@ -1,0 +1,19 @@
+-- `packing::unpack_word` meets its contract. The invariant: the bytes so far, and what is left of both words. Assumes nothing.
+use mathlib.Core.Path.{◌≡◌, refl, sym, ap, ap₂, ◌∙◌}
+use Prim.Native.Nat.{ℕ, ◌+◌, ◌-◌, ◌/◌, ◌%◌, ◌^◌, ◌≤◌}
+use native.Mathlib.Nat.{div-one}
+use native.Mathlib.Omega.{arith}
+use lib.ListN.{length, length-set}
+use lib.Pow.{shr-shr}
+use Rattle.facts.specs.Mapped.{filled}
+use Rattle.facts.proofs.Mapped.{filled_none, fill_length}
+use Rattle.packing.specs.Packing.{word_byte}
+use Rattle.packing.proofs.Four.{byte_0, byte_1, byte_2, byte_3, digit_at, fill_four}
+use borrow.Author.Rules.{rules}
+use Rattle.packing.proofs.unpack_word.Given as goal
+
+abbrev pub invariant-loop-at : goal.invariant-loop-at
+invariant-loop-at l = (l.at ≤ 64) × (l.at % 4 ≡ 0) × ((l.p ≡ l.present / 2 ^ l.at) × (l.r ≡ l.refined / 2 ^ l.at)) × (length l.part ≡ length l.initial.part) × (l.part ≡ filled 0 l.at (word_byte l.present l.refined) l.initial.part)
+
+abbrev pub decreases-loop-at : goal.decreases-loop-at
+decreases-loop-at l = 64 - l.at
