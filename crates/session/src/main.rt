@@ -1,17 +1,18 @@
 // The session program (document 01): it reads its input, has crate `replies` answer each line, and hands the answers over.
 #![tactic(auto)]
 
-ghost use Rattle.std.specs.Prelude.{◌≤◌, length, IfOk, OnOk, OnErr};
+ghost use Rattle.std.specs.Prelude.{◌≤◌, length, IfOk, IfSome, OnOk, OnErr};
 ghost use Rattle.std.specs.Io.KnownBytes.{Appends};
 ghost use Rattle.script.specs.Bounds.{answer_bytes, input_bytes, wall_cells, wall_functions};
 ghost use Rattle.script.specs.Session as sessions;
 ghost use Rattle.standard.specs.Answers.{AllHanded};
 ghost use Rattle.standard.specs.Bytes.{AppendsFront};
+ghost use Rattle.session.specs.Program.{printed_of};
 
 use script::{ANSWER_BYTES, INPUT_BYTES, WALL_CELLS, WALL_FUNCTIONS};
 use standard::Handed;
 use std::io;
-use std::io::Write;
+use std::io::{Read, Write};
 
 // The lines one after the other. At the end all answers are handed over, and the output has grown by them. Where a write fails, it has grown
 // by a front of them.
@@ -77,9 +78,18 @@ fn session<W: Write>(output: &mut W, input: &[u8]) -> io::Result<Handed>
     )
 }
 
-fn main(rt: HostRuntime) -> io::Result<()> {
+// The whole program, on any input and output. The output grows by the session of the first 16,384 bytes of the input, or of all of it. Where
+// a read or a write fails, it has grown by a front of that session.
+fn program<R: Read, W: Write>(input: &mut R, output: &mut W) -> io::Result<()>
+    ensures written { OnOk result (IfSome (R.remaining input.old) (λ xs. Appends (W.contents output.old) (W.contents output.new) (printed_of xs))) }
+    ensures failed { OnErr result (IfSome (R.remaining input.old) (λ xs. AppendsFront (W.contents output.old) (W.contents output.new) (printed_of xs))) }
+{
     let mut buffer = [0u8; INPUT_BYTES];
-    let count = standard::read(&mut rt.stdin(), &mut buffer)?;
-    session(&mut rt.stdout(), &buffer[..count])?;
+    let count = standard::read(input, &mut buffer)?;
+    session(output, &buffer[..count])?;
     Ok(())
+}
+
+fn main(rt: HostRuntime) -> io::Result<()> {
+    program(&mut rt.stdin(), &mut rt.stdout())
 }
