@@ -1,7 +1,6 @@
 -- `wallmirror_height` meets its contract: the answer, as C gets it. Assumes nothing.
 use mathlib.Core.Path.{ap, ◌∙◌}
 use Rattle.heights.specs.Heights.{flattened}
-use borrow.Author.Rules.{rules}
 use Rattle.wallmirror.proofs.wallmirror_height.Goals as goal
 
 pub returns : goal.returns
