@@ -1,28 +1,22 @@
 -- What a call makes of the wall in hand, and what a line that was read asks, is what Session.antt of `script` says. Assumes nothing.
 use mathlib.Core.Path.{◌≡◌, refl, sym, ap, ap₂, ◌∙◌}
 use mathlib.Core.Bool.{Bool, true, false, cond}
-use mathlib.Core.Logic.{inl, inr}
-use mathlib.Core.List.{List, [], ◌∷◌, ◌++◌}
+use mathlib.Core.List.{List, ◌++◌}
 use Prim.Native.Nat.{ℕ, ◌≤◌}
-use native.Mathlib.Omega.{arith}
 use lib.Dec.{eqb, ltb}
 use lib.ListN.{length, take, drop, length-replicate}
 use lib.Seq.{take_at}
 use borrow.Author.Tests.{le-leb}
-use types.Run.{OneOf}
-use denote.Enum.Declared.{tag_of}
 use Rattle.grid.specs.declared.Plan.{Plan}
 use Rattle.grid.specs.Plan.{cell_total, function_total}
 use Rattle.outcomes.specs.Calls.{Direction, coarsen, By, functions, changed, Outcome, refused, settle, refusal, outcome}
 use Rattle.outcomes.proofs.Results.{written_take}
 use Rattle.lines.specs.declared.Kind.{Kind}
 use Rattle.lines.specs.declared.Kind.TheVariants.{Unreadable, Wall, Split, Join, SplitFunctions, JoinFunctions}
-use Rattle.lines.specs.contracts.Kind as kinds
 use Rattle.lines.specs.declared.Line.{Line}
 use Rattle.lines.specs.Reading.{Meaning, meaning, meaning_in, Reads}
 use Rattle.lines.specs.Writing.{question}
 use Rattle.script.specs.Session.{State, blank, shown, calling, obey, step_of}
-use Rattle.script.specs.declared.Hand.{Hand}
 use Rattle.script.specs.declared.Done.{Done}
 use Rattle.script.specs.Steps.{held, HandSized, Said, Replied}
 use Rattle.script.proofs.Replies.{said_as, wall_same, held_none, held_wall, held_front}
@@ -92,13 +86,13 @@ called d by marks done cs fs cl fl cs' fs' out z e a b ac af w =
 
 -- ---- kinds
 
-pub marked : (k : Kind) (s : State) (ns : List ℕ) → OneOf (2 ∷ 3 ∷ 4 ∷ 5 ∷ []) (tag_of kinds.the_type k) → obey k s ns ≡ calling (direction_of k) (by_of k) s ns
-marked Unreadable s ns h = absurd (let y : ⊥ = elim h [ inl a ↦ omega arith | inr b ↦ elim b [ inl a ↦ omega arith | inr b ↦ elim b [ inl a ↦ omega arith | inr b ↦ omega arith ] ] ] in y)
-marked Wall s ns h = absurd (let y : ⊥ = elim h [ inl a ↦ omega arith | inr b ↦ elim b [ inl a ↦ omega arith | inr b ↦ elim b [ inl a ↦ omega arith | inr b ↦ omega arith ] ] ] in y)
-marked Split s ns h = refl
-marked Join s ns h = refl
-marked SplitFunctions s ns h = refl
-marked JoinFunctions s ns h = refl
+pub marked : (k : Kind) (s : State) (ns : List ℕ) → (k ≡ Unreadable → ⊥) → (k ≡ Wall → ⊥) → obey k s ns ≡ calling (direction_of k) (by_of k) s ns
+marked Unreadable s ns h g = absurd (h refl)
+marked Wall s ns h g = absurd (g refl)
+marked Split s ns h g = refl
+marked Join s ns h g = refl
+marked SplitFunctions s ns h g = refl
+marked JoinFunctions s ns h g = refl
 
 pub obeyed : {k l : Kind} (s : State) (ns : List ℕ) → k ≡ l → obey k s ns ≡ obey l s ns
 obeyed s ns e = ap (λ (x : Kind). obey x s ns) e
@@ -107,21 +101,21 @@ pub asked : {d e : Direction} {by way : By} (p : Plan) (cs fs marks cl fl : List
     → outcome d by p cs fs marks cl fl ≡ outcome e way p cs fs marks cl fl
 asked p cs fs marks cl fl a b = ap₂ (λ (x : Direction) (y : By). outcome x y p cs fs marks cl fl) a b
 
-pub coarsens : (k : Kind) → OneOf (0 ∷ 1 ∷ 3 ∷ 5 ∷ []) (tag_of kinds.the_type k) → coarsen ≡ direction_of k
-coarsens Unreadable h = refl
-coarsens Wall h = refl
-coarsens Split h = absurd (let y : ⊥ = elim h [ inl a ↦ omega arith | inr b ↦ elim b [ inl a ↦ omega arith | inr b ↦ elim b [ inl a ↦ omega arith | inr b ↦ omega arith ] ] ] in y)
-coarsens Join h = refl
-coarsens SplitFunctions h = absurd (let y : ⊥ = elim h [ inl a ↦ omega arith | inr b ↦ elim b [ inl a ↦ omega arith | inr b ↦ elim b [ inl a ↦ omega arith | inr b ↦ omega arith ] ] ] in y)
-coarsens JoinFunctions h = refl
+pub coarsens : (k : Kind) → (k ≡ Split → ⊥) → (k ≡ SplitFunctions → ⊥) → coarsen ≡ direction_of k
+coarsens Unreadable h g = refl
+coarsens Wall h g = refl
+coarsens Split h g = absurd (h refl)
+coarsens Join h g = refl
+coarsens SplitFunctions h g = absurd (g refl)
+coarsens JoinFunctions h g = refl
 
-pub by_functions : (k : Kind) → OneOf (0 ∷ 1 ∷ 4 ∷ 5 ∷ []) (tag_of kinds.the_type k) → functions ≡ by_of k
-by_functions Unreadable h = refl
-by_functions Wall h = refl
-by_functions Split h = absurd (let y : ⊥ = elim h [ inl a ↦ omega arith | inr b ↦ elim b [ inl a ↦ omega arith | inr b ↦ elim b [ inl a ↦ omega arith | inr b ↦ omega arith ] ] ] in y)
-by_functions Join h = absurd (let y : ⊥ = elim h [ inl a ↦ omega arith | inr b ↦ elim b [ inl a ↦ omega arith | inr b ↦ elim b [ inl a ↦ omega arith | inr b ↦ omega arith ] ] ] in y)
-by_functions SplitFunctions h = refl
-by_functions JoinFunctions h = refl
+pub by_functions : (k : Kind) → (k ≡ Split → ⊥) → (k ≡ Join → ⊥) → functions ≡ by_of k
+by_functions Unreadable h g = refl
+by_functions Wall h g = refl
+by_functions Split h g = absurd (h refl)
+by_functions Join h g = absurd (g refl)
+by_functions SplitFunctions h g = refl
+by_functions JoinFunctions h g = refl
 
 -- ---- a line that was read
 

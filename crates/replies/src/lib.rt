@@ -1,4 +1,6 @@
 // One line of a session (document 01, "The session program"), on lent tables, lists and bytes: nothing is read or written here.
+#![tactic(auto)]
+
 ghost use Rattle.std.specs.Prelude.{◌≡◌, ◌≤◌, length};
 ghost use Rattle.outcomes.specs.Calls.{outcome};
 ghost use Rattle.outcomes.specs.Meets.{Meets};

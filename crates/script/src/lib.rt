@@ -1,5 +1,7 @@
 // A `wall` line of a session (document 01, "The session program"), and the texts that any line prints, on lent tables and bytes: nothing is
 // read or written here.
+#![tactic(auto)]
+
 ghost use Rattle.std.specs.Prelude.{◌≡◌, true, [], ◌≤◌, length};
 ghost use Rattle.grid.specs.Range.{InRange};
 ghost use Rattle.grid.specs.Plan.{in_range, cell_total, function_total};

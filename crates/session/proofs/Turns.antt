@@ -9,6 +9,7 @@ use lib.Dec.{ltb}
 use lib.ListN.{length, get_or, take, drop, length-drop, drop_of_length-le}
 use lib.Seq.{take_all, drop-cons}
 use borrow.Author.Tests.{ltb-true, ltb-false}
+use Rattle.std.proofs.Common.{Result, Ok, Err, OnErr}
 use Rattle.lines.specs.Reading.{parts, lines_of, EndsLine}
 use Rattle.script.specs.Session.{State, Reply, step_of, replies_from, replies}
 use Rattle.script.specs.declared.Hand.{Hand}
@@ -65,3 +66,7 @@ unfolding replies_from parts
 ends input n at s l h =
     let z : drop n (replies input) ≡ [] = l.left ∙ rw (drop_of_length-le input h) refl in
     omega (arith, l.answered, ap length z, length-drop n (replies input))
+
+pub on_err : {T E P : Type 0} (r : Result T E) → P → OnErr r P
+on_err (Ok x) p = tt
+on_err (Err e) p = p

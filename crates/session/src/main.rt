@@ -1,25 +1,37 @@
 // The session program (document 01): it reads its input, has crate `replies` answer each line, and hands the answers over.
-ghost use Rattle.std.specs.Prelude.{◌≤◌, length};
+#![tactic(auto)]
+
+ghost use Rattle.std.specs.Prelude.{◌≤◌, length, IfOk, IfSome, OnOk, OnErr};
+ghost use Rattle.std.specs.Io.KnownBytes.{Appends};
 ghost use Rattle.script.specs.Bounds.{answer_bytes, input_bytes, wall_cells, wall_functions};
+ghost use Rattle.script.specs.Session as sessions;
 ghost use Rattle.standard.specs.Answers.{AllHanded};
+ghost use Rattle.standard.specs.Bytes.{AppendsFront};
+ghost use Rattle.session.specs.Program.{printed_of};
 
 use script::{ANSWER_BYTES, INPUT_BYTES, WALL_CELLS, WALL_FUNCTIONS};
 use standard::Handed;
+use std::io;
+use std::io::{Read, Write};
 
-// The lines one after the other. At the end all answers are handed over.
-fn run(
+// The lines one after the other. At the end all answers are handed over, and the output has grown by them. Where a write fails, it has grown
+// by a front of them.
+fn run<W: Write>(
+    output: &mut W,
     input: &[u8],
     cells: &mut [u8],
     functions: &mut [u8],
     cell_list: &mut [u32],
     function_list: &mut [u32],
     out: &mut [u8],
-) -> Handed
+) -> io::Result<Handed>
     requires input_len_bound { length input.now ≤ input_bytes }
     requires wall_cells_in_bounds { (wall_cells ≤ length cells.old) × (wall_functions ≤ length functions.old) }
     requires wall_cells_in_bounds_2 { (wall_cells ≤ length cell_list.old) × (wall_functions ≤ length function_list.old) }
     requires answer_bytes_in_bounds { answer_bytes ≤ length out.old }
-    ensures { AllHanded input.now result.answers }
+    ensures handed { IfOk result (λ h. AllHanded input.now h.answers) }
+    ensures written { OnOk result (Appends (W.contents output.old) (W.contents output.new) (sessions.session input.now)) }
+    ensures failed { OnErr result (AppendsFront (W.contents output.old) (W.contents output.new) (sessions.session input.now)) }
 {
     let mut hand = script::no_wall();
     let mut handed = standard::nothing();
@@ -37,16 +49,18 @@ fn run(
         );
         hand = done.hand;
         let count = done.count;
-        handed = standard::say(input, handed, &out[..count]);
+        handed = standard::say(output, input, handed, &out[..count])?;
         at = end + 1;
     }
-    handed
+    Ok(handed)
 }
 
 // The tables and lists of the largest wall of a session, and room for its longest answer.
-fn session(input: &[u8]) -> Handed
+fn session<W: Write>(output: &mut W, input: &[u8]) -> io::Result<Handed>
     requires { length input.now ≤ input_bytes }
-    ensures { AllHanded input.now result.answers }
+    ensures handed { IfOk result (λ h. AllHanded input.now h.answers) }
+    ensures written { OnOk result (Appends (W.contents output.old) (W.contents output.new) (sessions.session input.now)) }
+    ensures failed { OnErr result (AppendsFront (W.contents output.old) (W.contents output.new) (sessions.session input.now)) }
 {
     let mut cells = [0u8; WALL_CELLS];
     let mut functions = [0u8; WALL_FUNCTIONS];
@@ -54,6 +68,7 @@ fn session(input: &[u8]) -> Handed
     let mut function_list = [0u32; WALL_FUNCTIONS];
     let mut out = [0u8; ANSWER_BYTES];
     run(
+        output,
         input,
         &mut cells,
         &mut functions,
@@ -63,8 +78,18 @@ fn session(input: &[u8]) -> Handed
     )
 }
 
-fn main() {
+// The whole program, on any input and output. The output grows by the session of the first 16,384 bytes of the input, or of all of it. Where
+// a read or a write fails, it has grown by a front of that session.
+fn program<R: Read, W: Write>(input: &mut R, output: &mut W) -> io::Result<()>
+    ensures written { OnOk result (IfSome (R.remaining input.old) (λ xs. Appends (W.contents output.old) (W.contents output.new) (printed_of xs))) }
+    ensures failed { OnErr result (IfSome (R.remaining input.old) (λ xs. AppendsFront (W.contents output.old) (W.contents output.new) (printed_of xs))) }
+{
     let mut buffer = [0u8; INPUT_BYTES];
-    let count = standard::read(&mut buffer);
-    session(&buffer[..count]);
+    let count = standard::read(input, &mut buffer)?;
+    session(output, &buffer[..count])?;
+    Ok(())
+}
+
+fn main(rt: HostRuntime) -> io::Result<()> {
+    program(&mut rt.stdin(), &mut rt.stdout())
 }
