@@ -1,4 +1,6 @@
 // Refusal 5: the mesh is admissible. The least bytes of neighbourhoods are found for a level at once, and read for its refined cells.
+#![tactic(auto)]
+
 ghost use Rattle.std.specs.Prelude.{◌≡◌, ◌+◌, ◌*◌, ◌≤◌, ◌<◌, length};
 ghost use Rattle.facts.specs.Ranges.{every_from};
 ghost use Rattle.grid.specs.Plan.{columns_at, rows_at, cell_offset, cell_total};

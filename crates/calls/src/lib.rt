@@ -1,6 +1,8 @@
 // The four calls: refine and coarsen, by cells and by functions. Each takes any plan, tables, marks and lists; what document 01
 // refuses gets its number and nothing is written. The marks are judged, and each cell that they mean gets a flag; then follow the two
 // steps of document 000's algorithm 1: the mesh is settled, and the functions are relabelled from it.
+#![tactic(auto)]
+
 ghost use Rattle.std.specs.Prelude.{◌≡◌, List, ℕ, ◌≤◌, length};
 ghost use Rattle.grid.specs.Bounds.{most_cells};
 ghost use Rattle.grid.specs.Plan.{cell_total, function_total};

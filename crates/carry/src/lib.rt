@@ -1,5 +1,7 @@
 // Heights that a refinement carries: a deactivated function passes its height to its children, level by level, coarsest first. Document 02,
 // Req 08.
+#![tactic(auto)]
+
 ghost use Rattle.std.specs.Prelude.{◌≡◌, suc, ◌+◌, ◌-◌, ◌*◌, ◌≤◌, ◌<◌, pos, nat_abs, ◌*ℤ◌, length};
 ghost use Rattle.grid.specs.Plan.{function_columns_at, function_rows_at, function_offset, function_total};
 ghost use Rattle.heights.specs.Heights.{all_low};

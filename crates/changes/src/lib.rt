@@ -1,5 +1,7 @@
 // What follows when the cells of the new mesh are known, in the two steps of document 000's algorithm 1: the cells are settled, then the
 // functions are relabelled. Document 01, "The calls" and "The refusal table"; document 02, Req 04.
+#![tactic(auto)]
+
 ghost use Rattle.std.specs.Prelude.{◌≡◌, not, ◌+◌, ◌≤◌, ◌<◌, eqb, ltb, length};
 ghost use Rattle.std.specs.Bool.{beq};
 ghost use Rattle.grid.specs.Plan.{cell_total, function_total};

@@ -1,4 +1,6 @@
 // From a cell table to the smallest admissible mesh around a base set: the closure under neighbourhoods, in code.
+#![tactic(auto)]
+
 ghost use Rattle.std.specs.Prelude.{◌≡◌, ℕ, ◌+◌, ◌*◌, ◌<◌, ◌≤◌, length};
 ghost use Rattle.grid.specs.Plan.{columns_at, rows_at, cell_offset, cell_total, cell_number, CellInside};
 ghost use Rattle.windows.specs.Level.{NearRoom};

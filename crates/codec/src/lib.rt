@@ -1,4 +1,6 @@
 // The numbers of a mesh's file: groups of seven bits, lowest first, the high bit on all but the last.
+#![tactic(auto)]
+
 ghost use Rattle.std.specs.Prelude.{◌≡◌, ◌+◌, ◌≤◌, ◌<◌, length};
 ghost use Rattle.facts.specs.Writing.{Writes};
 ghost use Rattle.codec.specs.Numbers.{encode_number, encode_numbers};

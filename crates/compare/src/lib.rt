@@ -1,4 +1,6 @@
 // Whether two tables have the same bytes. The loop has no early exit, so that the compiler compares many bytes at once.
+#![tactic(auto)]
+
 ghost use Rattle.std.specs.Prelude.{◌≡◌, ◌≤◌, length};
 ghost use Rattle.compare.specs.Agree.{agree};
 

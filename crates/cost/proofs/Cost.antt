@@ -1,14 +1,12 @@
 -- What marks can cost (document 02, Req 09): what a refinement adds, some cell of the marks needs, and what a cell needs lies in its
 -- reach, which has few cells. Assumes nothing.
 use mathlib.Core.Path.{◌≡◌, sym, ap, ◌∙◌, subst}
-use mathlib.Core.Bool.{Bool, false, not, ◌&&◌, ◌||◌, beq}
+use mathlib.Core.Bool.{Bool, false, not, ◌||◌, beq}
 use mathlib.Core.List.{List, [], ◌∷◌}
-use Prim.Native.Nat.{ℕ, suc, ◌-◌, ◌/◌, ◌<◌}
-use native.Mathlib.Nat.{div-zero}
+use Prim.Native.Nat.{ℕ, suc, ◌<◌}
 use native.Mathlib.Omega.{arith}
 use lib.Dec.{T, eqb, eqb→eq}
 use lib.ListN.{length}
-use Rattle.facts.specs.Bounded.{some}
 use Rattle.facts.specs.Numbers.{elem}
 use Rattle.facts.proofs.Tests.{and_l, and_r, and_i, or_l, or_r, or_e, not_e, not_i, same}
 use Rattle.facts.proofs.Numbers.{listed→, →listed}
@@ -19,7 +17,7 @@ use Rattle.hierarchy.proofs.Sets as sets
 use Rattle.hierarchy.proofs.Closure.{closure_has, closure_added}
 use Rattle.hierarchy.proofs.Undo.{active_out}
 use Rattle.grid.specs.declared.Plan.{Plan}
-use Rattle.grid.specs.Plan.{cell_total, cell_level, hierarchy}
+use Rattle.grid.specs.Plan.{cell_total, hierarchy}
 use Rattle.grid.specs.Range.{InRange}
 use Rattle.grid.proofs.Laws.{lawful}
 use Rattle.mesh.specs.Mesh.{refined}

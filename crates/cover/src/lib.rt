@@ -1,5 +1,7 @@
 // Two passes over the levels, by windows: which functions can be coarsened, and what values of functions say of the cells in their
 // supports. They are what the calls by functions need to judge marks and to know which cells the marks mean.
+#![tactic(auto)]
+
 ghost use Rattle.std.specs.Prelude.{◌≡◌, ◌&&◌, cond, ◌+◌, ◌*◌, ◌≤◌, ◌<◌, eqb, length, get_or};
 ghost use Rattle.facts.specs.Numbers.{tabulate};
 ghost use Rattle.facts.specs.Mapped.{filled};

@@ -1,5 +1,7 @@
 // The calls on a draft, and the other calls with one. A draft is a value that goes in and comes back; its marks stand in a list that is lent
 // with it.
+#![tactic(auto)]
+
 ghost use Rattle.std.specs.Prelude.{◌≡◌, ◌+◌, ◌≤◌, length};
 ghost use Rattle.facts.specs.Numbers.{first};
 ghost use Rattle.facts.specs.Writing.{written_at};

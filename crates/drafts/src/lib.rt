@@ -1,5 +1,7 @@
 // A draft kept open: cell marks collected over many calls and closed as one refinement by cells. Document 02, Req 10. The definitions are in
 // specs/, the theorems about them in proofs/; the code is in crate drafting.
+#![tactic(auto)]
+
 use files::ReadAnswer;
 use outcomes::Answer;
 

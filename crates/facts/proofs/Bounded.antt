@@ -7,7 +7,7 @@ use native.Mathlib.Numerals.{add-one}
 use native.Mathlib.Omega.{arith}
 use lib.Dec.{T, eqb, eqb→eq}
 use Rattle.facts.specs.Bounded.{some, every}
-use Rattle.facts.proofs.Tests.{and_i, and_l, and_r, or_l, or_r, or_e, cases, differ, same}
+use Rattle.facts.proofs.Tests.{and_i, and_l, and_r, or_l, or_r, or_e, cases, differ}
 
 pub some_i : (n : ℕ) (p : ℕ → Bool) (k : ℕ) → k < n → T (p k) → T (some n p)
 unfolding some

@@ -1,5 +1,7 @@
 // A mesh and its file: document 02, Req 01, with the corners of Req 05. Any bytes, plans and tables are taken; what is refused gets its
 // number and nothing is written.
+#![tactic(auto)]
+
 ghost use Rattle.std.specs.Prelude.{◌≡◌, ◌+◌, ◌≤◌, ◌<◌, length};
 ghost use Rattle.facts.specs.Writing.{Writes};
 ghost use Rattle.codec.specs.Fitting.{number_limit};

@@ -1,6 +1,6 @@
 -- Neighbourhoods lie in those of the rule before Req 12. Assumes nothing.
-use Prim.Native.Nat.{ℕ, ◌+◌, ◌-◌, ◌<◌}
-use mathlib.Core.Bool.{Bool, not, ◌&&◌}
+use Prim.Native.Nat.{ℕ, ◌+◌, ◌<◌}
+use mathlib.Core.Bool.{not}
 use lib.Dec.{T, ltb, eqb, eqb→eq, lt→ltb}
 use Rattle.facts.proofs.Tests.{and_i, not_i, eqb_of}
 use Rattle.grid.specs.declared.Plan.{Plan}

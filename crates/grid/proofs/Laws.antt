@@ -14,7 +14,6 @@ use Rattle.facts.proofs.Bounded.{some_i, some_e}
 use Rattle.hierarchy.proofs.Sets.{Lawful}
 use Rattle.grid.specs.declared.Plan.{Plan}
 use Rattle.grid.specs.declared.Place.{Place}
-use Rattle.grid.specs.Numbering
 use Rattle.grid.specs.Plan.{between, numbers_in_range, corners_in_range, in_range, ratio, grown, columns_at, rows_at, across_at, up_at, function_columns_at, cell_total, function_total, too_large, plan_refusal_or, plan_refusal, cell_place, cell_number, function_place, function_number, CellInside, FunctionInside, above, below, parent, child, ancestor, common_at, near_at, near, hierarchy}
 use Rattle.grid.specs.Range.{InRange}
 use Rattle.grid.proofs.Numbering as numbering

@@ -22,7 +22,7 @@ use Rattle.splines.proofs.Located.{starts, ends}
 use Rattle.splines.proofs.Sides.{within}
 use Rattle.heights.specs.Heights.{eighths, value_at, one_at}
 use Rattle.heights.specs.Demands.{touches, Touched, inside_at, Valued}
-use Rattle.heights.specs.Steps.{Point, most}
+use Rattle.heights.specs.Steps.{Point}
 use Rattle.heights.proofs.Points.{on_across, on_up, place_at, millimetre}
 
 some_product : (a b : ℕ) → ltb 0 (a * b) ≡ ltb 0 a && ltb 0 b

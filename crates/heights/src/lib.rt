@@ -1,4 +1,6 @@
 // The height of the surface at a point: the sum over active functions of height times B-spline value, in which no bit is rounded away.
+#![tactic(auto)]
+
 ghost use Rattle.std.specs.Prelude.{◌≡◌, ◌+◌, ◌*◌, ◌≤◌, ◌<◌, pos, length};
 ghost use Rattle.exact.specs.Dyadic.{dyadic};
 ghost use Rattle.grid.specs.Plan.{function_total};

@@ -1,5 +1,7 @@
 // The function table that the cells fix, and refusal 6. A label is the smallest byte of the function's support: all labels of a level are
 // made at once, as windows of its cells.
+#![tactic(auto)]
+
 ghost use Rattle.std.specs.Prelude.{◌≡◌, ◌+◌, ◌≤◌, ◌<◌, length};
 ghost use Rattle.facts.specs.Ranges.{Written};
 ghost use Rattle.grid.specs.Plan.{function_offset, cell_total, function_total};

@@ -1,5 +1,7 @@
 // What a plan alone decides: how long its tables are, where a level stands in them, where a cell lies and what a function covers. Any plan
 // and any numbers are taken; an answer is all zeros where there is none.
+#![tactic(auto)]
+
 ghost use Rattle.std.specs.Prelude.{◌≡◌};
 ghost use Rattle.layout.specs.Layout.{cells_length, functions_length, has_level, level_at, place_of, has_place, cell_at, support};
 

@@ -1,4 +1,6 @@
 // Reading the lines of a session and writing its answers, on lent bytes. No function that others call has a `requires`.
+#![tactic(auto)]
+
 ghost use Rattle.std.specs.Prelude.{◌≡◌, true, [], ◌∷◌, ◌++◌, map, ◌+◌, ◌≤◌, ◌<◌, leb, length, drop};
 ghost use Rattle.lines.specs.Reading.{up_to, value_of, number_of, all_numbers, same as same·bytes, kind_of, fits as fits·count, EndsLine, Reads};
 ghost use Rattle.lines.specs.Writing.{digits, spaced, items, answer as answer·line, question as question·line, large as large·line, answer_room, Prints};

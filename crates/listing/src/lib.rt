@@ -1,4 +1,6 @@
 // The refined cells of a table as a file lists them: judged and read back, measured and written.
+#![tactic(auto)]
+
 ghost use Rattle.std.specs.Prelude.{◌≡◌, ◌+◌, ◌≤◌, ◌<◌, length, drop};
 ghost use Rattle.codec.specs.Fitting.{number_limit};
 ghost use Rattle.facts.specs.Writing.{Writes};

@@ -1,7 +1,6 @@
 -- Refusals of one mark, computed from their definition. Assumes nothing.
 use mathlib.Core.Path.{◌≡◌, refl}
-use mathlib.Core.List.{List, [], ◌∷◌, map}
-use Prim.Native.Nat.{ℕ}
+use mathlib.Core.List.{[], ◌∷◌, map}
 use Rattle.marks.specs.Marks.{verdict}
 
 -- Of four numbers 0 and 2 are of the kind that the call names, and 2 and 3 are of the last level: 0 is taken, 1 is of another kind, 2 is

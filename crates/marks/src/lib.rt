@@ -1,5 +1,7 @@
 // Marks of a call: refusals 7, 8 and 9, and tables made of marks and of bytes, number by number.
 // Document 01, "The calls" and "The refusal table".
+#![tactic(auto)]
+
 ghost use Rattle.std.specs.Prelude.{◌≡◌, length};
 ghost use Rattle.facts.specs.Numbers.{first, tabulate};
 ghost use Rattle.marks.specs.Marks.{verdict, MarksBelow, with_marks, unmarked as weight·unmarked, unmarked_at, weighed, common, common_at};

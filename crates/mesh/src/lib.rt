@@ -1,4 +1,5 @@
 // What the two tables of a mesh mean. The definitions are in specs/, the theorems about them in proofs/; the calls are in other crates.
+#![tactic(auto)]
 
 // What count answers: a refusal or 0, and the counts, all 0 with a refusal.
 #[repr(C)]

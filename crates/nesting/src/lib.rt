@@ -1,5 +1,7 @@
 // The nesting of cells: refusal 4, which refined cells are reactivable, and the bytes of those that are not refined. Each cell is read with
 // its parent, row by row: a row of cells begins at `at`, and the row of their parents, `width` of them, at `over`.
+#![tactic(auto)]
+
 ghost use Rattle.std.specs.Prelude.{◌≡◌, cond, ℕ, ◌+◌, ◌-◌, ◌*◌, ◌≤◌, ◌<◌, eqb, length};
 ghost use Rattle.facts.specs.Numbers.{tabulate};
 ghost use Rattle.facts.specs.Ranges.{every_from};

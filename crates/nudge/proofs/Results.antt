@@ -24,7 +24,7 @@ use Rattle.grid.specs.Plan.{function_total, function_place, function_level}
 use Rattle.grid.proofs.Laws.{function_inside}
 use Rattle.mesh.specs.Mesh.{active}
 use Rattle.heights.specs.Heights.{value_at, one_at, height_sum, places, answer, number_of, height_of}
-use Rattle.heights.specs.Steps.{OnSurface, most}
+use Rattle.heights.specs.Steps.{OnSurface}
 use Rattle.heights.specs.Demands.{inside_at, Valued}
 use Rattle.heights.proofs.Points.{millimetre}
 use Rattle.heights.proofs.Values.{valued}

@@ -31,7 +31,7 @@ seen o =
     ∷ o.function_list
     ∷ []
 
-pub both-steps :
+pub both_steps :
     seen (in_steps S (small []) (labels S (small [])) (7 ∷ 7 ∷ []) (7 ∷ 7 ∷ 7 ∷ []) (small (0 ∷ [])))
     -- a function list one entry short
     ∷ seen (in_steps S (small []) (labels S (small [])) (7 ∷ 7 ∷ []) (7 ∷ []) (small (0 ∷ [])))
@@ -40,7 +40,7 @@ pub both-steps :
     ∷ ((11 ∷ 0 ∷ 0 ∷ []) ∷ [] ∷ [] ∷ (7 ∷ 7 ∷ []) ∷ (7 ∷ []) ∷ [])
     ∷ []
 unfolding some every elem tabulate listed offset number level_of place_on place between ratio grown above below parent is_set is_corner corners_to times knot_from knot beyond functionCount covers supported_at supported absent active refined table_of label_of labels changed written room_refusal settle_cells relabel in_steps
-both-steps = refl
+both_steps = refl
 
 -- ---- each step, on W2 after split 0, split 4: cells 1 and 4 become refined, functions 1 and 5 deactivated
 

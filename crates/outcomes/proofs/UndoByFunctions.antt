@@ -20,7 +20,7 @@ use Rattle.grid.specs.Plan.{cell_total, function_total, supported, hierarchy}
 use Rattle.grid.proofs.Laws.{lawful, near_places}
 use Rattle.mesh.specs.Mesh.{absent, active, refined, deactivated, reactivable, label_of, labels, check}
 use Rattle.mesh.proofs.Bridge.{Good, check_good, get_d_labels, reactivable_is, byte_at_most, deactivated_e, deactivated_i, deactivated_grow}
-use Rattle.outcomes.specs.Calls.{refine, coarsen, cells, functions, eligible, is_too_deep, under_marked, under_kept, selected, changed, new_cells}
+use Rattle.outcomes.specs.Calls.{refine, coarsen, functions, eligible, is_too_deep, under_marked, under_kept, selected, changed, new_cells}
 use Rattle.outcomes.specs.Runs.{Tables, LentLists, Call, result, after, entry, log, backwards, LongEnough, Undone, covered, RefinesByFunctions, end, and}
 use Rattle.outcomes.proofs.Sets.{put, differs, May, changed_may}
 use Rattle.outcomes.proofs.Marks.{Fits}

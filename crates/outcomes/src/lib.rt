@@ -1,4 +1,5 @@
 // What refining and coarsening make of their input. The definitions are in specs/, the theorems about them in proofs/; the code is in crate calls.
+#![tactic(auto)]
 
 // What the four calls answer: a refusal or 0, and how many entries of each list were written.
 #[repr(C)]

@@ -1,4 +1,6 @@
 // The bytes of the cells of two planes, and the planes of bytes, without a plan. All words are whole: there are 64 bytes to each.
+#![tactic(auto)]
+
 ghost use Rattle.std.specs.Prelude.{◌≡◌, ◌+◌, ◌*◌, ◌/◌, ◌%◌, ◌≤◌, ◌<◌, length, get_or};
 ghost use Rattle.facts.specs.Mapped.{filled};
 ghost use Rattle.mesh.specs.Mesh.{refined as isRefined};

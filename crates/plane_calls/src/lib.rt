@@ -1,5 +1,7 @@
 // A mesh whose cells are held as two planes of bits, document 02, Req 11: the calls on planes. Each makes the bytes of the cells in a room
 // of its own, calls the byte call's parts on them, and makes planes of what they leave.
+#![tactic(auto)]
+
 ghost use Rattle.std.specs.Prelude.{◌≡◌, ◌*◌, ◌≤◌, length, take};
 ghost use Rattle.facts.specs.Numbers.{Clear};
 ghost use Rattle.grid.specs.Plan.{cell_total};

@@ -1,4 +1,6 @@
 // The corners of a mesh's active cells, for the projector that throws the grid on the plywood: document 02, Req 06.
+#![tactic(auto)]
+
 ghost use Rattle.std.specs.Prelude.{◌≡◌, ◌+◌, ◌≤◌, ◌<◌, length};
 ghost use Rattle.facts.specs.Writing.{Writes};
 ghost use Rattle.grid.specs.Plan.{cell_total, CellInside};

@@ -2,7 +2,7 @@
 use mathlib.Core.Path.{◌≡◌, refl, sym, ap, ◌∙◌}
 use mathlib.Core.Logic.{◌≢◌}
 use mathlib.Core.List.{List}
-use Prim.Native.Nat.{ℕ, ◌≤◌}
+use Prim.Native.Nat.{ℕ}
 use lib.IntN.{ℤ}
 use lib.ListN.{length}
 use Rattle.grid.specs.declared.Plan.{Plan}
@@ -17,7 +17,6 @@ use Rattle.outcomes.proofs.Results.{new_good, refining_keeps, outcome_settled, o
 use Rattle.outcomes.proofs.Steps.{rooms}
 use Rattle.refining.specs.Refining.{WithHeights, tables_refusal, refused_with, carry_into, outcome_with_heights}
 use Rattle.refining.specs.Steps.{make_refusal, Made, Ready, finished}
-use Rattle.carry.proofs.NewHeights.{allowed}
 use Rattle.refining.proofs.Outcomes.{tables_none, make_none, without_refused, whole_tables, whole_refused, whole_carried}
 
 module _ (by : By) (p : Plan) (cs fs : List ℕ) (hs : List ℤ) (marks cl fl : List ℕ) where

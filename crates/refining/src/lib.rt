@@ -1,6 +1,8 @@
 // Refine with heights: the surface keeps its shape. Document 02, Req 08. What 1 to 11 refuse is decided first, as without heights, and the
 // new tables are made beside the old ones; then the heights are carried beside the old ones and 17 is decided; only then is anything
 // written.
+#![tactic(auto)]
+
 ghost use Rattle.std.specs.Prelude.{◌≡◌, length};
 ghost use Rattle.grid.specs.Plan.{cell_total, function_total};
 ghost use Rattle.mesh.specs.Mesh.{check};

@@ -1,11 +1,11 @@
 -- Document 02, Req 13, worked by hand: calls as rows of one table under one theorem that the checker computes. What is expected is written
 -- out. Assumes nothing.
 use mathlib.Core.Bool.{Bool, true, ◌&&◌}
-use mathlib.Core.List.{List, [], ◌∷◌, ◌++◌, map, flatten}
+use mathlib.Core.List.{List, [], ◌∷◌, ◌++◌, flatten}
 use mathlib.Core.Path.{◌≡◌, refl}
 use Prim.Native.Nat.{ℕ, ◌-◌}
-use lib.Dec.{T, eqb}
-use lib.ListN.{length, replicate}
+use lib.Dec.{T}
+use lib.ListN.{length}
 use Rattle.facts.specs.Bounded.{some, every}
 use Rattle.facts.specs.Numbers.{elem, listed, tabulate, stored, first}
 use Rattle.hierarchy.specs.Hierarchy.{reach, needs, closure}

@@ -1,7 +1,6 @@
 -- The rounds, made one after another, are accepted, name what they mark, and lead to the wanted mesh. Assumes nothing.
 use mathlib.Core.Path.{◌≡◌, refl, sym, ap, ap₂, ◌∙◌, subst}
-use mathlib.Core.Bool.{Bool, false}
-use mathlib.Core.List.{List, [], ◌∷◌, ◌++◌, map}
+use mathlib.Core.List.{List, ◌∷◌, map}
 use Prim.Native.Nat.{ℕ, zero, suc, ◌+◌, ◌-◌, ◌≤◌, ◌<◌}
 use native.Mathlib.Nat.{add-zero}
 use native.Mathlib.Omega.{arith}
@@ -14,7 +13,7 @@ use Rattle.mesh.proofs.Bridge.{Good, good_inside}
 use Rattle.outcomes.specs.Calls.{changed}
 use Rattle.outcomes.specs.Runs.{Tables, LentLists, Call, Entry, after, entry, final, final_of, log, log_of}
 use Rattle.outcomes.proofs.Marks.{inside_ext}
-use Rattle.rounds.specs.Rounds.{as_call, marks_on, by_round, round, in_turn, rounds}
+use Rattle.rounds.specs.Rounds.{as_call, by_round, round, in_turn, rounds}
 use Rattle.rounds.specs.Demands.{missing, LongFor, run}
 use Rattle.rounds.proofs.InTurn.{turn_same, turn_map}
 use Rattle.rounds.proofs.Then.{Then, then_first, by_last, round_is, new as newCellsOf, then_new, after_new, number_new, cells_new, after_ample}

@@ -15,7 +15,7 @@ use Rattle.grid.specs.Plan.{columns_at, rows_at, cell_offset, cell_total}
 use Rattle.grid.proofs.Levels.{offset_zero}
 use Rattle.mesh.specs.Mesh.{refined, check}
 use Rattle.mesh.proofs.Bridge.{Good, check_good, good_inside}
-use Rattle.outcomes.specs.Calls.{changed, written}
+use Rattle.outcomes.specs.Calls.{changed}
 use Rattle.changes.proofs.Changes.{changed_none}
 use Rattle.rounds.specs.declared.RoundsAnswer.{RoundsAnswer}
 use Rattle.rounds.specs.Rounds.{in_turn, rounds, losing, RoundsOutcome, refused, filled, find_rounds}

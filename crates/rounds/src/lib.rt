@@ -1,5 +1,7 @@
 // From today's mesh to a wanted one: rounds of cell marks. Document 02, Req 13. What is missing on a level is what its round marks, since
 // the wanted mesh is admissible; cells are numbered level by level, so the rounds are the cells that differ, in the order of their numbers.
+#![tactic(auto)]
+
 ghost use Rattle.std.specs.Prelude.{◌≡◌, ◌-◌, length};
 ghost use Rattle.facts.specs.Bounded.{some};
 ghost use Rattle.rounds.specs.Rounds.{find_rounds};

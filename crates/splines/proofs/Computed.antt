@@ -72,7 +72,7 @@ unfolding tabulate is_set is_corner corners_to times knot_from knot beyond funct
 worked = refl
 
 -- with a corner: on it one function has all, and none reaches over it; at degree 1 nothing changes
-pub worked-corners :
+pub worked_corners :
     values_of (side 3 1 2 2) 8 0
     ∷ values_of (side 3 1 2 2) 8 5
     ∷ values_of (side 3 1 2 2) 8 8
@@ -100,7 +100,7 @@ pub worked-corners :
     ∷ (0 ∷ 128 ∷ 0 ∷ 0 ∷ [])
     ∷ []
 unfolding tabulate is_set is_corner corners_to times knot_from knot beyond functions rise fall box basis scale cell_of value value_in value_on
-worked-corners = refl
+worked_corners = refl
 
 -- the functions that have a point inside their supports: one on each end of the side and on a corner; on another line those that end or begin
 -- there do not

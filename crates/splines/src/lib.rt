@@ -1,4 +1,6 @@
 // Values of B-splines of degrees 1 and 2 in one direction of one level, as whole numbers. Only the functions over the point's cell have any.
+#![tactic(auto)]
+
 ghost use Rattle.std.specs.Prelude.{◌≡◌, ◌≤◌};
 ghost use Rattle.grid.specs.Knots.{times};
 ghost use Rattle.grid.specs.Side.{SideIn};

@@ -1,5 +1,7 @@
 // The two-scale relation in one direction: which functions of the next level a function is the sum of, and how much of each is in it, in
 // quarters. Degrees 1 and 2.
+#![tactic(auto)]
+
 ghost use Rattle.std.specs.Prelude.{cond, ◌≡◌, ◌/◌, ◌^◌, ◌≤◌, ◌<◌, eqb};
 ghost use Rattle.grid.specs.Knots.{functions};
 ghost use Rattle.grid.specs.Side.{SideIn};

@@ -1,4 +1,6 @@
 // The library's interface: the calls, exported with C's calling convention. include/wallmirror.h declares them.
+#![tactic(auto)]
+
 ghost use Rattle.std.specs.Prelude.{◌≡◌};
 ghost use Rattle.grid.specs.Plan.{plan_refusal};
 ghost use Rattle.layout.specs.Layout.{cells_length, functions_length, level_at, place_of, cell_at, support};

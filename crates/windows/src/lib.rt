@@ -1,5 +1,7 @@
 // The least bytes of windows: of each place of a level, in some rows and columns up to it. Both directions are one loop over whole runs of
 // bytes, the smaller of two runs of which one begins later.
+#![tactic(auto)]
+
 ghost use Rattle.std.specs.Prelude.{◌≡◌, min, ◌+◌, ◌-◌, ◌*◌, ◌≤◌, ◌<◌, length, get_or};
 ghost use Rattle.facts.specs.Mapped.{filled};
 ghost use Rattle.windows.specs.Windows.{always, lowered, least_of, slid, in_rows, row_slid, Windowed, SlideIn, RowsIn, LevelIn};

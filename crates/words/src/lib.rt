@@ -1,4 +1,6 @@
 // Planes by whole words, without a plan: whether they are in order, how many bits are set, and planes whose first bits are.
+#![tactic(auto)]
+
 ghost use Rattle.std.specs.Prelude.{◌≡◌, ◌≤◌, length};
 ghost use Rattle.facts.specs.Bounded.{every, sum};
 ghost use Rattle.planes.specs.Bits.{words_for, word_from, plane_of, no_spare, in_order, active_ones, ones_at};

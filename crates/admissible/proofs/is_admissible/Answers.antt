@@ -1,6 +1,5 @@
 -- `is_admissible` meets its contract. Assumes nothing.
 use mathlib.Core.Path.{sym}
-use borrow.Author.Rules.{rules}
 use Rattle.admissible.proofs.Cells.{class_zero}
 use Rattle.admissible.proofs.is_admissible.Goals as goal
 

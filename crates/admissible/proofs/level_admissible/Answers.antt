@@ -1,9 +1,8 @@
 -- `admissible::level_admissible` meets its contract. The invariant: whether the rows so far pass. Assumes nothing.
 use mathlib.Core.Path.{◌≡◌, refl, sym, ap, ◌∙◌}
-use Prim.Native.Nat.{ℕ, ◌+◌, ◌-◌, ◌*◌, ◌≤◌}
+use Prim.Native.Nat.{ℕ, ◌*◌}
 use native.Mathlib.Nat.{zero-mul}
 use native.Mathlib.Omega.{arith}
-use borrow.Author.Rules.{rules}
 use Rattle.facts.specs.Ranges.{every_from}
 use Rattle.facts.proofs.Ranges.{from_none}
 use Rattle.grid.specs.Plan.{columns_at, rows_at, cell_offset}

@@ -1,15 +1,9 @@
 -- `admissible::level_admissible` meets its contract. The invariant: whether the rows so far pass. Assumes nothing.
-use mathlib.Core.Path.{◌≡◌, refl, sym, ap, ◌∙◌}
-use Prim.Native.Nat.{ℕ, ◌+◌, ◌-◌, ◌*◌, ◌≤◌}
-use native.Mathlib.Nat.{zero-mul}
-use native.Mathlib.Omega.{arith}
-use borrow.Author.Rules.{rules}
+use mathlib.Core.Path.{◌≡◌}
+use Prim.Native.Nat.{◌+◌, ◌-◌, ◌*◌, ◌≤◌}
 use Rattle.facts.specs.Ranges.{every_from}
-use Rattle.facts.proofs.Ranges.{from_none}
 use Rattle.grid.specs.Plan.{columns_at, rows_at, cell_offset}
-use Rattle.grid.proofs.Levels.{row_within}
 use Rattle.admissible.specs.Admissible.{cell_admissible}
-use Rattle.facts.proofs.Rows.{rows_join}
 use Rattle.admissible.proofs.level_admissible.Given as goal
 
 abbrev pub invariant-loop-row : goal.invariant-loop-row

@@ -1,11 +1,7 @@
 -- `admissible::levels_admissible` meets its contract. The invariant: whether the levels so far pass. Assumes nothing.
-use mathlib.Core.Path.{◌≡◌, refl, sym, ◌∙◌}
-use Prim.Native.Nat.{◌-◌, ◌≤◌}
+use mathlib.Core.Path.{refl, sym, ◌∙◌}
 use native.Mathlib.Omega.{arith}
-use borrow.Author.Rules.{rules}
-use lib.ListN.{length}
-use Rattle.facts.specs.Ranges.{every_from}
-use Rattle.grid.specs.Plan.{columns_at, rows_at, cell_offset}
+use Rattle.grid.specs.Plan.{columns_at, rows_at}
 use Rattle.grid.proofs.Levels.{levels_none, levels_join}
 use Rattle.admissible.specs.Admissible.{cell_admissible}
 use Rattle.admissible.proofs.Cells.{levels_passed}

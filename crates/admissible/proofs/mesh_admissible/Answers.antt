@@ -1,5 +1,4 @@
 -- `mesh_admissible` meets its contract. Assumes nothing.
-use borrow.Author.Rules.{rules}
 use Rattle.windows.proofs.Rooms.{near_room}
 use Rattle.admissible.proofs.mesh_admissible.Goals as goal
 

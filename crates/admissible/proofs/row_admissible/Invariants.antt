@@ -1,19 +1,9 @@
 -- `admissible::row_admissible` meets its contract. The invariant: whether the cells so far pass. Assumes nothing.
-use mathlib.Core.Bool.{◌&&◌}
-use mathlib.Core.Path.{◌≡◌, refl, sym, ap, ◌∙◌}
-use Prim.Native.Nat.{ℕ, ◌+◌, ◌-◌, ◌≤◌, ◌<◌}
-use native.Mathlib.Omega.{arith}
-use borrow.Author.Rules.{rules}
-use lib.ListN.{length}
+use mathlib.Core.Path.{◌≡◌}
+use Prim.Native.Nat.{◌-◌, ◌≤◌}
 use Rattle.facts.specs.Ranges.{every_from}
-use Rattle.facts.proofs.Ranges.{from_none}
-use Rattle.grid.specs.Numbering.{number}
-use Rattle.grid.specs.Plan.{columns_at, cell_number, CellInside}
-use Rattle.grid.proofs.Laws.{cell_number_lt}
-use Rattle.facts.proofs.Rows.{from_next}
-use Rattle.windows.specs.Near.{least_near}
+use Rattle.grid.specs.Plan.{columns_at}
 use Rattle.admissible.specs.Admissible.{cell_admissible}
-use Rattle.admissible.proofs.Cells.{cell_read}
 use Rattle.admissible.proofs.row_admissible.Given as goal
 
 abbrev pub invariant-loop-column : goal.invariant-loop-column

@@ -10,7 +10,6 @@ use Rattle.mesh.specs.Mesh.{check}
 use Rattle.mesh.proofs.Bridge.{Passed, check_passed}
 use Rattle.calls.specs.Parts.{direction_of, by_of}
 use Rattle.calls.proofs.Outcomes.{check_refused, mark_refused_lem, applicable, steps_are}
-use borrow.Author.Rules.{rules}
 use Rattle.calls.proofs.change.Goals as goal
 use Rattle.calls.proofs.change.Goals.{Else-checked-ne0}
 

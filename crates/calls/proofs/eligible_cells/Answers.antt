@@ -3,7 +3,6 @@
 use mathlib.Core.Path.{ap}
 use Rattle.calls.specs.Parts.{direction_of}
 use Rattle.calls.proofs.Eligible.{kinds_are, refine_eligible_cells, coarsen_eligible_cells}
-use borrow.Author.Rules.{rules}
 use Rattle.calls.proofs.eligible_cells.Goals as goal
 
 pub returns-in-Refine : goal.returns-in-Refine

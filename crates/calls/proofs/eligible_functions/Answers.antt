@@ -2,7 +2,6 @@
 use mathlib.Core.Path.{ap}
 use Rattle.calls.specs.Parts.{direction_of}
 use Rattle.calls.proofs.Eligible.{kinds_are, reactivable_bytes, refine_eligible_functions, coarsen_eligible_functions}
-use borrow.Author.Rules.{rules}
 use Rattle.calls.proofs.eligible_functions.Goals as goal
 
 pub coarsenable_functions-requires : goal.coarsenable_functions-requires

@@ -10,7 +10,6 @@ use Rattle.outcomes.specs.Calls.{cells, mark_refusal}
 use Rattle.calls.specs.Parts.{direction_of}
 use Rattle.calls.proofs.Eligible.{judged_is, marks_below}
 use Rattle.calls.proofs.Flags.{cells_flags}
-use borrow.Author.Rules.{rules}
 use Rattle.calls.proofs.flag_cells.Goals as goal
 use Rattle.calls.proofs.flag_cells.Goals.{After-judge-number, Else-number-ne0}
 

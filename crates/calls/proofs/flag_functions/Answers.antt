@@ -11,7 +11,6 @@ use Rattle.mesh.proofs.Bridge.{check_passed}
 use Rattle.calls.specs.Parts.{direction_of}
 use Rattle.calls.proofs.Eligible.{judged_is, marks_below}
 use Rattle.calls.proofs.Flags.{functions_flags}
-use borrow.Author.Rules.{rules}
 use Rattle.calls.proofs.flag_functions.Goals as goal
 use Rattle.calls.proofs.flag_functions.Goals.{After-judge-number, After-weigh, Else-number-ne0}
 

@@ -3,7 +3,6 @@ use mathlib.Core.Path.{ap}
 use Rattle.mesh.proofs.Bridge.{check_passed}
 use Rattle.calls.specs.Parts.{by_of}
 use Rattle.calls.proofs.Flags.{flags_are}
-use borrow.Author.Rules.{rules}
 use Rattle.calls.proofs.flag_marks.Goals as goal
 
 pub flag_cells-requires : goal.flag_cells-requires

@@ -1,7 +1,6 @@
 -- `in_steps` meets its contract: what the first step leaves is what the second asks. Assumes nothing.
 use mathlib.Core.Path.{◌∙◌}
 use Rattle.calls.proofs.Outcomes.{stops, relabellable, ends}
-use borrow.Author.Rules.{rules}
 use Rattle.calls.proofs.in_steps.Goals as goal
 
 pub returns-then-mesh-ne0 : goal.returns-then-mesh-ne0

@@ -4,7 +4,6 @@ use native.Mathlib.Omega.{arith}
 use Rattle.facts.proofs.Zeros.{zeros, part_length}
 use Rattle.grid.specs.Bounds.{most_cells}
 use Rattle.calls.proofs.Flags.{kept}
-use borrow.Author.Rules.{rules}
 use Rattle.calls.proofs.keep_eligible.Goals as goal
 
 pub slice_bounds-kinds-end : goal.slice_bounds-kinds-end

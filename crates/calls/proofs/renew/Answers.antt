@@ -1,5 +1,4 @@
 -- `renew` meets its contract: each arm is the closure's function of that direction. Assumes nothing.
-use borrow.Author.Rules.{rules}
 use Rattle.calls.proofs.renew.Goals as goal
 
 pub refine_marked-requires : goal.refine_marked-requires

@@ -8,7 +8,6 @@ use Rattle.grid.specs.Bounds.{most_cells}
 use Rattle.outcomes.specs.Steps.{settle_cells}
 use Rattle.calls.specs.Parts.{direction_of, renewed}
 use Rattle.calls.proofs.Outcomes.{ready_are, mesh_are}
-use borrow.Author.Rules.{rules}
 use Rattle.calls.proofs.settle_mesh.Goals as goal
 use Rattle.calls.proofs.settle_mesh.Goals.{After-renew}
 

@@ -2,7 +2,6 @@
 use mathlib.Core.Path.{sym, ◌∙◌}
 use native.Mathlib.Omega.{arith}
 use Rattle.carry.proofs.NewHeights.{may, heights_are, starts, carries, carried_are}
-use borrow.Author.Rules.{rules}
 use Rattle.carry.proofs.carry_beside.Goals as goal
 
 pub only_active-requires : goal.only_active-requires

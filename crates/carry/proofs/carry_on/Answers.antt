@@ -1,12 +1,10 @@
 -- `carry_on` meets its contract: level by level. Assumes nothing.
 use mathlib.Core.Path.{◌≡◌, sym, ◌∙◌}
-use Prim.Native.Nat.{◌-◌, ◌≤◌}
+use Prim.Native.Nat.{◌-◌}
 use native.Mathlib.Omega.{arith}
 use Rattle.grid.specs.Plan.{function_offset}
-use Rattle.carry.specs.Carry.{carried}
 use Rattle.carry.specs.Steps.{Underway}
 use Rattle.carry.proofs.Joins.{underway_size, levels_none, levels_more, levels_all}
-use borrow.Author.Rules.{rules}
 use Rattle.carry.proofs.carry_on.Goals as goal
 use Rattle.carry.proofs.carry_on.Goals.{At-loop-level}
 

@@ -1,12 +1,8 @@
 -- `carry_on` meets its contract: level by level. Assumes nothing.
-use mathlib.Core.Path.{◌≡◌, sym, ◌∙◌}
+use mathlib.Core.Path.{◌≡◌}
 use Prim.Native.Nat.{◌-◌, ◌≤◌}
-use native.Mathlib.Omega.{arith}
 use Rattle.grid.specs.Plan.{function_offset}
 use Rattle.carry.specs.Carry.{carried}
-use Rattle.carry.specs.Steps.{Underway}
-use Rattle.carry.proofs.Joins.{underway_size, levels_none, levels_more, levels_all}
-use borrow.Author.Rules.{rules}
 use Rattle.carry.proofs.carry_on.Given as goal
 
 abbrev pub invariant-loop-level : goal.invariant-loop-level

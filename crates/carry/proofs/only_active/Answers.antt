@@ -1,10 +1,7 @@
 -- `only_active` meets its contract: function by function. Assumes nothing.
 use mathlib.Core.Path.{sym, ◌∙◌}
-use Prim.Native.Nat.{◌-◌}
 use native.Mathlib.Omega.{arith}
-use lib.ListN.{length}
-use Rattle.carry.proofs.Starts.{ActiveTo, active_yes, active_no, active_none, active_next, active_all}
-use borrow.Author.Rules.{rules}
+use Rattle.carry.proofs.Starts.{active_yes, active_no, active_none, active_next, active_all}
 use Rattle.carry.proofs.only_active.Goals as goal
 use Rattle.carry.proofs.only_active.Goals.{then-functions-i-eq1, else-functions-i-eq1}
 

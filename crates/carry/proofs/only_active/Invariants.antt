@@ -1,11 +1,7 @@
 -- `only_active` meets its contract: function by function. Assumes nothing.
-use mathlib.Core.Path.{sym, ◌∙◌}
-use mathlib.Core.Logic.{⊎_elim}
 use Prim.Native.Nat.{◌-◌}
-use native.Mathlib.Omega.{arith}
 use lib.ListN.{length}
-use Rattle.carry.proofs.Starts.{ActiveTo, active_yes, active_no, active_none, active_next, active_all}
-use borrow.Author.Rules.{rules}
+use Rattle.carry.proofs.Starts.{ActiveTo}
 use Rattle.carry.proofs.only_active.Given as goal
 
 abbrev pub invariant-loop-i : goal.invariant-loop-i

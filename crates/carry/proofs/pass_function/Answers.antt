@@ -1,14 +1,8 @@
 -- `pass_function` meets its contract: row by row. Assumes nothing.
 use mathlib.Core.Path.{refl, ◌∙◌}
-use Prim.Native.Nat.{◌+◌, ◌-◌, ◌*◌, ◌≤◌}
 use native.Mathlib.Omega.{arith}
-use mir.Syntax.{w32}
-use mir.Val.{to_z}
 use lib.ListN.{length-set}
-use Rattle.carry.specs.Steps.{block_sixteenths}
-use Rattle.carry.proofs.Portions.{PassedTo}
 use Rattle.carry.proofs.Blocks.{height_read, row_ends, blocks_none, up_room, part_read, block_room, block_next, blocks_all}
-use borrow.Author.Rules.{rules}
 use Rattle.carry.proofs.pass_function.Goals as goal
 
 pub loop-row-init : goal.loop-row-init

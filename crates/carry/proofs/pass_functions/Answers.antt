@@ -1,12 +1,10 @@
 -- `pass_functions` meets its contract: function by function. Assumes nothing.
 use mathlib.Core.Path.{◌≡◌, ap, ◌∙◌}
-use Prim.Native.Nat.{◌+◌, ◌-◌, ◌*◌, ◌≤◌, ◌<◌}
+use Prim.Native.Nat.{◌+◌, ◌*◌, ◌<◌}
 use native.Mathlib.Omega.{arith}
 use Rattle.grid.specs.Plan.{function_columns_at, function_offset}
 use Rattle.grid.proofs.Sides.{up_in, across_in, up_functions, across_functions}
-use Rattle.carry.specs.Steps.{carried_from}
 use Rattle.carry.proofs.Turns.{from_none, row_fits, row_ends, turn_size, turn_same, turn_room, turn_yes, turn_no}
-use borrow.Author.Rules.{rules}
 use Rattle.carry.proofs.pass_functions.Goals as goal
 use Rattle.carry.proofs.pass_functions.Goals.{then-functions-f, else-functions-f}
 use Rattle.carry.proofs.pass_functions.Goals.{At-loop-column, In-loop-column}

@@ -1,13 +1,8 @@
 -- `pass_functions` meets its contract: function by function. Assumes nothing.
-use mathlib.Core.Path.{◌≡◌, ap, ◌∙◌}
-use mathlib.Core.Logic.{⊎_elim}
-use Prim.Native.Nat.{◌+◌, ◌-◌, ◌*◌, ◌≤◌, ◌<◌}
-use native.Mathlib.Omega.{arith}
+use mathlib.Core.Path.{◌≡◌}
+use Prim.Native.Nat.{◌+◌, ◌-◌, ◌*◌, ◌≤◌}
 use Rattle.grid.specs.Plan.{function_columns_at, function_offset}
-use Rattle.grid.proofs.Sides.{up_in, across_in, up_functions, across_functions}
 use Rattle.carry.specs.Steps.{carried_from}
-use Rattle.carry.proofs.Turns.{from_none, row_fits, row_ends, turn_size, turn_same, turn_room, turn_yes, turn_no}
-use borrow.Author.Rules.{rules}
 use Rattle.carry.proofs.pass_functions.Given as goal
 
 abbrev pub invariant-loop-column : goal.invariant-loop-column

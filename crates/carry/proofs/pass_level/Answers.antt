@@ -1,11 +1,9 @@
 -- `pass_level` meets its contract: row by row. Assumes nothing.
 use mathlib.Core.Path.{◌≡◌, sym, ◌∙◌}
-use Prim.Native.Nat.{◌-◌, ◌*◌, ◌≤◌}
+use Prim.Native.Nat.{◌*◌}
 use native.Mathlib.Omega.{arith}
 use Rattle.grid.specs.Plan.{function_columns_at, function_rows_at, function_offset}
-use Rattle.carry.specs.Steps.{carried_from}
 use Rattle.carry.proofs.Joins.{underway_size, underway_more, rows_none, rows_more}
-use borrow.Author.Rules.{rules}
 use Rattle.carry.proofs.pass_level.Goals as goal
 
 pub function_rows_at-rows-requires : goal.function_rows_at-rows-requires

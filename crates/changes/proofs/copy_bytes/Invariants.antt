@@ -1,10 +1,7 @@
 -- `copy_bytes` meets its contract. The invariant: the bytes passed are those of the source. Assumes nothing.
 use mathlib.Core.Path.{◌≡◌}
 use Prim.Native.Nat.{◌-◌, ◌≤◌}
-use native.Mathlib.Omega.{arith}
-use lib.ListN.{length, take, length-set}
-use borrow.Author.Rules.{rules}
-use Rattle.facts.proofs.Turns.{copy_more, copy_all}
+use lib.ListN.{length, take}
 use Rattle.changes.proofs.copy_bytes.Given as goal
 
 abbrev pub invariant-loop-i : goal.invariant-loop-i

@@ -3,7 +3,6 @@ use mathlib.Core.Path.{sym, ap, ◌∙◌}
 use native.Mathlib.Omega.{arith}
 use lib.ListN.{length}
 use Rattle.changes.proofs.Changes.{changed_same}
-use borrow.Author.Rules.{rules}
 use Rattle.changes.proofs.count_block.Goals as goal
 
 pub returns-then-same : goal.returns-then-same

@@ -1,12 +1,8 @@
 -- `count_bytes` meets its contract. The invariant: the count is that of the numbers passed. Assumes nothing.
-use mathlib.Core.Path.{◌≡◌, sym, ap, ◌∙◌}
-use mathlib.Core.Logic.{⊎_elim}
+use mathlib.Core.Path.{◌≡◌}
 use Prim.Native.Nat.{◌+◌, ◌-◌, ◌≤◌}
-use native.Mathlib.Omega.{arith}
 use lib.ListN.{length}
-use borrow.Author.Rules.{rules}
 use Rattle.outcomes.specs.Calls.{changed}
-use Rattle.changes.proofs.Changes.{changed_no, changed_longer}
 use Rattle.changes.proofs.count_bytes.Given as goal
 
 abbrev pub invariant-loop-i : goal.invariant-loop-i

@@ -1,9 +1,7 @@
 -- `count_changed` meets its contract. The invariant: the count is that of the numbers passed. Assumes nothing.
 use mathlib.Core.Path.{◌≡◌, sym, ap}
-use Prim.Native.Nat.{◌-◌, ◌≤◌}
 use native.Mathlib.Omega.{arith}
 use lib.ListN.{length}
-use Rattle.outcomes.specs.Calls.{changed}
 use Rattle.changes.proofs.Changes.{changed_none, changed_short}
 use Rattle.changes.proofs.count_changed.Goals as goal
 

@@ -3,7 +3,6 @@ use mathlib.Core.Path.{ap}
 use Prim.Native.Nat.{ℕ}
 use lib.Dec.{ltb}
 use Rattle.changes.proofs.Steps.{room_for_all}
-use borrow.Author.Rules.{rules}
 use Rattle.changes.proofs.is_short.Goals as goal
 
 pub returns-then-old-room : goal.returns-then-old-room

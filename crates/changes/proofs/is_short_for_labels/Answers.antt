@@ -7,7 +7,6 @@ use lib.Dec.{ltb}
 use lib.ListN.{length}
 use Rattle.outcomes.specs.Calls.{changed}
 use Rattle.changes.proofs.Steps.{room_for_all}
-use borrow.Author.Rules.{rules}
 use Rattle.changes.proofs.is_short_for_labels.Goals as goal
 
 pub returns-then-functions-room : goal.returns-then-functions-room

@@ -5,7 +5,6 @@ use Prim.Native.Nat.{ℕ}
 use lib.ListN.{length}
 use Rattle.outcomes.specs.Calls.{written}
 use Rattle.changes.proofs.Changes.{changed_same}
-use borrow.Author.Rules.{rules}
 use Rattle.changes.proofs.list_block.Goals as goal
 
 pub returns-then-same : goal.returns-then-same

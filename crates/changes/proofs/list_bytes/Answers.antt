@@ -2,10 +2,9 @@
 -- behind them. Assumes nothing.
 use mathlib.Core.Path.{◌≡◌, refl, sym, ap, ◌∙◌}
 use mathlib.Core.List.{List, ◌++◌}
-use Prim.Native.Nat.{ℕ, ◌+◌, ◌-◌, ◌≤◌, ◌<◌}
+use Prim.Native.Nat.{ℕ, ◌+◌, ◌<◌}
 use native.Mathlib.Omega.{arith}
 use lib.ListN.{length, drop, length-set}
-use borrow.Author.Rules.{rules}
 use Rattle.outcomes.specs.Calls.{changed, written}
 use Rattle.changes.specs.Changes.{ListRoom}
 use Rattle.changes.proofs.Changes.{changed_no, changed_longer, changed_le, changed_write, listed_behind}

@@ -1,14 +1,10 @@
 -- `list_bytes` meets its contract. The invariant: the list starts with the numbers passed that changed, and keeps its entries
 -- behind them. Assumes nothing.
-use mathlib.Core.Path.{◌≡◌, refl, sym, ap, ◌∙◌}
-use mathlib.Core.List.{List, ◌++◌}
-use mathlib.Core.Logic.{⊎_elim}
-use Prim.Native.Nat.{ℕ, ◌+◌, ◌-◌, ◌≤◌, ◌<◌}
-use native.Mathlib.Omega.{arith}
-use lib.ListN.{length, drop, length-set}
-use borrow.Author.Rules.{rules}
-use Rattle.outcomes.specs.Calls.{changed, written}
-use Rattle.changes.proofs.Changes.{changed_no, changed_longer, changed_le, changed_write, listed_behind}
+use mathlib.Core.Path.{◌≡◌}
+use mathlib.Core.List.{◌++◌}
+use Prim.Native.Nat.{◌-◌, ◌≤◌}
+use lib.ListN.{length, drop}
+use Rattle.outcomes.specs.Calls.{changed}
 use Rattle.changes.proofs.list_bytes.Given as goal
 
 abbrev pub invariant-loop-i : goal.invariant-loop-i

@@ -1,10 +1,7 @@
 -- `list_changed_between` meets its contract. The invariant: the list starts with the numbers passed that changed, and keeps its entries
 -- after them. Assumes nothing.
 use mathlib.Core.Path.{◌≡◌, refl}
-use Prim.Native.Nat.{◌-◌, ◌≤◌}
 use native.Mathlib.Omega.{arith}
-use lib.ListN.{length}
-use Rattle.outcomes.specs.Calls.{changed, written}
 use Rattle.changes.proofs.Changes.{block_listed, block_more}
 use Rattle.changes.proofs.list_changed_between.Goals as goal
 

@@ -1,7 +1,6 @@
 -- `room_refusal` meets its contract: each test is one of the definition's. Assumes nothing.
 use mathlib.Core.Path.{sym, ◌∙◌}
 use Rattle.changes.proofs.Steps.{refuses_10, refuses_11, refuses_none}
-use borrow.Author.Rules.{rules}
 use Rattle.changes.proofs.room_refusal.Goals as goal
 
 pub returns-then-is_short : goal.returns-then-is_short

@@ -3,7 +3,6 @@ use mathlib.Core.Path.{◌≡◌, sym, ◌∙◌}
 use mathlib.Core.Logic.{◌≢◌}
 use native.Mathlib.Omega.{arith}
 use Rattle.changes.proofs.Steps.{stops, cell_room_lem, ends}
-use borrow.Author.Rules.{rules}
 use Rattle.changes.proofs.settle_cells.Goals as goal
 
 pub returns-then-number-ne0 : goal.returns-then-number-ne0

@@ -2,7 +2,6 @@
 use native.Mathlib.Omega.{arith}
 use lib.ListN.{length}
 use Rattle.changes.proofs.Changes.{changed_short}
-use borrow.Author.Rules.{rules}
 use Rattle.changes.proofs.take_over.Goals as goal
 
 pub overflow_cast-result : goal.overflow_cast-result

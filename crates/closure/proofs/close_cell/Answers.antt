@@ -1,7 +1,6 @@
 -- `close_cell` meets its contract. Assumes nothing.
 use mathlib.Core.Path.{sym, ◌∙◌}
 use native.Mathlib.Omega.{arith}
-use borrow.Author.Rules.{rules}
 use borrow.Author.Tests.{eq-eqb, ne_eqb}
 use Rattle.closure.specs.Walk.{told}
 use Rattle.closure.proofs.Model.{close_settled, close_open}

@@ -3,7 +3,6 @@ use mathlib.Core.Path.{ap, ◌∙◌}
 use Rattle.closure.specs.declared.Pass.TheVariants.{Close}
 use Rattle.closure.specs.Walk.{pass}
 use Rattle.closure.proofs.Marked.{coarsened_smallest}
-use borrow.Author.Rules.{rules}
 use Rattle.closure.proofs.coarsen_marked.Goals as goal
 
 pub returns : goal.returns

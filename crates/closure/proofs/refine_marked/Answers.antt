@@ -1,7 +1,6 @@
 -- `refine_marked` meets its contract. Assumes nothing.
 use mathlib.Core.Path.{◌∙◌}
 use Rattle.closure.proofs.Marked.{refined_smallest}
-use borrow.Author.Rules.{rules}
 use Rattle.closure.proofs.refine_marked.Goals as goal
 
 pub returns : goal.returns

@@ -1,5 +1,4 @@
 -- `run` meets its contract. Assumes nothing.
-use borrow.Author.Rules.{rules}
 use Rattle.windows.proofs.Rooms.{near_room}
 use Rattle.closure.proofs.run.Goals as goal
 

@@ -1,11 +1,9 @@
 -- `run_level` meets its contract. The invariant: the rows passed are visited, and the number of the next. Assumes nothing.
 use mathlib.Core.Path.{◌≡◌, refl, ap, ◌∙◌}
 use mathlib.Core.List.{List}
-use Prim.Native.Nat.{ℕ, ◌+◌, ◌-◌, ◌*◌, ◌≤◌}
+use Prim.Native.Nat.{ℕ, ◌-◌}
 use native.Mathlib.Omega.{arith}
-use borrow.Author.Rules.{rules}
-use lib.ListN.{length}
-use Rattle.grid.specs.Plan.{columns_at, rows_at, cell_offset}
+use Rattle.grid.specs.Plan.{columns_at, rows_at}
 use Rattle.grid.proofs.Levels.{row_within}
 use Rattle.closure.specs.Walk.{sweep, told, visit, over_row, over, level_cells}
 use Rattle.closure.proofs.Sweeps.{sweep_none, sweep_more}

@@ -1,14 +1,9 @@
 -- `run_row` meets its contract. The invariant: the cells passed are visited. Assumes nothing.
-use mathlib.Core.Path.{◌≡◌, refl, ap, ◌∙◌}
-use mathlib.Core.List.{List}
-use Prim.Native.Nat.{ℕ, ◌-◌, ◌≤◌}
-use native.Mathlib.Omega.{arith}
-use borrow.Author.Rules.{rules}
+use mathlib.Core.Path.{◌≡◌}
+use Prim.Native.Nat.{◌-◌, ◌≤◌}
 use lib.ListN.{length}
-use Rattle.grid.specs.Plan.{columns_at, cell_offset, CellInside}
+use Rattle.grid.specs.Plan.{columns_at}
 use Rattle.closure.specs.Walk.{sweep, at, told, visit}
-use Rattle.closure.proofs.Sweeps.{sweep_none, sweep_more}
-use Rattle.closure.proofs.Places.{Sited, sited}
 use Rattle.closure.proofs.run_row.Given as goal
 
 abbrev pub invariant-loop-column : goal.invariant-loop-column

@@ -2,7 +2,6 @@
 use mathlib.Core.Path.{ap, ◌∙◌}
 use Prim.Native.Nat.{◌<◌}
 use native.Mathlib.Omega.{arith}
-use borrow.Author.Rules.{rules}
 use Rattle.grid.specs.Plan.{cell_total}
 use Rattle.grid.proofs.Laws.{cell_number_lt}
 use Rattle.closure.specs.Walk.{write_cell, told}

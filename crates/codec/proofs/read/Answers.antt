@@ -1,10 +1,6 @@
 -- `read` meets its contract: at each answer the groups passed say what the number is. Assumes nothing.
 use native.Mathlib.Omega.{arith}
 use Rattle.codec.proofs.Groups.{read_none, read_one, read_cut, read_long, read_two, read_cut_2, read_long_2, read_three, read_four}
-use borrow.Author.Rules.{rules}
-use Rattle.codec.proofs.read.Reads as reads
-use Rattle.codec.proofs.read.Lts as lts
-use Rattle.codec.proofs.byte_at.Reads as byte-at-reads
 use Rattle.codec.proofs.read.Goals as goal
 
 pub returns-then-s-at : goal.returns-then-s-at

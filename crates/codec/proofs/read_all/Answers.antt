@@ -1,13 +1,8 @@
 -- `read_all` meets its contract: whoever reads what is left has read all the numbers. Assumes nothing.
-use mathlib.Core.Path.{◌≡◌, refl}
-use Prim.Native.Nat.{◌-◌, ◌≤◌}
+use mathlib.Core.Path.{refl}
 use native.Mathlib.Omega.{arith}
-use borrow.Author.Rules.{rules}
 use lib.ListN.{length, length-set}
-use Rattle.codec.proofs.Steps.{found, missing, Left, left_all, left_next, left_bad, left_none}
-use Rattle.codec.proofs.read_all.Reads as reads
-use Rattle.codec.proofs.read_all.Lts as lts
-use Rattle.codec.proofs.read.Reads as read-reads
+use Rattle.codec.proofs.Steps.{found, missing, left_all, left_next, left_bad, left_none}
 use Rattle.codec.proofs.read_all.Goals as goal
 
 pub loop-i-init : goal.loop-i-init

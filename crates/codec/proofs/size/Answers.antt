@@ -2,8 +2,6 @@
 use mathlib.Core.Path.{refl}
 use native.Mathlib.Omega.{arith}
 use Rattle.codec.proofs.Groups.{bytes_one, bytes_two, bytes_three}
-use Rattle.codec.proofs.size.Reads as reads
-use Rattle.codec.proofs.size.Lts as lts
 use Rattle.codec.proofs.size.Goals as goal
 
 pub returns-then-n-lt128 : goal.returns-then-n-lt128

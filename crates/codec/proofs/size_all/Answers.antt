@@ -1,8 +1,6 @@
 -- `size_all` meets its contract: what is counted and what is left are all the bytes. Assumes nothing.
 use mathlib.Core.Path.{◌≡◌, refl}
-use Prim.Native.Nat.{◌+◌, ◌-◌, ◌*◌, ◌≤◌}
 use native.Mathlib.Omega.{arith}
-use borrow.Author.Rules.{rules}
 use lib.ListN.{length, get_or, drop}
 use Rattle.codec.specs.Numbers.{encode_numbers}
 use Rattle.codec.proofs.Numbers.{short}

@@ -1,12 +1,8 @@
 -- `size_all` meets its contract: what is counted and what is left are all the bytes. Assumes nothing.
-use mathlib.Core.Path.{◌≡◌, refl}
+use mathlib.Core.Path.{◌≡◌}
 use Prim.Native.Nat.{◌+◌, ◌-◌, ◌*◌, ◌≤◌}
-use native.Mathlib.Omega.{arith}
-use borrow.Author.Rules.{rules}
-use lib.ListN.{length, get_or, drop}
+use lib.ListN.{length, drop}
 use Rattle.codec.specs.Numbers.{encode_numbers}
-use Rattle.codec.proofs.Numbers.{short}
-use Rattle.codec.proofs.Lists.{numbers_longer, numbers_end, small_at_lem}
 use Rattle.codec.proofs.size_all.Given as goal
 
 abbrev pub invariant-loop-i : goal.invariant-loop-i

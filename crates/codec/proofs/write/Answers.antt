@@ -5,9 +5,6 @@ use native.Mathlib.Omega.{arith}
 use lib.ListN.{length, length-set}
 use Rattle.facts.proofs.Writing.{writes, two_stores, three_stores}
 use Rattle.codec.proofs.Groups.{bytes_one, bytes_two, bytes_three}
-use borrow.Author.Rules.{rules}
-use Rattle.codec.proofs.write.Reads as reads
-use Rattle.codec.proofs.write.Lts as lts
 use Rattle.codec.proofs.write.Goals as goal
 
 pub bounds-out-at : goal.bounds-out-at

@@ -1,13 +1,7 @@
 -- `write_all` meets its contract: whoever writes what is left has written all the numbers. Assumes nothing.
-use mathlib.Core.Path.{◌≡◌, refl, ◌∙◌}
-use mathlib.Core.List.{List}
-use Prim.Native.Nat.{ℕ, ◌+◌, ◌-◌, ◌≤◌}
+use mathlib.Core.Path.{refl, ◌∙◌}
 use native.Mathlib.Omega.{arith}
-use borrow.Author.Rules.{rules}
-use lib.ListN.{length, drop}
-use Rattle.facts.specs.Writing.{Writes}
 use Rattle.facts.proofs.Writing.{writes_none, writes_more}
-use Rattle.codec.specs.Numbers.{encode_numbers}
 use Rattle.codec.proofs.Lists.{numbers_next, numbers_longer, numbers_end, small_at_lem}
 use Rattle.codec.proofs.write_all.Goals as goal
 

@@ -1,8 +1,6 @@
 -- `compare::same` meets its contract. The invariant: the bytes so far. Assumes nothing.
 use mathlib.Core.Path.{◌≡◌}
-use Prim.Native.Nat.{◌-◌, ◌≤◌}
 use native.Mathlib.Omega.{arith}
-use Rattle.compare.specs.Agree.{agree}
 use Rattle.compare.proofs.Agree.{agree_none, agree_next}
 use Rattle.compare.proofs.same.Goals as goal
 

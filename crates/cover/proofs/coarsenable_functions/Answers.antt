@@ -1,5 +1,4 @@
 -- `cover::coarsenable_functions` meets its contract: the room that it lends is large enough. Assumes nothing.
-use borrow.Author.Rules.{rules}
 use Rattle.grid.proofs.Totals.{functions_bound}
 use Rattle.grid.specs.Bounds.{most_functions}
 use Rattle.windows.proofs.Rooms.{zeros_length}

@@ -2,7 +2,6 @@
 use Prim.Native.Nat.{◌+◌, ◌*◌, ◌≤◌}
 use native.Mathlib.Omega.{arith}
 use Rattle.grid.proofs.Sides.{total_small}
-use borrow.Author.Rules.{rules}
 use Rattle.facts.proofs.Mapped.{fill_length}
 use Rattle.facts.proofs.Ranges.{mid_len}
 use Rattle.grid.specs.Plan.{function_total}

@@ -1,9 +1,6 @@
 -- `cover::copy_run` meets its contract. The invariant: the entries so far. Assumes nothing.
 use mathlib.Core.Path.{◌≡◌, refl}
-use Prim.Native.Nat.{◌-◌, ◌≤◌}
 use native.Mathlib.Omega.{arith}
-use lib.ListN.{length, get_or}
-use Rattle.facts.specs.Mapped.{filled}
 use Rattle.facts.proofs.Mapped.{filled_none, fill_length, fill_next}
 use Rattle.cover.proofs.copy_run.Goals as goal
 

@@ -1,10 +1,8 @@
 -- `cover::copy_run` meets its contract. The invariant: the entries so far. Assumes nothing.
-use mathlib.Core.Path.{◌≡◌, refl}
+use mathlib.Core.Path.{◌≡◌}
 use Prim.Native.Nat.{◌-◌, ◌≤◌}
-use native.Mathlib.Omega.{arith}
 use lib.ListN.{length, get_or}
 use Rattle.facts.specs.Mapped.{filled}
-use Rattle.facts.proofs.Mapped.{filled_none, fill_length, fill_next}
 use Rattle.cover.proofs.copy_run.Given as goal
 
 abbrev pub invariant-loop-i : goal.invariant-loop-i

@@ -1,5 +1,4 @@
 -- `cover::cover` meets its contract: the room that it lends is large enough. Assumes nothing.
-use borrow.Author.Rules.{rules}
 use Rattle.windows.proofs.Rooms.{value_room}
 use Rattle.cover.proofs.cover.Goals as goal
 

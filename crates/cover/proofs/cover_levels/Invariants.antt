@@ -1,13 +1,10 @@
 -- `cover::cover_levels` meets its contract. The invariant: the levels so far are written. Assumes nothing.
-use mathlib.Core.Path.{◌≡◌, refl, ◌∙◌}
+use mathlib.Core.Path.{◌≡◌}
 use Prim.Native.Nat.{◌-◌, ◌≤◌}
-use native.Mathlib.Omega.{arith}
 use lib.ListN.{length}
 use Rattle.facts.specs.Mapped.{filled}
-use Rattle.facts.proofs.Mapped.{fill_length, filled_all}
 use Rattle.grid.specs.Plan.{cell_offset}
 use Rattle.windows.specs.Level.{least_value}
-use Rattle.cover.proofs.Passes.{levels_none, levels_more}
 use Rattle.cover.proofs.cover_levels.Given as goal
 
 abbrev pub invariant-loop-level : goal.invariant-loop-level

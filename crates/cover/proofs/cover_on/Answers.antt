@@ -1,7 +1,6 @@
 -- `cover::cover_on` meets its contract: the table of the level's functions is read for its cells. Assumes nothing.
 use Prim.Native.Nat.{◌≤◌}
 use native.Mathlib.Omega.{arith}
-use borrow.Author.Rules.{rules}
 use lib.ListN.{length}
 use Rattle.cover.proofs.Passes.{read_in, cover_pass}
 use Rattle.cover.proofs.cover_on.Goals as goal

@@ -1,10 +1,7 @@
 -- `cover::pick` meets its contract. The invariant: the entries so far. Assumes nothing.
 use mathlib.Core.Path.{◌≡◌, refl}
-use Prim.Native.Nat.{◌-◌, ◌≤◌}
 use native.Mathlib.Omega.{arith}
 use borrow.Author.Rules.{rules}
-use lib.ListN.{length}
-use Rattle.facts.specs.Mapped.{filled}
 use Rattle.facts.proofs.Mapped.{filled_none, fill_length, fill_next}
 use Rattle.cover.specs.Level.{picked}
 use Rattle.cover.proofs.pick.Goals as goal

@@ -1,11 +1,8 @@
 -- `cover::pick` meets its contract. The invariant: the entries so far. Assumes nothing.
-use mathlib.Core.Path.{◌≡◌, refl}
+use mathlib.Core.Path.{◌≡◌}
 use Prim.Native.Nat.{◌-◌, ◌≤◌}
-use native.Mathlib.Omega.{arith}
-use borrow.Author.Rules.{rules}
 use lib.ListN.{length}
 use Rattle.facts.specs.Mapped.{filled}
-use Rattle.facts.proofs.Mapped.{filled_none, fill_length, fill_next}
 use Rattle.cover.specs.Level.{picked}
 use Rattle.cover.proofs.pick.Given as goal
 

@@ -1,16 +1,13 @@
 -- `cover::read_level` meets its contract. The invariant: the rows so far, and where the next begins. Assumes nothing.
 use mathlib.Core.Path.{◌≡◌, refl, ap, ◌∙◌}
-use Prim.Native.Nat.{ℕ, ◌+◌, ◌-◌, ◌*◌, ◌≤◌, ◌<◌}
+use Prim.Native.Nat.{ℕ, ◌+◌, ◌*◌, ◌≤◌, ◌<◌}
 use native.Mathlib.Nat.{mul-le-mul_right}
 use native.Mathlib.Omega.{arith}
-use borrow.Author.Rules.{rules}
 use lib.ListN.{length}
-use Rattle.facts.specs.Mapped.{filled}
 use Rattle.facts.proofs.Mapped.{filled_none, fill_length, fill_part}
 use Rattle.facts.proofs.Ranges.{mid_len}
 use Rattle.grid.specs.Side.{firsts}
 use Rattle.grid.proofs.Sides.{first_lt}
-use Rattle.cover.specs.Level.{level_read}
 use Rattle.facts.proofs.Rows.{row_ends}
 use Rattle.cover.proofs.Levels.{read_row}
 use Rattle.cover.proofs.read_level.Goals as goal

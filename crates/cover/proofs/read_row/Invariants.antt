@@ -1,14 +1,8 @@
 -- `cover::read_row` meets its contract. The invariant: the entries so far. Assumes nothing.
-use mathlib.Core.Path.{◌≡◌, refl, sym, ap, ◌∙◌}
-use Prim.Native.Nat.{◌+◌, ◌-◌, ◌≤◌, ◌<◌}
-use native.Mathlib.Omega.{arith}
-use borrow.Author.Rules.{rules}
-use lib.ListN.{length, get_or}
+use mathlib.Core.Path.{◌≡◌}
+use Prim.Native.Nat.{◌-◌, ◌≤◌}
+use lib.ListN.{length}
 use Rattle.facts.specs.Mapped.{filled}
-use Rattle.facts.proofs.Mapped.{part_at, filled_none, fill_length, fill_part}
-use Rattle.facts.proofs.Ranges.{mid_len}
-use Rattle.grid.specs.Side.{first_over}
-use Rattle.windows.proofs.Placed.{run_ends}
 use Rattle.cover.specs.Level.{row_read}
 use Rattle.cover.proofs.read_row.Given as goal
 

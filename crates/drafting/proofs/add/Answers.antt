@@ -4,7 +4,6 @@ use native.Mathlib.Omega.{arith}
 use lib.ListN.{length}
 use Rattle.drafts.proofs.Refusals.{passes_19}
 use Rattle.drafting.proofs.Whole.{open_fits, adds_19, adds_judged, adds_short, adds}
-use borrow.Author.Rules.{rules}
 use Rattle.drafting.proofs.add.Goals as goal
 use Rattle.drafting.proofs.add.Goals.{Else-list-from, Else-number-ne0}
 

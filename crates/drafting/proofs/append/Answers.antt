@@ -1,11 +1,8 @@
 -- `append` meets its contract. The invariant: the marks passed are written. Assumes nothing.
-use mathlib.Core.Path.{◌≡◌, refl}
-use Prim.Native.Nat.{◌-◌, ◌≤◌}
+use mathlib.Core.Path.{refl}
 use native.Mathlib.Omega.{arith}
-use lib.ListN.{length, take, length-set}
-use Rattle.facts.specs.Writing.{written_at}
+use lib.ListN.{length-set}
 use Rattle.drafting.proofs.Turns.{none_yet, one_more, all_there}
-use borrow.Author.Rules.{rules}
 use Rattle.drafting.proofs.append.Goals as goal
 
 pub loop-i-init : goal.loop-i-init

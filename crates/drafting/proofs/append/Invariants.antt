@@ -1,11 +1,8 @@
 -- `append` meets its contract. The invariant: the marks passed are written. Assumes nothing.
-use mathlib.Core.Path.{◌≡◌, refl}
+use mathlib.Core.Path.{◌≡◌}
 use Prim.Native.Nat.{◌-◌, ◌≤◌}
-use native.Mathlib.Omega.{arith}
-use lib.ListN.{length, take, length-set}
+use lib.ListN.{length, take}
 use Rattle.facts.specs.Writing.{written_at}
-use Rattle.drafting.proofs.Turns.{none_yet, one_more, all_there}
-use borrow.Author.Rules.{rules}
 use Rattle.drafting.proofs.append.Given as goal
 
 abbrev pub invariant-loop-i : goal.invariant-loop-i

@@ -3,7 +3,6 @@ use mathlib.Core.Path.{sym}
 use Rattle.calls.specs.Parts.{direction_of, by_of}
 use Rattle.drafts.proofs.Refusals.{passes_18}
 use Rattle.drafting.proofs.Whole.{changes_not, changes}
-use borrow.Author.Rules.{rules}
 use Rattle.drafting.proofs.change.Goals as goal
 
 pub returns-then-number-ne0 : goal.returns-then-number-ne0

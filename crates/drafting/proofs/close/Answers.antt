@@ -6,7 +6,6 @@ use Rattle.mesh.specs.Mesh.{check}
 use Rattle.drafts.specs.Drafts.{is_open}
 use Rattle.drafts.proofs.Refusals.{passes_19}
 use Rattle.drafting.proofs.Whole.{open_fits, closes_not, closes}
-use borrow.Author.Rules.{rules}
 use Rattle.drafting.proofs.close.Goals as goal
 use Rattle.drafting.proofs.close.Goals.{Else-number-ne0}
 

@@ -1,6 +1,5 @@
 -- `drop` meets its contract. Assumes nothing.
 use Rattle.drafting.proofs.Whole.{drops}
-use borrow.Author.Rules.{rules}
 use Rattle.drafting.proofs.drop.Goals as goal
 
 pub returns : goal.returns

@@ -6,7 +6,6 @@ use Rattle.facts.specs.Numbers.{first}
 use Rattle.marks.specs.Marks.{verdict}
 use Rattle.mesh.proofs.Bridge.{Passed, check_passed}
 use Rattle.calls.proofs.Eligible.{judged_is, refine_eligible_cells}
-use borrow.Author.Rules.{rules}
 use Rattle.drafting.proofs.judge.Goals as goal
 use Rattle.drafting.proofs.judge.Goals.{After-shared_slice_known-1}
 

@@ -1,6 +1,5 @@
 -- `open` meets its contract. Assumes nothing.
 use Rattle.drafting.proofs.Whole.{opens_not, opens}
-use borrow.Author.Rules.{rules}
 use Rattle.drafting.proofs.open.Goals as goal
 
 pub returns-then-number-ne0 : goal.returns-then-number-ne0

@@ -2,7 +2,6 @@
 use mathlib.Core.Path.{ap, ◌∙◌}
 use Prim.Native.Nat.{ℕ}
 use Rattle.drafts.specs.Drafts.{ended_by, draft_after_open}
-use borrow.Author.Rules.{rules}
 use Rattle.drafting.proofs.open_mesh.Goals as goal
 
 pub returns : goal.returns

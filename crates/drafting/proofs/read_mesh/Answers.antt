@@ -2,7 +2,6 @@
 use mathlib.Core.Path.{ap, ◌∙◌}
 use Rattle.files.specs.File.{ReadOutcome}
 use Rattle.drafts.specs.Drafts.{ended_by, draft_after_read}
-use borrow.Author.Rules.{rules}
 use Rattle.drafting.proofs.read_mesh.Goals as goal
 
 pub returns : goal.returns

@@ -6,7 +6,6 @@ use Rattle.calls.specs.Parts.{by_of}
 use Rattle.refining.proofs.Outcomes.{tables_heights}
 use Rattle.drafts.proofs.Refusals.{passes_18}
 use Rattle.drafting.proofs.Whole.{carries_not, carries}
-use borrow.Author.Rules.{rules}
 use Rattle.drafting.proofs.refine.Goals as goal
 use Rattle.drafting.proofs.refine.Goals.{Else-number-ne0}
 

@@ -2,7 +2,6 @@
 use mathlib.Core.Path.{◌≡◌, sym, ◌∙◌}
 use Rattle.mesh.specs.Mesh.{check}
 use Rattle.drafts.proofs.Refusals.{check_18, open_18, none_18}
-use borrow.Author.Rules.{rules}
 use Rattle.drafting.proofs.refusal18.Goals as goal
 use Rattle.drafting.proofs.refusal18.Goals.{Else-checked-ne0}
 

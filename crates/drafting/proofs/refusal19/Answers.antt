@@ -2,7 +2,6 @@
 use mathlib.Core.Path.{◌≡◌, sym, ◌∙◌}
 use Rattle.mesh.specs.Mesh.{check}
 use Rattle.drafts.proofs.Refusals.{check_19, open_19, none_19}
-use borrow.Author.Rules.{rules}
 use Rattle.drafting.proofs.refusal19.Goals as goal
 use Rattle.drafting.proofs.refusal19.Goals.{Else-checked-ne0}
 

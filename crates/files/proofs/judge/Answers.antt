@@ -7,13 +7,6 @@ use Rattle.listing.specs.Judged.{CellsFound}
 use Rattle.listing.proofs.Judging.{cells_found, cells_missing}
 use Rattle.files.proofs.CornerNumbers.{corners_found, corners_missing}
 use Rattle.files.proofs.Decoding.{file_no_head, count_small, file_no_cells, file_no_corners, file_good}
-use borrow.Author.Rules.{rules}
-use Rattle.files.proofs.judge.Reads as reads
-use Rattle.files.proofs.judge.Lts as lts
-use Rattle.codec.proofs.read_all.Reads as read-all-reads
-use Rattle.listing.proofs.read_cells.Reads as read-cells-reads
-use Rattle.files.proofs.read_corners.Reads as read-corners-reads
-use Rattle.files.proofs.plan_with.Reads as plan-with-reads
 use Rattle.files.proofs.judge.Goals as goal
 use Rattle.files.proofs.judge.Goals.{After-read_all, In-Cells, In-Place}
 

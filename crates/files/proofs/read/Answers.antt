@@ -3,14 +3,6 @@ use mathlib.Core.Path.{sym, ◌∙◌}
 use Rattle.files.specs.Steps.{GoodFile}
 use Rattle.files.proofs.Decoding.{judged_good, judged_bad}
 use Rattle.files.proofs.Reading.{read_bad, read_early}
-use borrow.Author.Rules.{rules}
-use Rattle.files.proofs.read.Reads as reads
-use Rattle.files.proofs.read.Lts as lts
-use Rattle.files.proofs.judge.Reads as judge-reads
-use Rattle.files.proofs.no_plan.Reads as no-plan-reads
-use Rattle.files.proofs.refuse.Reads as refuse-reads
-use Rattle.files.proofs.restore.Reads as restore-reads
-use Rattle.tables.proofs.refusal.Reads as refusal-reads
 use Rattle.files.proofs.read.Goals as goal
 use Rattle.files.proofs.read.Goals.{In-Good}
 

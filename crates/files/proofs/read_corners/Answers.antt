@@ -4,11 +4,6 @@ use mathlib.Core.Path.{sym, ◌∙◌}
 use Rattle.codec.specs.Steps.{Found}
 use Rattle.codec.proofs.Steps.{found, missing}
 use Rattle.files.proofs.CornerNumbers.{none_left, first_bad, second_bad, both_zeros, both_found}
-use borrow.Author.Rules.{rules}
-use Rattle.files.proofs.read_corners.Reads as reads
-use Rattle.files.proofs.read_corners.Lts as lts
-use Rattle.codec.proofs.read.Reads as read-reads
-use Rattle.files.proofs.no_corners.Reads as no-corners-reads
 use Rattle.files.proofs.read_corners.Goals as goal
 use Rattle.files.proofs.read_corners.Goals.{In-Number, In-Number-read}
 

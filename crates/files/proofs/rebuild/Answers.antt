@@ -1,11 +1,6 @@
 -- `rebuild` meets its contract. Assumes nothing.
 use mathlib.Core.Path.{◌∙◌}
 use Rattle.files.proofs.Reading.{rebuilt_is}
-use borrow.Author.Rules.{rules}
-use Rattle.files.proofs.rebuild.Reads as reads
-use Rattle.files.proofs.rebuild.Lts as lts
-use Rattle.listing.proofs.mark_cells.Reads as mark-cells-reads
-use Rattle.nesting.proofs.complete.Reads as complete-reads
 use Rattle.files.proofs.rebuild.Goals as goal
 
 pub returns : goal.returns

@@ -2,10 +2,6 @@
 use mathlib.Core.Path.{sym, ap, ◌∙◌}
 use Rattle.grid.specs.declared.Plan.{Plan}
 use Rattle.files.proofs.Reading.{answered_none, answered_some}
-use borrow.Author.Rules.{rules}
-use Rattle.files.proofs.refuse.Reads as reads
-use Rattle.files.proofs.refuse.Lts as lts
-use Rattle.files.proofs.no_plan.Reads as no-plan-reads
 use Rattle.files.proofs.refuse.Goals as goal
 
 pub returns-then-number : goal.returns-then-number

@@ -13,14 +13,6 @@ use Rattle.mesh.proofs.Bridge.{Passed, passed}
 use Rattle.files.specs.File.{rebuilt}
 use Rattle.files.specs.Steps.{cells_of, table_refusal}
 use Rattle.files.proofs.Reading.{rebuilt_size, read_beyond, mesh_table, read_refused, read_done}
-use borrow.Author.Rules.{rules}
-use Rattle.files.proofs.restore.Reads as reads
-use Rattle.files.proofs.restore.Lts as lts
-use Rattle.changes.proofs.copy_bytes.Reads as copy-bytes-reads
-use Rattle.files.proofs.rebuild.Reads as rebuild-reads
-use Rattle.files.proofs.table_refusal.Reads as table-refusal-reads
-use Rattle.grid.proofs.Plan.cell_total.Reads as cell-total-reads
-use Rattle.labels.proofs.write_labels.Reads as write-labels-reads
 use Rattle.files.proofs.restore.Goals as goal
 use Rattle.files.proofs.restore.Goals.{After-shared_slice_known-1, After-table_refusal-number}
 

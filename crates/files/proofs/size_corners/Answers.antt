@@ -4,11 +4,6 @@ use native.Mathlib.Omega.{arith}
 use lib.ListN.{length}
 use Rattle.codec.proofs.Numbers.{short}
 use Rattle.files.proofs.CornerNumbers.{bytes_none, length_both}
-use borrow.Author.Rules.{rules}
-use Rattle.files.proofs.size_corners.Reads as reads
-use Rattle.files.proofs.size_corners.Lts as lts
-use Rattle.codec.proofs.size.Reads as size-reads
-use Rattle.files.proofs.no_corners.Reads as no-corners-reads
 use Rattle.files.proofs.size_corners.Goals as goal
 
 pub returns-then-no_corners : goal.returns-then-no_corners

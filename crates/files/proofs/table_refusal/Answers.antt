@@ -1,11 +1,6 @@
 -- `table_refusal` meets its contract. Assumes nothing.
 use mathlib.Core.Path.{sym, ◌∙◌}
 use Rattle.files.proofs.Reading.{with_4, with_5, with_13, with_none}
-use borrow.Author.Rules.{rules}
-use Rattle.files.proofs.table_refusal.Reads as reads
-use Rattle.files.proofs.table_refusal.Lts as lts
-use Rattle.admissible.proofs.is_admissible.Reads as is-admissible-reads
-use Rattle.nesting.proofs.is_mesh.Reads as is-mesh-reads
 use Rattle.files.proofs.table_refusal.Goals as goal
 
 pub is_admissible-requires : goal.is_admissible-requires

@@ -1,11 +1,5 @@
 -- `write` meets its contract. Assumes nothing.
 use Rattle.files.proofs.Writing.{unchecked, room, checked}
-use borrow.Author.Rules.{rules}
-use Rattle.files.proofs.write.Reads as reads
-use Rattle.files.proofs.write.Lts as lts
-use Rattle.files.proofs.unwritten.Reads as unwritten-reads
-use Rattle.files.proofs.write_mesh.Reads as write-mesh-reads
-use Rattle.tables.proofs.check.Reads as check-reads
 use Rattle.files.proofs.write.Goals as goal
 
 pub returns-then-checked-ne0 : goal.returns-then-checked-ne0

@@ -5,11 +5,6 @@ use native.Mathlib.Omega.{arith}
 use Rattle.facts.proofs.Writing.{writes_none, writes_more}
 use Rattle.files.specs.File.{no_corners}
 use Rattle.files.proofs.CornerNumbers.{bytes_none, bytes_both, length_both}
-use borrow.Author.Rules.{rules}
-use Rattle.files.proofs.write_corners.Reads as reads
-use Rattle.files.proofs.write_corners.Lts as lts
-use Rattle.codec.proofs.write.Reads as write-reads
-use Rattle.files.proofs.no_corners.Reads as no-corners-reads
 use Rattle.files.proofs.write_corners.Goals as goal
 use Rattle.files.proofs.write_corners.Goals.{Else-no_corners}
 

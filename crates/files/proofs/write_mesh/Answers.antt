@@ -10,17 +10,6 @@ use Rattle.files.specs.File.{head_numbers, file_of}
 use Rattle.files.proofs.Coding.{corners_fit}
 use Rattle.files.proofs.CornerNumbers.{corners_short}
 use Rattle.files.proofs.Writing.{Part, coarser_fits, coarse, small_head, file_length, too_few, wrote_parts}
-use borrow.Author.Rules.{rules}
-use Rattle.files.proofs.write_mesh.Reads as reads
-use Rattle.files.proofs.write_mesh.Lts as lts
-use Rattle.codec.proofs.size_all.Reads as size-all-reads
-use Rattle.codec.proofs.write_all.Reads as write-all-reads
-use Rattle.files.proofs.size_corners.Reads as size-corners-reads
-use Rattle.files.proofs.unwritten.Reads as unwritten-reads
-use Rattle.files.proofs.write_corners.Reads as write-corners-reads
-use Rattle.grid.proofs.Plan.cell_offset.Reads as cell-offset-reads
-use Rattle.listing.proofs.measure.Reads as measure-reads
-use Rattle.listing.proofs.write_cells.Reads as write-cells-reads
 use Rattle.files.proofs.write_mesh.Goals as goal
 use Rattle.files.proofs.write_mesh.Goals.{After-cell_offset-inner, After-measure-listed, After-size_corners, After-struct_known-2-1}
 

@@ -4,7 +4,6 @@ use Prim.Native.Nat.{◌-◌, ◌*◌, ◌≤◌}
 use native.Mathlib.Omega.{arith}
 use Rattle.grid.specs.Knots.{corners_to, beyond}
 use Rattle.grid.proofs.Sides.{beyond_small}
-use borrow.Author.Rules.{rules}
 use Rattle.grid.proofs.beyond.Goals as goal
 
 small : (c : goal.After-corners_to) → let a = c.args in (a.degree - 1) * corners_to a.corners (a.base - 1) ≤ 45

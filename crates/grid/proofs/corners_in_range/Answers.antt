@@ -6,7 +6,6 @@ use lib.Dec.{eqb, ltb}
 use native.Mathlib.Omega.{arith}
 use Rattle.grid.specs.Plan.{corners_in_range}
 use Rattle.grid.proofs.Turns.{power}
-use borrow.Author.Rules.{rules}
 use Rattle.grid.proofs.corners_in_range.Goals as goal
 
 pub returns : goal.returns

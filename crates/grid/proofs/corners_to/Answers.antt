@@ -2,7 +2,6 @@
 use native.Mathlib.Nat.{one-le-pow}
 use native.Mathlib.Omega.{arith}
 use Rattle.grid.proofs.Turns.{power, ones_corners}
-use borrow.Author.Rules.{rules}
 use Rattle.grid.proofs.corners_to.Goals as goal
 
 pub nonzero_rem-result : goal.nonzero_rem-result

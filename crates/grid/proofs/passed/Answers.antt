@@ -1,7 +1,6 @@
 -- `passed` meets its contract. Assumes nothing.
 use mathlib.Core.Path.{◌∙◌}
 use native.Mathlib.Omega.{arith}
-use borrow.Author.Rules.{rules}
 use Rattle.grid.proofs.Turns.{passed_line, passed_back, passed_not}
 use Rattle.grid.proofs.passed.Goals as goal
 

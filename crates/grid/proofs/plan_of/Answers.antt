@@ -1,5 +1,4 @@
 -- `plan_of` meets its contract. Assumes nothing.
-use borrow.Author.Rules.{rules}
 use Rattle.grid.proofs.plan_of.Goals as goal
 
 pub returns : goal.returns

@@ -1,13 +1,9 @@
 -- `all_low` meets its contract: level by level. Assumes nothing.
-use mathlib.Core.Path.{◌≡◌, sym, ◌∙◌}
+use mathlib.Core.Path.{◌≡◌}
 use Prim.Native.Nat.{◌-◌, ◌≤◌}
-use native.Mathlib.Omega.{arith}
 use Rattle.facts.specs.Ranges.{every_from}
-use Rattle.grid.specs.Plan.{function_columns_at, function_rows_at, function_offset}
-use Rattle.grid.proofs.Levels.{levels_none, levels_join}
+use Rattle.grid.specs.Plan.{function_offset}
 use Rattle.heights.specs.Heights.{low_at}
-use Rattle.heights.proofs.Lows.{all_low_lem}
-use borrow.Author.Rules.{rules}
 use Rattle.heights.proofs.all_low.Given as goal
 
 abbrev pub invariant-loop-level : goal.invariant-loop-level

@@ -4,7 +4,6 @@ use Rattle.mesh.specs.Mesh.{check}
 use Rattle.mesh.proofs.Bridge.{check_passed}
 use Rattle.heights.specs.Heights.{heights_refusal}
 use Rattle.heights.proofs.Refusals.{refused_check, refused_heights, refused_point, answered, on_surface}
-use borrow.Author.Rules.{rules}
 use Rattle.heights.proofs.answer.Goals as goal
 use Rattle.heights.proofs.answer.Goals.{Else-checked-ne0, Else-number-ne0}
 

@@ -1,10 +1,9 @@
 -- `eighths` meets its contract: from the last level up, each has twice as many. Assumes nothing.
 use mathlib.Core.Path.{◌≡◌, sym}
-use Prim.Native.Nat.{◌-◌, ◌*◌, ◌≤◌, ◌<◌}
+use Prim.Native.Nat.{◌-◌, ◌*◌}
 use native.Mathlib.Omega.{arith}
 use Rattle.heights.specs.Heights.{eighths}
 use Rattle.heights.proofs.Points.{eighths_small, eighths_last, eighths_up}
-use borrow.Author.Rules.{rules}
 use Rattle.heights.proofs.eighths.Goals as goal
 use Rattle.heights.proofs.eighths.Goals.{After-ratio-parts}
 

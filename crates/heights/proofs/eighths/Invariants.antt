@@ -1,10 +1,7 @@
 -- `eighths` meets its contract: from the last level up, each has twice as many. Assumes nothing.
-use mathlib.Core.Path.{◌≡◌, sym}
-use Prim.Native.Nat.{◌-◌, ◌*◌, ◌≤◌, ◌<◌}
-use native.Mathlib.Omega.{arith}
+use mathlib.Core.Path.{◌≡◌}
+use Prim.Native.Nat.{◌≤◌, ◌<◌}
 use Rattle.heights.specs.Heights.{eighths}
-use Rattle.heights.proofs.Points.{eighths_small, eighths_last, eighths_up}
-use borrow.Author.Rules.{rules}
 use Rattle.heights.proofs.eighths.Given as goal
 
 abbrev pub invariant-loop-finer : goal.invariant-loop-finer

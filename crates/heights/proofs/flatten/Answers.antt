@@ -1,7 +1,6 @@
 -- `flatten` meets its contract, by cases; 0.0 is the exact 0. Assumes nothing.
 use lib.Ieee.{of_bits}
 use Rattle.exact.specs.Dyadic.{dyadic}
-use borrow.Author.Rules.{rules}
 use Rattle.heights.proofs.flatten.Goals as goal
 
 pub returns-in-At : goal.returns-in-At

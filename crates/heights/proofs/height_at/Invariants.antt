@@ -1,13 +1,10 @@
 -- `height_at` meets its contract: level by level. Assumes nothing.
-use mathlib.Core.Path.{◌≡◌, ap, ◌∙◌}
+use mathlib.Core.Path.{◌≡◌}
 use Prim.Native.Nat.{◌-◌, ◌≤◌}
-use native.Mathlib.Omega.{arith}
 use Rattle.exact.specs.Dyadic.{dyadic}
 use Rattle.exact.specs.Sums.{sumℤ}
 use Rattle.grid.specs.Plan.{function_offset}
 use Rattle.heights.specs.Heights.{places, product_at}
-use Rattle.heights.proofs.Turns.{start_level, turn_level, up_all}
-use borrow.Author.Rules.{rules}
 use Rattle.heights.proofs.height_at.Given as goal
 
 abbrev pub invariant-loop-level : goal.invariant-loop-level

@@ -4,7 +4,6 @@ use Rattle.exact.specs.Dyadic.{dyadic}
 use Rattle.heights.specs.Heights.{places}
 use Rattle.heights.proofs.Points.{on_across, on_up, across_room, up_room}
 use Rattle.heights.proofs.Surface.{across_found, up_found, inside_found, rows_found, sum_found}
-use borrow.Author.Rules.{rules}
 use Rattle.heights.proofs.level_height.Goals as goal
 
 pub locate-x-requires : goal.locate-x-requires

@@ -3,7 +3,6 @@ use Prim.Native.Nat.{◌-◌}
 use native.Mathlib.Omega.{arith}
 use Rattle.heights.specs.Heights.{on_mesh}
 use Rattle.grid.proofs.Small.{grown_small}
-use borrow.Author.Rules.{rules}
 use Rattle.heights.proofs.on_mesh.Goals as goal
 
 pub overflow_mul-result : goal.overflow_mul-result

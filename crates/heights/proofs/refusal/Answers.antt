@@ -3,7 +3,6 @@ use mathlib.Core.Path.{◌≡◌, sym, ◌∙◌}
 use lib.ListN.{length}
 use Rattle.grid.specs.Plan.{function_total}
 use Rattle.heights.proofs.Refusals.{few, refuse_3, refuse_14, refuse_15, refuse_none}
-use borrow.Author.Rules.{rules}
 use Rattle.heights.proofs.refusal.Goals as goal
 use Rattle.heights.proofs.refusal.Goals.{Else-heights-total}
 

@@ -1,11 +1,9 @@
 -- `unit` meets its contract: a sixteenth for each level. Assumes nothing.
 use mathlib.Core.Path.{◌≡◌, refl}
-use Prim.Native.Nat.{◌-◌, ◌≤◌, zero-le}
+use Prim.Native.Nat.{zero-le}
 use native.Mathlib.Omega.{arith}
-use lib.IntN.{pos}
 use lib.Ieee.{of_bits}
 use Rattle.exact.specs.Dyadic.{dyadic}
-use Rattle.heights.specs.Heights.{places}
 use Rattle.heights.proofs.Turns.{sixteenth}
 use borrow.Author.Rules.{rules}
 use Rattle.heights.proofs.unit.Goals as goal

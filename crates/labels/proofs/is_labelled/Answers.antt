@@ -1,5 +1,4 @@
 -- `is_labelled` meets its contract: it lends the room for the labels. Assumes nothing.
-use borrow.Author.Rules.{rules}
 use native.Mathlib.Omega.{arith}
 use Rattle.grid.proofs.Totals.{functions_bound}
 use Rattle.facts.proofs.Zeros.{zeros, part_length}

@@ -1,6 +1,5 @@
 -- `labelled` meets its contract: the labels that are made are those that the cells fix. Assumes nothing.
 use mathlib.Core.Path.{◌∙◌}
-use borrow.Author.Rules.{rules}
 use Rattle.labels.proofs.SupportLaws.{agree_labels}
 use Rattle.labels.proofs.labelled.Goals as goal
 

@@ -1,5 +1,4 @@
 -- `write_labels` meets its contract: it lends the room for the windows. Assumes nothing.
-use borrow.Author.Rules.{rules}
 use native.Mathlib.Nat.{le_of_eq}
 use mathlib.Core.Path.{sym}
 use native.Mathlib.Omega.{arith}

@@ -1,5 +1,4 @@
 -- `labels::write_level` meets its contract: the windows of the level are the supports. Assumes nothing.
-use borrow.Author.Rules.{rules}
 use native.Mathlib.Omega.{arith}
 use Prim.Native.Nat.{◌-◌, ◌≤◌}
 use lib.ListN.{length}

@@ -1,13 +1,10 @@
 -- `labels::write_levels` meets its contract. The invariant: the levels so far are written. Assumes nothing.
 use mathlib.Core.Path.{◌≡◌, refl, ◌∙◌}
-use Prim.Native.Nat.{◌-◌, ◌≤◌}
 use native.Mathlib.Omega.{arith}
-use borrow.Author.Rules.{rules}
-use lib.ListN.{length}
 use Rattle.facts.proofs.Numbers.{tabulate_is}
 use Rattle.facts.proofs.Ranges.{written_none, written_more}
 use Rattle.facts.specs.Ranges.{Written}
-use Rattle.grid.specs.Plan.{function_columns_at, function_rows_at, function_offset, function_total}
+use Rattle.grid.specs.Plan.{function_columns_at, function_rows_at, function_total}
 use Rattle.mesh.specs.Mesh.{label_of, labels}
 use Rattle.grid.proofs.Levels.{offset_zero}
 use Rattle.labels.proofs.write_levels.Goals as goal

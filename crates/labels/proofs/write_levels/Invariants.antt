@@ -1,15 +1,10 @@
 -- `labels::write_levels` meets its contract. The invariant: the levels so far are written. Assumes nothing.
-use mathlib.Core.Path.{◌≡◌, refl, ◌∙◌}
+use mathlib.Core.Path.{◌≡◌}
 use Prim.Native.Nat.{◌-◌, ◌≤◌}
-use native.Mathlib.Omega.{arith}
-use borrow.Author.Rules.{rules}
 use lib.ListN.{length}
-use Rattle.facts.proofs.Numbers.{tabulate_is}
-use Rattle.facts.proofs.Ranges.{written_none, written_more}
 use Rattle.facts.specs.Ranges.{Written}
-use Rattle.grid.specs.Plan.{function_columns_at, function_rows_at, function_offset, function_total}
-use Rattle.mesh.specs.Mesh.{label_of, labels}
-use Rattle.grid.proofs.Levels.{offset_zero}
+use Rattle.grid.specs.Plan.{function_offset}
+use Rattle.mesh.specs.Mesh.{label_of}
 use Rattle.labels.proofs.write_levels.Given as goal
 
 abbrev pub invariant-loop-level : goal.invariant-loop-level

@@ -1,7 +1,6 @@
 -- `layout::cell_at` meets its contract. Assumes nothing.
 use mathlib.Core.Path.{refl, sym, ◌∙◌}
 use lib.Dec.{T}
-use borrow.Author.Rules.{rules}
 use Rattle.facts.proofs.Tests.{true_T}
 use Rattle.layout.specs.Layout.{has_place, cell_at}
 use Rattle.layout.proofs.Found.{place_has, cell_found}

@@ -1,6 +1,5 @@
 -- `layout::cells_len` meets its contract. Assumes nothing.
 use mathlib.Core.Path.{◌≡◌, sym, ◌∙◌}
-use borrow.Author.Rules.{rules}
 use Rattle.grid.specs.Plan.{plan_refusal}
 use Rattle.grid.proofs.Laws.{taken_range}
 use Rattle.layout.proofs.Found.{cells_taken, cells_refused}

@@ -1,6 +1,5 @@
 -- `layout::functions_len` meets its contract. Assumes nothing.
 use mathlib.Core.Path.{◌≡◌, sym, ◌∙◌}
-use borrow.Author.Rules.{rules}
 use Rattle.grid.specs.Plan.{plan_refusal}
 use Rattle.grid.proofs.Laws.{taken_range}
 use Rattle.layout.proofs.Found.{functions_taken, functions_refused}

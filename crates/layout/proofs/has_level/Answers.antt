@@ -1,5 +1,4 @@
 -- `layout::has_level` meets its contract. Assumes nothing.
-use borrow.Author.Rules.{rules}
 use Rattle.layout.specs.Layout.{has_level}
 use Rattle.layout.proofs.has_level.Goals as goal
 

@@ -2,7 +2,6 @@
 use mathlib.Core.Path.{◌≡◌, refl, sym, ◌∙◌}
 use mathlib.Core.Bool.{true}
 use Prim.Native.Nat.{◌<◌}
-use borrow.Author.Rules.{rules}
 use Rattle.facts.proofs.Tests.{true_T}
 use Rattle.grid.specs.Range.{InRange}
 use Rattle.layout.specs.Layout.{has_level, has_place}

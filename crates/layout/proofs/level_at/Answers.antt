@@ -3,7 +3,6 @@ use mathlib.Core.Path.{refl, sym, ◌∙◌}
 use Prim.Native.Nat.{◌<◌, ◌≤◌}
 use native.Mathlib.Omega.{arith}
 use lib.Dec.{T}
-use borrow.Author.Rules.{rules}
 use Rattle.facts.proofs.Tests.{true_T}
 use Rattle.grid.specs.Range.{InRange}
 use Rattle.layout.specs.Layout.{has_level, level_at}

@@ -2,7 +2,6 @@
 use mathlib.Core.Path.{refl, sym}
 use Prim.Native.Nat.{◌<◌}
 use native.Mathlib.Omega.{arith}
-use borrow.Author.Rules.{rules}
 use Rattle.layout.specs.Layout.{cells_length}
 use Rattle.layout.proofs.Found.{cells_below, place_found, place_none}
 use Rattle.layout.proofs.place_of.Goals as goal

@@ -2,7 +2,6 @@
 use mathlib.Core.Path.{sym, ap, ◌∙◌}
 use Prim.Native.Nat.{◌<◌}
 use native.Mathlib.Omega.{arith}
-use borrow.Author.Rules.{rules}
 use Rattle.grid.specs.Plan.{function_place, FunctionInside}
 use Rattle.grid.specs.Range.{InRange}
 use Rattle.grid.specs.Spans.{support_of}

@@ -1,8 +1,6 @@
 -- `count_numbers` meets its contract: the fields that are left decide, and the count is of those before them. Assumes nothing.
 use mathlib.Core.Path.{◌≡◌, ap, ◌∙◌}
-use Prim.Native.Nat.{◌+◌, ◌-◌, ◌≤◌}
 use native.Mathlib.Omega.{arith}
-use borrow.Author.Rules.{rules}
 use lib.ListN.{length, drop}
 use mathlib.Core.List.{[]}
 use Rattle.lines.specs.Reading.{all_numbers}

@@ -1,13 +1,9 @@
 -- `count_numbers` meets its contract: the fields that are left decide, and the count is of those before them. Assumes nothing.
-use mathlib.Core.Path.{◌≡◌, ap, ◌∙◌}
+use mathlib.Core.Path.{◌≡◌}
 use Prim.Native.Nat.{◌+◌, ◌-◌, ◌≤◌}
-use native.Mathlib.Omega.{arith}
-use borrow.Author.Rules.{rules}
 use lib.ListN.{length, drop}
-use mathlib.Core.List.{[]}
 use Rattle.lines.specs.Reading.{all_numbers}
 use Rattle.lines.specs.Steps.{fields_behind}
-use Rattle.lines.proofs.Fields.{fields_end, next_length, next_none, next_good, none_good, counted_none, counted_end}
 use Rattle.lines.proofs.count_numbers.Given as goal
 
 abbrev pub invariant-loop-at : goal.invariant-loop-at

@@ -1,10 +1,5 @@
 -- `find` meets its contract: what is left from `i` on says where the first stop is. Assumes nothing.
-use mathlib.Core.Path.{◌≡◌}
-use Prim.Native.Nat.{◌+◌, ◌-◌}
 use native.Mathlib.Omega.{arith}
-use borrow.Author.Rules.{rules}
-use lib.ListN.{length, drop}
-use Rattle.lines.specs.Reading.{up_to}
 use Rattle.lines.proofs.Texts.{up_to_end, up_to_here, up_to_next}
 use Rattle.lines.proofs.find.Goals as goal
 

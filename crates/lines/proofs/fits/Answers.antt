@@ -2,7 +2,6 @@
 use mathlib.Core.Path.{sym, ap}
 use Rattle.lines.specs.declared.Kind.{Kind}
 use Rattle.lines.specs.Reading
-use borrow.Author.Rules.{rules}
 use Rattle.lines.proofs.fits.Goals as goal
 
 pub returns-in-Wall : goal.returns-in-Wall

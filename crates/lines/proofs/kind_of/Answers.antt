@@ -1,7 +1,6 @@
 -- `kind_of` meets its contract, word by word. Assumes nothing.
 use mathlib.Core.Path.{refl, sym, ◌∙◌}
 use Rattle.lines.specs.Reading.{kind_of}
-use borrow.Author.Rules.{rules}
 use Rattle.lines.proofs.kind_of.Goals as goal
 
 pub returns-then-same : goal.returns-then-same

@@ -1,5 +1,4 @@
 -- `line_end` meets its contract: it is `find` at line feeds. Assumes nothing.
-use borrow.Author.Rules.{rules}
 use Rattle.lines.proofs.Texts.{ends_line}
 use Rattle.lines.proofs.line_end.Goals as goal
 

@@ -1,6 +1,5 @@
 -- `put_answer` meets its contract, part by part. Assumes nothing.
 use native.Mathlib.Omega.{arith}
-use borrow.Author.Rules.{rules}
 use Rattle.lines.proofs.Output.{length_digits, list_short, answer_parts}
 use Rattle.facts.proofs.Writing.{writes_more}
 use Rattle.lines.proofs.put_answer.Goals as goal

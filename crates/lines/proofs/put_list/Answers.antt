@@ -1,7 +1,6 @@
 -- `put_list` meets its contract. Assumes nothing.
 use mathlib.Core.Path.{ap}
 use native.Mathlib.Omega.{arith}
-use borrow.Author.Rules.{rules}
 use lib.ListN.{length}
 use Rattle.lines.proofs.Output.{list_none, list_some, list_longer}
 use Rattle.facts.proofs.Writing.{writes_more}

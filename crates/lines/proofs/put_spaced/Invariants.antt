@@ -1,14 +1,10 @@
 -- `put_spaced` meets its contract: whoever writes what is left has written all the items. Assumes nothing.
-use mathlib.Core.Path.{◌≡◌, refl, ◌∙◌}
+use mathlib.Core.Path.{◌≡◌}
 use Prim.Native.Nat.{ℕ, ◌+◌, ◌-◌, ◌≤◌}
-use native.Mathlib.Omega.{arith}
-use borrow.Author.Rules.{rules}
 use mathlib.Core.List.{List}
-use lib.ListN.{length, get_or, drop}
-use Rattle.lines.specs.Writing.{digits, spaced}
+use lib.ListN.{length, drop}
+use Rattle.lines.specs.Writing.{spaced}
 use Rattle.facts.specs.Writing.{Writes}
-use Rattle.lines.proofs.Output.{spaced_end, spaced_next, spaced_longer}
-use Rattle.facts.proofs.Writing.{writes_none, writes_more}
 use Rattle.lines.proofs.put_spaced.Given as goal
 
 abbrev pub invariant-loop-i : goal.invariant-loop-i

@@ -1,11 +1,8 @@
 -- `put_text` meets its contract: whoever writes what is left has written the whole text. Assumes nothing.
-use mathlib.Core.Path.{◌≡◌, refl, ◌∙◌}
-use Rattle.facts.specs.Writing.{Writes}
-use Prim.Native.Nat.{ℕ, ◌+◌, ◌-◌, ◌≤◌, ◌<◌}
+use mathlib.Core.Path.{refl, ◌∙◌}
+use Prim.Native.Nat.{◌+◌, ◌≤◌, ◌<◌}
 use native.Mathlib.Omega.{arith}
-use borrow.Author.Rules.{rules}
-use mathlib.Core.List.{List}
-use lib.ListN.{length, drop, length-drop, drop_of_length-le}
+use lib.ListN.{length, length-drop, drop_of_length-le}
 use Rattle.lines.proofs.Output.{text_next}
 use Rattle.facts.proofs.Writing.{writes_none, writes_more}
 use Rattle.lines.proofs.put_text.Goals as goal

@@ -1,13 +1,9 @@
 -- `put_text` meets its contract: whoever writes what is left has written the whole text. Assumes nothing.
-use mathlib.Core.Path.{◌≡◌, refl, ◌∙◌}
+use mathlib.Core.Path.{◌≡◌}
 use Rattle.facts.specs.Writing.{Writes}
-use Prim.Native.Nat.{ℕ, ◌+◌, ◌-◌, ◌≤◌, ◌<◌}
-use native.Mathlib.Omega.{arith}
-use borrow.Author.Rules.{rules}
+use Prim.Native.Nat.{ℕ, ◌+◌, ◌-◌, ◌≤◌}
 use mathlib.Core.List.{List}
-use lib.ListN.{length, drop, length-drop, drop_of_length-le}
-use Rattle.lines.proofs.Output.{text_next}
-use Rattle.facts.proofs.Writing.{writes_none, writes_more}
+use lib.ListN.{length, drop}
 use Rattle.lines.proofs.put_text.Given as goal
 
 abbrev pub invariant-loop-i : goal.invariant-loop-i

@@ -1,7 +1,6 @@
 -- `read_line` meets its contract. Assumes nothing.
 use mathlib.Core.Path.{sym, ◌∙◌}
 use native.Mathlib.Omega.{arith}
-use borrow.Author.Rules.{rules}
 use lib.Seq.{length-take-le}
 use Rattle.lines.proofs.Texts.{up_to_inside}
 use Rattle.lines.proofs.Fields.{line_good, line_read, line_not, no_room}

@@ -1,10 +1,7 @@
 -- `read_number` meets its contract: the digits that are left, with the value so far, say what the field is. Assumes nothing.
-use mathlib.Core.Path.{◌≡◌, sym, ◌∙◌}
-use Prim.Native.Nat.{◌-◌, ◌^◌, ◌≤◌, ◌<◌}
+use mathlib.Core.Path.{sym, ◌∙◌}
 use native.Mathlib.Omega.{arith}
-use borrow.Author.Rules.{rules}
-use lib.ListN.{length, drop}
-use Rattle.lines.proofs.Texts.{scan, scan_end, scan_low, scan_high, scan_large, scan_next, number_scan, no_number}
+use Rattle.lines.proofs.Texts.{scan_end, scan_low, scan_high, scan_large, scan_next, number_scan, no_number}
 use Rattle.lines.proofs.read_number.Goals as goal
 
 pub returns-then-text-eq0 : goal.returns-then-text-eq0

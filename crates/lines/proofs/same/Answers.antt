@@ -1,10 +1,6 @@
 -- `same` meets its contract: the texts are the same where their rests from `i` on are. Assumes nothing.
-use mathlib.Core.Path.{◌≡◌, sym, ◌∙◌}
-use Prim.Native.Nat.{◌-◌, ◌≤◌}
+use mathlib.Core.Path.{sym, ◌∙◌}
 use native.Mathlib.Omega.{arith}
-use borrow.Author.Rules.{rules}
-use lib.ListN.{length, drop}
-use Rattle.lines.specs.Reading.{same}
 use Rattle.lines.proofs.Texts.{same_lengths, same_end, same_next, same_differ}
 use Rattle.lines.proofs.same.Goals as goal
 

@@ -1,11 +1,8 @@
 -- `same` meets its contract: the texts are the same where their rests from `i` on are. Assumes nothing.
-use mathlib.Core.Path.{◌≡◌, sym, ◌∙◌}
+use mathlib.Core.Path.{◌≡◌}
 use Prim.Native.Nat.{◌-◌, ◌≤◌}
-use native.Mathlib.Omega.{arith}
-use borrow.Author.Rules.{rules}
 use lib.ListN.{length, drop}
 use Rattle.lines.specs.Reading.{same}
-use Rattle.lines.proofs.Texts.{same_lengths, same_end, same_next, same_differ}
 use Rattle.lines.proofs.same.Given as goal
 
 abbrev pub invariant-loop-i : goal.invariant-loop-i

@@ -1,14 +1,11 @@
 -- `store_numbers` meets its contract: the numbers before the fields that are left stand at the start of the buffer. Assumes nothing.
-use mathlib.Core.Path.{◌≡◌, refl, sym, ap, ◌∙◌}
-use Prim.Native.Nat.{ℕ, ◌+◌, ◌-◌, ◌<◌}
-use native.Mathlib.Omega.{arith}
-use borrow.Author.Rules.{rules}
-use lib.ListN.{length, take, drop, length-set}
-use mathlib.Core.Bool.{true, false}
-use mathlib.Core.List.{List, [], ◌++◌, map}
+use mathlib.Core.Path.{◌≡◌}
+use Prim.Native.Nat.{◌+◌, ◌-◌}
+use lib.ListN.{length, take, drop}
+use mathlib.Core.Bool.{true}
+use mathlib.Core.List.{◌++◌, map}
 use Rattle.lines.specs.Reading.{all_numbers, value_of}
 use Rattle.lines.specs.Steps.{fields_behind}
-use Rattle.lines.proofs.Fields.{fields_end, next_length, next_none, next_good, next_value, stored_more, stored_end}
 use Rattle.lines.proofs.store_numbers.Given as goal
 
 abbrev pub invariant-loop-at : goal.invariant-loop-at

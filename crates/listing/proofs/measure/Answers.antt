@@ -1,16 +1,11 @@
 -- `measure` meets its contract. Assumes nothing.
 use mathlib.Core.Path.{◌≡◌, sym, ap, ◌∙◌}
-use Prim.Native.Nat.{ℕ, ◌-◌, ◌*◌, ◌≤◌}
+use Prim.Native.Nat.{ℕ, ◌-◌}
 use native.Mathlib.Omega.{arith}
-use borrow.Author.Rules.{rules}
 use lib.ListN.{length}
-use Rattle.listing.specs.Judged.{last_of}
 use Rattle.listing.specs.Cells.{refined_below, refined_bytes}
 use Rattle.codec.proofs.Numbers.{short}
 use Rattle.listing.proofs.Cells.{refined_none, refined_no, count_yes, bytes_none, bytes_no, last_none, last_yes, last_no, length_more}
-use Rattle.listing.proofs.measure.Reads as reads
-use Rattle.listing.proofs.measure.Lts as lts
-use Rattle.codec.proofs.size.Reads as size-reads
 use Rattle.listing.proofs.measure.Goals as goal
 use Rattle.listing.proofs.measure.Goals.{then-table-i-eq2, else-table-i-eq2}
 

@@ -1,17 +1,10 @@
 -- `read_cells` meets its contract: the differences that are left, behind the last cell so far, say how it ends. Assumes nothing.
-use mathlib.Core.Path.{◌≡◌, refl, ◌∙◌}
-use Prim.Native.Nat.{◌+◌, ◌-◌, ◌*◌, ◌≤◌, ◌<◌}
+use mathlib.Core.Path.{refl, ◌∙◌}
+use Prim.Native.Nat.{◌-◌}
 use native.Mathlib.Omega.{arith}
-use borrow.Author.Rules.{rules}
-use lib.ListN.{length, drop}
-use Rattle.codec.specs.Fitting.{number_limit}
 use Rattle.codec.specs.Steps.{Found}
-use Rattle.listing.specs.Judged.{judge_behind}
 use Rattle.codec.proofs.Steps.{found, missing}
 use Rattle.listing.proofs.Judging.{no_cells_lem, cells_none, cells_bad, cells_begin, judge_bad, judge_zero, judge_more, judge_end}
-use Rattle.listing.proofs.read_cells.Reads as reads
-use Rattle.listing.proofs.read_cells.Lts as lts
-use Rattle.codec.proofs.read.Reads as read-reads
 use Rattle.listing.proofs.read_cells.Goals as goal
 use Rattle.listing.proofs.read_cells.Goals.{In-Number, In-Number-read}
 

@@ -1,17 +1,11 @@
 -- `write_cells` meets its contract. Assumes nothing.
 use mathlib.Core.Path.{◌≡◌, sym, ◌∙◌}
-use Prim.Native.Nat.{◌-◌, ◌≤◌}
 use native.Mathlib.Omega.{arith}
-use borrow.Author.Rules.{rules}
 use lib.ListN.{length}
 use Rattle.facts.specs.Writing.{Writes}
-use Rattle.listing.specs.Judged.{last_of}
 use Rattle.facts.proofs.Writing.{writes_length}
-use Rattle.listing.specs.Cells.{refined_below, refined_bytes}
+use Rattle.listing.specs.Cells.{refined_bytes}
 use Rattle.listing.proofs.Cells.{bytes_no, last_none, last_yes, last_no, has_room, write_turn, write_start}
-use Rattle.listing.proofs.write_cells.Reads as reads
-use Rattle.listing.proofs.write_cells.Lts as lts
-use Rattle.codec.proofs.write.Reads as write-reads
 use Rattle.listing.proofs.write_cells.Goals as goal
 use Rattle.listing.proofs.write_cells.Goals.{then-table-i-eq2, else-table-i-eq2}
 

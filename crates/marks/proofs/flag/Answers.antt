@@ -1,11 +1,10 @@
 -- `flag` meets its contract. The invariant: the flags are those of the marks passed. Assumes nothing.
-use mathlib.Core.Path.{◌≡◌, refl, ap, ◌∙◌}
+use mathlib.Core.Path.{refl, ap, ◌∙◌}
 use mathlib.Core.List.{List}
-use Prim.Native.Nat.{ℕ, ◌-◌, ◌≤◌}
+use Prim.Native.Nat.{ℕ}
 use native.Mathlib.Omega.{arith}
-use lib.ListN.{length, get_or, take, set, length-set}
+use lib.ListN.{length, get_or, set, length-set}
 use borrow.Author.Rules.{rules}
-use Rattle.marks.specs.Marks.{with_marks}
 use Rattle.marks.proofs.Marks.{flagged_none, flagged_more, flagged_all, mark_inside}
 use Rattle.marks.proofs.flag.Goals as goal
 

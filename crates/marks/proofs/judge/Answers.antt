@@ -1,10 +1,6 @@
 -- `judge` meets its contract. The invariant: the marks passed are not refused. Assumes nothing.
-use mathlib.Core.Path.{◌≡◌, sym, ◌∙◌}
-use Prim.Native.Nat.{◌-◌, ◌≤◌}
+use mathlib.Core.Path.{sym, ◌∙◌}
 use native.Mathlib.Omega.{arith}
-use lib.ListN.{length, drop}
-use borrow.Author.Rules.{rules}
-use Rattle.facts.specs.Numbers.{first}
 use Rattle.facts.proofs.Turns.{first_end, first_skip, first_stop}
 use Rattle.marks.specs.Marks.{verdict}
 use Rattle.marks.proofs.judge.Goals as goal

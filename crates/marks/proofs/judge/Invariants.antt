@@ -1,11 +1,8 @@
 -- `judge` meets its contract. The invariant: the marks passed are not refused. Assumes nothing.
-use mathlib.Core.Path.{◌≡◌, sym, ◌∙◌}
+use mathlib.Core.Path.{◌≡◌}
 use Prim.Native.Nat.{◌-◌, ◌≤◌}
-use native.Mathlib.Omega.{arith}
 use lib.ListN.{length, drop}
-use borrow.Author.Rules.{rules}
 use Rattle.facts.specs.Numbers.{first}
-use Rattle.facts.proofs.Turns.{first_end, first_skip, first_stop}
 use Rattle.marks.specs.Marks.{verdict}
 use Rattle.marks.proofs.judge.Given as goal
 

@@ -1,11 +1,10 @@
 -- `keep` meets its contract. The invariant: the bytes passed are written, and those ahead are as they were. Assumes nothing.
-use mathlib.Core.Path.{◌≡◌, refl, ap, ◌∙◌}
-use Prim.Native.Nat.{ℕ, ◌-◌, ◌≤◌}
+use mathlib.Core.Path.{refl, ap, ◌∙◌}
+use Prim.Native.Nat.{ℕ}
 use native.Mathlib.Omega.{arith}
-use lib.ListN.{length, get_or, take, length-set}
+use lib.ListN.{length, get_or, length-set}
 use lib.Seq.{get_or-set_other}
 use borrow.Author.Rules.{rules}
-use Rattle.facts.specs.Numbers.{tabulate}
 use Rattle.facts.proofs.Turns.{tabulate_none, tabulate_more, tabulate_all}
 use Rattle.marks.specs.Marks.{common, common_at}
 use Rattle.marks.proofs.keep.Goals as goal

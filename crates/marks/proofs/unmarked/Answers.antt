@@ -1,10 +1,8 @@
 -- `unmarked` meets its contract. The invariant: the bytes passed are written. Assumes nothing.
-use mathlib.Core.Path.{◌≡◌, refl}
-use Prim.Native.Nat.{◌-◌, ◌≤◌}
+use mathlib.Core.Path.{refl}
 use native.Mathlib.Omega.{arith}
-use lib.ListN.{length, take, length-set}
+use lib.ListN.{length, length-set}
 use borrow.Author.Rules.{rules}
-use Rattle.facts.specs.Numbers.{tabulate}
 use Rattle.facts.proofs.Turns.{tabulate_none, tabulate_more, tabulate_all}
 use Rattle.marks.specs.Marks.{unmarked_at}
 use Rattle.marks.proofs.unmarked.Goals as goal

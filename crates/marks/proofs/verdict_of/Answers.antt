@@ -1,7 +1,6 @@
 -- `verdict_of` meets its contract, by cases. Assumes nothing.
 use mathlib.Core.Path.{sym}
 use native.Mathlib.Omega.{arith}
-use borrow.Author.Rules.{rules}
 use Rattle.marks.proofs.Marks.{verdict_7, verdict_8, verdict_9, verdict_0}
 use Rattle.marks.proofs.verdict_of.Goals as goal
 

@@ -1,10 +1,7 @@
 -- `nesting::all_fit` meets its contract. The invariant: the cells so far fit. Assumes nothing.
 use mathlib.Core.Path.{◌≡◌, refl, ◌∙◌}
 use mathlib.Core.Bool.{◌&&◌}
-use Prim.Native.Nat.{◌-◌, ◌≤◌}
 use native.Mathlib.Omega.{arith}
-use borrow.Author.Rules.{rules}
-use Rattle.facts.specs.Ranges.{every_from}
 use Rattle.nesting.specs.Nested.{cell_byte_fits}
 use Rattle.facts.proofs.Rows.{from_zero, from_next}
 use Rattle.nesting.proofs.all_fit.Goals as goal

@@ -1,14 +1,10 @@
 -- `nesting::complete` meets its contract. The invariant: the levels so far have their bytes. Assumes nothing.
 use mathlib.Core.Path.{◌≡◌, refl, ◌∙◌}
-use Prim.Native.Nat.{◌+◌, ◌-◌, ◌≤◌}
+use Prim.Native.Nat.{◌+◌}
 use native.Mathlib.Omega.{arith}
-use borrow.Author.Rules.{rules}
 use lib.ListN.{length}
-use Rattle.facts.specs.Mapped.{filled}
-use Rattle.grid.specs.Plan.{columns_at, rows_at, cell_offset}
+use Rattle.grid.specs.Plan.{columns_at, rows_at}
 use Rattle.grid.proofs.Levels.{offset_mono}
-use Rattle.mesh.specs.Mesh.{refined}
-use Rattle.nesting.specs.Completed.{completed}
 use Rattle.nesting.proofs.Completed.{filled_zero, filled_size, levels_next, all_completed}
 use Rattle.nesting.proofs.complete.Goals as goal
 use Rattle.nesting.proofs.complete.Goals.{At-loop-level}

@@ -1,14 +1,10 @@
 -- `nesting::complete_cells` meets its contract. The invariant: the cells so far have their bytes. Assumes nothing.
-use mathlib.Core.Path.{◌≡◌, refl}
+use mathlib.Core.Path.{◌≡◌}
 use Prim.Native.Nat.{◌-◌, ◌≤◌}
-use native.Mathlib.Omega.{arith}
-use borrow.Author.Rules.{rules}
 use lib.ListN.{length}
 use Rattle.facts.specs.Mapped.{filled}
-use Rattle.facts.proofs.Mapped.{filled_none}
 use Rattle.mesh.specs.Mesh.{refined}
 use Rattle.nesting.specs.Completed.{byte_in}
-use Rattle.nesting.proofs.Completed.{filled_size, cells_next}
 use Rattle.nesting.proofs.complete_cells.Given as goal
 
 abbrev pub invariant-loop-i : goal.invariant-loop-i

@@ -1,16 +1,11 @@
 -- `nesting::complete_level` meets its contract. The invariant: the rows so far have their bytes, and where the next begins. Assumes nothing.
-use mathlib.Core.Path.{◌≡◌, refl, ◌∙◌}
+use mathlib.Core.Path.{◌≡◌}
 use Prim.Native.Nat.{◌+◌, ◌-◌, ◌*◌, ◌≤◌}
-use native.Mathlib.Omega.{arith}
-use borrow.Author.Rules.{rules}
 use lib.ListN.{length}
 use Rattle.facts.specs.Mapped.{filled}
-use Rattle.grid.specs.Plan.{ratio, columns_at, rows_at, cell_offset}
+use Rattle.grid.specs.Plan.{columns_at, cell_offset}
 use Rattle.mesh.specs.Mesh.{refined}
-use Rattle.nesting.specs.Table.{RowUnder}
 use Rattle.nesting.specs.Completed.{completed}
-use Rattle.nesting.proofs.Rows.{columns_are, row_under, row_in, over_in}
-use Rattle.nesting.proofs.Completed.{filled_zero, filled_size, rows_next}
 use Rattle.nesting.proofs.complete_level.Given as goal
 
 abbrev pub invariant-loop-row : goal.invariant-loop-row

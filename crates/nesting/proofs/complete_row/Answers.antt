@@ -1,14 +1,9 @@
 -- `nesting::complete_row` meets its contract. The invariant: the children of the cells so far have their bytes, and where the next begin.
 -- Assumes nothing.
 use mathlib.Core.Path.{◌≡◌, refl}
-use Prim.Native.Nat.{◌+◌, ◌-◌, ◌*◌, ◌≤◌, ◌<◌}
+use Prim.Native.Nat.{◌+◌, ◌≤◌, ◌<◌}
 use native.Mathlib.Omega.{arith}
-use borrow.Author.Rules.{rules}
 use lib.ListN.{length}
-use Rattle.facts.specs.Mapped.{filled}
-use Rattle.grid.specs.Plan.{ratio}
-use Rattle.mesh.specs.Mesh.{refined}
-use Rattle.nesting.specs.Completed.{completed}
 use Rattle.nesting.proofs.Rows.{parent_in, children_in}
 use Rattle.nesting.proofs.Completed.{filled_zero, filled_size, children_next}
 use Rattle.nesting.proofs.complete_row.Goals as goal

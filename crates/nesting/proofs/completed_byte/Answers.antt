@@ -1,7 +1,6 @@
 -- `nesting::completed_byte` meets its contract. A test of the byte, both ways. Assumes nothing.
 use mathlib.Core.Path.{◌≡◌, refl}
 use mathlib.Core.Bool.{Bool, true, false, cond}
-use borrow.Author.Rules.{rules}
 use borrow.Author.Tests.{eq-eqb, ne_eqb}
 use mir.Val.{bool_byte}
 use Rattle.nesting.proofs.completed_byte.Goals as goal

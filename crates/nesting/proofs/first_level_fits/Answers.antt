@@ -1,6 +1,5 @@
 -- `nesting::first_level_fits` meets its contract. Level 0 is where the table begins. Assumes nothing.
 use native.Mathlib.Omega.{arith}
-use borrow.Author.Rules.{rules}
 use Rattle.grid.specs.Plan.{columns_at, rows_at}
 use Rattle.grid.proofs.Levels.{offset_mono}
 use Rattle.nesting.proofs.Nested.{first_fits}

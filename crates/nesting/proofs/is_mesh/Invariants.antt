@@ -1,14 +1,9 @@
 -- `nesting::is_mesh` meets its contract. The invariant: the levels so far fit. Assumes nothing.
-use mathlib.Core.Path.{◌≡◌, ◌∙◌}
+use mathlib.Core.Path.{◌≡◌}
 use Prim.Native.Nat.{◌+◌, ◌-◌, ◌≤◌}
-use native.Mathlib.Omega.{arith}
-use borrow.Author.Rules.{rules}
 use Rattle.facts.specs.Ranges.{every_from}
-use Rattle.facts.proofs.Ranges.{every_from_lem}
-use Rattle.grid.specs.Plan.{columns_at, rows_at, cell_offset}
+use Rattle.grid.specs.Plan.{cell_offset}
 use Rattle.nesting.specs.Nested.{nested}
-use Rattle.grid.proofs.Levels.{levels_join}
-use Rattle.nesting.proofs.Nested.{mesh_is}
 use Rattle.nesting.proofs.is_mesh.Given as goal
 
 abbrev pub invariant-loop-level : goal.invariant-loop-level

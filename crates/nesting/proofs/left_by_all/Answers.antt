@@ -1,11 +1,6 @@
 -- `nesting::left_by_all` meets its contract. The invariant: what the children so far left. Assumes nothing.
 use mathlib.Core.Path.{◌≡◌}
-use mathlib.Core.Bool.{cond}
-use Prim.Native.Nat.{◌-◌, ◌≤◌}
 use native.Mathlib.Omega.{arith}
-use borrow.Author.Rules.{rules}
-use Rattle.facts.specs.Ranges.{every_from}
-use Rattle.mesh.specs.Mesh.{active}
 use Rattle.nesting.proofs.Reactivable.{left_none, left_more}
 use Rattle.nesting.proofs.left_by_all.Goals as goal
 

@@ -2,11 +2,8 @@
 use mathlib.Core.Path.{◌≡◌}
 use mathlib.Core.Bool.{cond}
 use Prim.Native.Nat.{◌-◌, ◌≤◌}
-use native.Mathlib.Omega.{arith}
-use borrow.Author.Rules.{rules}
 use Rattle.facts.specs.Ranges.{every_from}
 use Rattle.mesh.specs.Mesh.{active}
-use Rattle.nesting.proofs.Reactivable.{left_none, left_more}
 use Rattle.nesting.proofs.left_by_all.Given as goal
 
 abbrev pub invariant-loop-i : goal.invariant-loop-i

@@ -1,5 +1,4 @@
 -- `nesting::most_at` meets its contract. A test of the level, both ways. Assumes nothing.
-use borrow.Author.Rules.{rules}
 use borrow.Author.Tests.{eq-eqb, ne_eqb}
 use Rattle.grid.specs.Plan.{last_level}
 use Rattle.nesting.specs.Nested.{most_at}

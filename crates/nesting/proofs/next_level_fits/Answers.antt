@@ -1,12 +1,9 @@
 -- `nesting::next_level_fits` meets its contract. The invariant: the rows so far fit, and where the next begins. Assumes nothing.
 use mathlib.Core.Path.{◌≡◌, refl, ◌∙◌}
-use Prim.Native.Nat.{◌+◌, ◌-◌, ◌*◌, ◌≤◌}
+use Prim.Native.Nat.{◌+◌, ◌*◌}
 use native.Mathlib.Omega.{arith}
-use borrow.Author.Rules.{rules}
-use Rattle.facts.specs.Ranges.{every_from}
-use Rattle.grid.specs.Plan.{ratio, columns_at, rows_at, cell_offset}
+use Rattle.grid.specs.Plan.{ratio, rows_at}
 use Rattle.nesting.specs.Table.{RowUnder}
-use Rattle.nesting.specs.Nested.{nested}
 use Rattle.facts.proofs.Rows.{from_zero, rows_join}
 use Rattle.nesting.proofs.Rows.{columns_are, row_under, row_in, over_in}
 use Rattle.nesting.proofs.next_level_fits.Goals as goal

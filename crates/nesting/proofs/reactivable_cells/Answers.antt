@@ -2,14 +2,12 @@
 use mathlib.Core.Path.{◌≡◌, sym, ap, ◌∙◌}
 use Prim.Native.Nat.{◌+◌, ◌-◌, ◌≤◌}
 use native.Mathlib.Omega.{arith}
-use borrow.Author.Rules.{rules}
 use lib.ListN.{length}
 use Rattle.facts.specs.Numbers.{tabulate}
-use Rattle.facts.specs.Mapped.{mapped}
 use Rattle.facts.proofs.Numbers.{length_tabulate}
 use Rattle.facts.proofs.Mapped.{filled_length}
-use Rattle.grid.specs.Plan.{columns_at, rows_at, cell_offset, cell_total}
-use Rattle.nesting.specs.Reactivable.{inner_byte, ruled_out}
+use Rattle.grid.specs.Plan.{columns_at, rows_at, cell_total}
+use Rattle.nesting.specs.Reactivable.{inner_byte}
 use Rattle.grid.proofs.Levels.{offset_mono}
 use Rattle.nesting.proofs.Reactivable.{inner_bytes, ruled_none, ruled_levels, ruled_length, all_ruled}
 use Rattle.nesting.proofs.reactivable_cells.Goals as goal

@@ -1,10 +1,7 @@
 -- `nesting::refined_cells` meets its contract. The invariant: the bytes so far are written. Assumes nothing.
 use mathlib.Core.Path.{◌≡◌, refl}
-use Prim.Native.Nat.{◌-◌, ◌≤◌}
 use native.Mathlib.Omega.{arith}
-use borrow.Author.Rules.{rules}
-use lib.ListN.{length, length-set}
-use Rattle.facts.specs.Mapped.{filled}
+use lib.ListN.{length-set}
 use Rattle.mesh.specs.Mesh.{refined}
 use Rattle.nesting.specs.Reactivable.{refined_byte}
 use Rattle.nesting.proofs.Reactivable.{filled_start, filled_next}

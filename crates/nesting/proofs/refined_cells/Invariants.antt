@@ -1,13 +1,9 @@
 -- `nesting::refined_cells` meets its contract. The invariant: the bytes so far are written. Assumes nothing.
-use mathlib.Core.Path.{◌≡◌, refl}
+use mathlib.Core.Path.{◌≡◌}
 use Prim.Native.Nat.{◌-◌, ◌≤◌}
-use native.Mathlib.Omega.{arith}
-use borrow.Author.Rules.{rules}
-use lib.ListN.{length, length-set}
+use lib.ListN.{length}
 use Rattle.facts.specs.Mapped.{filled}
-use Rattle.mesh.specs.Mesh.{refined}
 use Rattle.nesting.specs.Reactivable.{refined_byte}
-use Rattle.nesting.proofs.Reactivable.{filled_start, filled_next}
 use Rattle.nesting.proofs.refined_cells.Given as goal
 
 abbrev pub invariant-loop-i : goal.invariant-loop-i

@@ -1,14 +1,9 @@
 -- `nesting::row_fits` meets its contract. The invariant: the children of the cells so far fit, and where the next begin. Assumes nothing.
 use mathlib.Core.Path.{◌≡◌}
-use Prim.Native.Nat.{◌+◌, ◌-◌, ◌*◌, ◌≤◌, ◌<◌}
-use native.Mathlib.Omega.{arith}
-use lib.ListN.{length}
-use borrow.Author.Rules.{rules}
+use Prim.Native.Nat.{◌+◌, ◌-◌, ◌*◌, ◌≤◌}
 use Rattle.facts.specs.Ranges.{every_from}
 use Rattle.grid.specs.Plan.{ratio}
 use Rattle.nesting.specs.Nested.{most_at, nested}
-use Rattle.facts.proofs.Rows.{from_zero}
-use Rattle.nesting.proofs.Rows.{parent_in, children_in, row_more}
 use Rattle.nesting.proofs.row_fits.Given as goal
 
 abbrev pub invariant-loop-column : goal.invariant-loop-column

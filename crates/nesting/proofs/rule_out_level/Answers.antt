@@ -1,14 +1,10 @@
 -- `nesting::rule_out_level` meets its contract. The invariant: the rows so far have ruled out their parents, and where the next begins.
 -- Assumes nothing.
 use mathlib.Core.Path.{◌≡◌, refl, ◌∙◌}
-use Prim.Native.Nat.{◌+◌, ◌-◌, ◌*◌, ◌≤◌}
+use Prim.Native.Nat.{◌+◌, ◌*◌}
 use native.Mathlib.Omega.{arith}
-use borrow.Author.Rules.{rules}
-use lib.ListN.{length}
-use Rattle.facts.specs.Mapped.{mapped}
-use Rattle.grid.specs.Plan.{ratio, columns_at, rows_at, cell_offset}
+use Rattle.grid.specs.Plan.{ratio, rows_at}
 use Rattle.nesting.specs.Table.{RowUnder}
-use Rattle.nesting.specs.Reactivable.{ruled_out}
 use Rattle.nesting.proofs.Rows.{columns_are, row_under, row_in, over_in}
 use Rattle.nesting.proofs.Reactivable.{ruled_none, ruled_rows, ruled_length}
 use Rattle.nesting.proofs.rule_out_level.Goals as goal

@@ -1,13 +1,9 @@
 -- `nesting::rule_out_row` meets its contract. The invariant: the children so far have ruled out their parents, and where the next begin.
 -- Assumes nothing.
 use mathlib.Core.Path.{◌≡◌, refl}
-use Prim.Native.Nat.{◌+◌, ◌-◌, ◌*◌, ◌≤◌, ◌<◌}
+use Prim.Native.Nat.{◌+◌, ◌≤◌, ◌<◌}
 use native.Mathlib.Omega.{arith}
-use borrow.Author.Rules.{rules}
 use lib.ListN.{length}
-use Rattle.facts.specs.Mapped.{mapped}
-use Rattle.grid.specs.Plan.{ratio}
-use Rattle.nesting.specs.Reactivable.{ruled_out}
 use Rattle.nesting.proofs.Rows.{parent_in, children_in, parent_of}
 use Rattle.nesting.proofs.Reactivable.{ruled_none, ruled_next, ruled_length}
 use Rattle.nesting.proofs.rule_out_row.Goals as goal

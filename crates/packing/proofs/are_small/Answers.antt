@@ -1,12 +1,10 @@
 -- `packing::are_small` meets its contract. The invariant: the bytes so far. Assumes nothing.
 use mathlib.Core.Path.{◌≡◌, refl}
-use Prim.Native.Nat.{◌-◌, ◌≤◌}
 use native.Mathlib.Omega.{arith}
 use lib.ListN.{length}
 use Rattle.facts.specs.Bounded.{every}
 use Rattle.planes.specs.Bits.{small_at, are_small}
 use Rattle.facts.proofs.Bounded.{every_next}
-use borrow.Author.Rules.{rules}
 use Rattle.packing.proofs.are_small.Goals as goal
 
 pub loop-i-init : goal.loop-i-init

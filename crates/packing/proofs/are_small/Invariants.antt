@@ -1,12 +1,9 @@
 -- `packing::are_small` meets its contract. The invariant: the bytes so far. Assumes nothing.
-use mathlib.Core.Path.{◌≡◌, refl}
+use mathlib.Core.Path.{◌≡◌}
 use Prim.Native.Nat.{◌-◌, ◌≤◌}
-use native.Mathlib.Omega.{arith}
 use lib.ListN.{length}
 use Rattle.facts.specs.Bounded.{every}
-use Rattle.planes.specs.Bits.{small_at, are_small}
-use Rattle.facts.proofs.Bounded.{every_next}
-use borrow.Author.Rules.{rules}
+use Rattle.planes.specs.Bits.{small_at}
 use Rattle.packing.proofs.are_small.Given as goal
 
 abbrev pub invariant-loop-i : goal.invariant-loop-i

@@ -1,6 +1,5 @@
 -- `packing::bits_at` meets its contract. Assumes nothing.
 use mathlib.Core.Path.{◌∙◌}
-use borrow.Author.Rules.{rules}
 use Rattle.packing.proofs.bits_at.Goals as goal
 
 pub returns : goal.returns

@@ -1,6 +1,5 @@
 -- `packing::cell` meets its contract. Assumes nothing.
 use native.Mathlib.Omega.{arith}
-use borrow.Author.Rules.{rules}
 use Rattle.packing.proofs.cell.Goals as goal
 
 pub returns : goal.returns

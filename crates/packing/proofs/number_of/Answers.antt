@@ -1,7 +1,6 @@
 -- `packing::number_of` meets its contract. Assumes nothing.
 use native.Mathlib.Omega.{arith}
 use Rattle.packing.proofs.Packed.{number_is}
-use borrow.Author.Rules.{rules}
 use Rattle.packing.proofs.number_of.Goals as goal
 
 pub returns : goal.returns

@@ -1,14 +1,10 @@
 -- `packing::pack` meets its contract. The invariant: the words so far. Assumes nothing.
-use mathlib.Core.Path.{◌≡◌, refl, ap, ◌∙◌}
-use Prim.Native.Nat.{ℕ, ◌-◌, ◌*◌, ◌≤◌}
-use native.Mathlib.Omega.{arith}
-use borrow.Author.Rules.{rules}
+use mathlib.Core.Path.{◌≡◌}
+use Prim.Native.Nat.{◌-◌, ◌*◌, ◌≤◌}
 use lib.ListN.{length}
 use Rattle.facts.specs.Mapped.{filled}
-use Rattle.facts.proofs.Mapped.{filled_none, filled_all, fill_length, fill_next}
 use Rattle.mesh.specs.Mesh.{refined as isRefined}
-use Rattle.planes.specs.Bits.{word_from, word_at, plane_of, is_present}
-use Rattle.packing.proofs.Packed.{packs}
+use Rattle.planes.specs.Bits.{word_at, is_present}
 use Rattle.packing.proofs.pack.Given as goal
 
 abbrev pub invariant-loop-w : goal.invariant-loop-w

@@ -1,11 +1,8 @@
 -- `packing::pack_word` meets its contract. The invariant: the bits of the cells passed. Assumes nothing.
-use mathlib.Core.Path.{◌≡◌, refl}
-use Prim.Native.Nat.{◌+◌, ◌-◌, ◌%◌, ◌^◌, ◌≤◌, ◌<◌}
-use native.Mathlib.Omega.{arith}
-use borrow.Author.Rules.{rules}
+use mathlib.Core.Path.{◌≡◌}
+use Prim.Native.Nat.{◌+◌, ◌-◌, ◌%◌, ◌≤◌}
 use Rattle.mesh.specs.Mesh.{refined as isRefined}
 use Rattle.planes.specs.Bits.{word_from, is_present}
-use Rattle.packing.proofs.Loops.{word_room, word_turn, packed_present, packed_refined, packed_small}
 use Rattle.packing.proofs.pack_word.Given as goal
 
 abbrev pub invariant-loop-left : goal.invariant-loop-left

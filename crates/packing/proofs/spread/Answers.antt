@@ -1,5 +1,4 @@
 -- `packing::spread` meets its contract. Assumes nothing.
-use borrow.Author.Rules.{rules}
 use Rattle.packing.proofs.spread.Goals as goal
 
 pub returns : goal.returns

@@ -1,7 +1,6 @@
 -- `packing::spread_cells` meets its contract. Assumes nothing.
 use native.Mathlib.Omega.{arith}
 use Rattle.packing.proofs.Four.{spread_small}
-use borrow.Author.Rules.{rules}
 use Rattle.packing.proofs.spread_cells.Goals as goal
 
 pub overflow_add-result : goal.overflow_add-result

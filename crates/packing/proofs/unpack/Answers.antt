@@ -1,15 +1,13 @@
 -- `packing::unpack` meets its contract. The invariant: the bytes of the words so far. Assumes nothing.
 use mathlib.Core.Path.{◌≡◌, refl, ◌∙◌}
-use Prim.Native.Nat.{◌-◌, ◌*◌, ◌≤◌}
+use Prim.Native.Nat.{◌*◌}
 use native.Mathlib.Omega.{arith}
 use lib.ListN.{length}
-use Rattle.facts.specs.Mapped.{filled}
 use Rattle.facts.proofs.Mapped.{filled_none, filled_all, fill_length, fill_part}
 use Rattle.facts.proofs.Ranges.{mid_len}
-use Rattle.planes.specs.Bits.{byte_of, bytes_of}
+use Rattle.planes.specs.Bits.{bytes_of}
 use Rattle.packing.proofs.Loops.{word_byte_lem}
 use Rattle.packing.proofs.Four.{spreads}
-use borrow.Author.Rules.{rules}
 use Rattle.packing.proofs.unpack.Goals as goal
 
 pub loop-w-init : goal.loop-w-init

@@ -1,15 +1,9 @@
 -- `packing::unpack` meets its contract. The invariant: the bytes of the words so far. Assumes nothing.
-use mathlib.Core.Path.{◌≡◌, refl, ◌∙◌}
+use mathlib.Core.Path.{◌≡◌}
 use Prim.Native.Nat.{◌-◌, ◌*◌, ◌≤◌}
-use native.Mathlib.Omega.{arith}
 use lib.ListN.{length}
 use Rattle.facts.specs.Mapped.{filled}
-use Rattle.facts.proofs.Mapped.{filled_none, filled_all, fill_length, fill_part}
-use Rattle.facts.proofs.Ranges.{mid_len}
-use Rattle.planes.specs.Bits.{byte_of, bytes_of}
-use Rattle.packing.proofs.Loops.{word_byte_lem}
-use Rattle.packing.proofs.Four.{spreads}
-use borrow.Author.Rules.{rules}
+use Rattle.planes.specs.Bits.{byte_of}
 use Rattle.packing.proofs.unpack.Given as goal
 
 abbrev pub invariant-loop-w : goal.invariant-loop-w

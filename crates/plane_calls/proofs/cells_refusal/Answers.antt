@@ -3,7 +3,6 @@ use mathlib.Core.Path.{sym, ◌∙◌}
 use Rattle.grid.specs.Plan.{cell_total}
 use Rattle.planes.specs.Planes.{cells_refusal}
 use Rattle.planes.proofs.Refusals.{more_refused, sized_of, third, none}
-use borrow.Author.Rules.{rules}
 use Rattle.plane_calls.proofs.cells_refusal.Goals as goal
 
 pub returns-then-number-ne0 : goal.returns-then-number-ne0

@@ -8,7 +8,6 @@ use Rattle.planes.specs.Planes.{refused_planes}
 use Rattle.planes.proofs.Refusals.{Held, held_of}
 use Rattle.plane_calls.proofs.Rooms.{held_room}
 use Rattle.plane_calls.proofs.Changes.{planes_early}
-use borrow.Author.Rules.{rules}
 use Rattle.plane_calls.proofs.change.Goals as goal
 use Rattle.plane_calls.proofs.change.Goals.{Else-number-ne0}
 

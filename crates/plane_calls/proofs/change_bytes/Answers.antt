@@ -8,7 +8,6 @@ use lib.Seq.{length-take-le}
 use Rattle.mesh.specs.Mesh.{check}
 use Rattle.outcomes.specs.Calls.{Outcome, outcome}
 use Rattle.calls.specs.Parts.{direction_of, by_of}
-use borrow.Author.Rules.{rules}
 use Rattle.plane_calls.proofs.change_bytes.Goals as goal
 
 pub slice_bounds-change-end-2 : goal.slice_bounds-change-end-2

@@ -11,7 +11,6 @@ use Rattle.planes.proofs.Laws.{length_bytes}
 use Rattle.planes.proofs.Refusals.{held_of}
 use Rattle.plane_calls.proofs.Rooms.{held_cells, cells_are}
 use Rattle.plane_calls.proofs.Changes.{packable, accepted_left, refused_left}
-use borrow.Author.Rules.{rules}
 use Rattle.plane_calls.proofs.change_in.Goals as goal
 
 pub change_bytes-answer-requires : goal.change_bytes-answer-requires

@@ -5,7 +5,6 @@ use Rattle.facts.proofs.Zeros.{zeros, part_length}
 use Rattle.planes.proofs.Refusals.{Held, held_of}
 use Rattle.planes.proofs.Refusals.{check_early, check_held}
 use Rattle.plane_calls.proofs.Rooms.{held_room}
-use borrow.Author.Rules.{rules}
 use Rattle.plane_calls.proofs.check.Goals as goal
 use Rattle.plane_calls.proofs.check.Goals.{Else-number-ne0}
 

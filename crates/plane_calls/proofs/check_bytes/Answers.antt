@@ -8,7 +8,6 @@ use lib.Seq.{length-take-le}
 use Rattle.mesh.specs.Mesh.{check}
 use Rattle.planes.proofs.Refusals.{Held, held_of}
 use Rattle.plane_calls.proofs.Rooms.{same_words, held_within, held_cells, cells_are}
-use borrow.Author.Rules.{rules}
 use Rattle.plane_calls.proofs.check_bytes.Goals as goal
 use Rattle.plane_calls.proofs.check_bytes.Goals.{After-cell_total-total, After-shared_slice_known-1}
 

@@ -5,7 +5,6 @@ use Rattle.tables.proofs.Calls.{short_functions}
 use Rattle.planes.proofs.Refusals.{Held, held_of, check_of}
 use Rattle.plane_calls.proofs.Rooms.{same_words, held_room}
 use Rattle.plane_calls.proofs.Counted.{counted_planes, uncounted_planes}
-use borrow.Author.Rules.{rules}
 use Rattle.plane_calls.proofs.count.Goals as goal
 use Rattle.plane_calls.proofs.count.Goals.{Then-number-eq0}
 

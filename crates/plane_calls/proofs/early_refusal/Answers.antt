@@ -2,7 +2,6 @@
 use mathlib.Core.Path.{sym, ap, ◌∙◌}
 use Rattle.planes.specs.Planes.{refusal3, refusal4, order_refusal}
 use Rattle.planes.proofs.Refusals.{less_length}
-use borrow.Author.Rules.{rules}
 use Rattle.plane_calls.proofs.early_refusal.Goals as goal
 
 pub order_refusal-requires : goal.order_refusal-requires

@@ -8,7 +8,6 @@ use Rattle.planes.specs.Planes.{cells_refusal}
 use Rattle.plane_calls.proofs.Copies.{both_words, both_room, cells_fit, pack_early, pack_4, pack_made}
 use Rattle.facts.proofs.Tests.{true_T}
 use Rattle.plane_calls.proofs.Rooms.{small_of}
-use borrow.Author.Rules.{rules}
 use Rattle.plane_calls.proofs.from_cells.Goals as goal
 use Rattle.plane_calls.proofs.from_cells.Goals.{Else-number-ne0}
 

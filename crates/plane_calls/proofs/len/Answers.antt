@@ -1,6 +1,5 @@
 -- `plane_calls::len` meets its contract. Assumes nothing.
 use mathlib.Core.Path.{◌≡◌, sym, ◌∙◌}
-use borrow.Author.Rules.{rules}
 use borrow.Author.Tests.{eq-eqb, ne_eqb}
 use Rattle.grid.specs.Plan.{plan_refusal}
 use Rattle.grid.proofs.Laws.{taken_range}

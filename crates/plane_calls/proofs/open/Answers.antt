@@ -2,7 +2,6 @@
 use mathlib.Core.Path.{◌≡◌, sym, ◌∙◌}
 use Rattle.planes.specs.Planes.{refusal3}
 use Rattle.plane_calls.proofs.Opened.{unopened_planes, sizes, few_present, few_refined, labels_fit, opened_planes}
-use borrow.Author.Rules.{rules}
 use Rattle.plane_calls.proofs.open.Goals as goal
 use Rattle.plane_calls.proofs.open.Goals.{Then-number-eq0}
 

@@ -3,7 +3,6 @@ use mathlib.Core.Path.{sym, ap, ◌∙◌}
 use Prim.Native.Nat.{ℕ}
 use Rattle.planes.specs.Bits.{words_for, in_order}
 use Rattle.planes.proofs.Refusals.{Sized, sized_of, order_before, order_right, order_wrong}
-use borrow.Author.Rules.{rules}
 use Rattle.plane_calls.proofs.order_refusal.Goals as goal
 use Rattle.plane_calls.proofs.order_refusal.Goals.{Else-number-ne0}
 

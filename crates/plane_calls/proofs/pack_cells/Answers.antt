@@ -7,7 +7,6 @@ use lib.Seq.{length-take-le}
 use Rattle.mesh.specs.Mesh.{refined as isRefined}
 use Rattle.planes.specs.Bits.{plane_of, is_present}
 use Rattle.plane_calls.proofs.Rooms.{whole_length, whole_small, whole_present, whole_refined}
-use borrow.Author.Rules.{rules}
 use Rattle.plane_calls.proofs.pack_cells.Goals as goal
 
 pub slice_bounds-copy_bytes-end-2 : goal.slice_bounds-copy_bytes-end-2

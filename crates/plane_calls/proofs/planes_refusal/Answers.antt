@@ -1,6 +1,5 @@
 -- `plane_calls::planes_refusal` meets its contract. Each way by the tests that led there. Assumes nothing.
 use mathlib.Core.Path.{◌≡◌, sym, ◌∙◌}
-use borrow.Author.Rules.{rules}
 use Rattle.grid.specs.Plan.{plan_refusal}
 use Rattle.grid.proofs.Laws.{taken_range}
 use Rattle.planes.proofs.Refusals.{size_plan, size_3, size_0, not_present, not_refined, both_sized}

@@ -3,7 +3,6 @@ use mathlib.Core.Path.{sym, ◌∙◌}
 use Rattle.grid.specs.Plan.{function_total}
 use Rattle.planes.specs.Planes.{refusal3}
 use Rattle.planes.proofs.Refusals.{more_refused, sized_of, third, none}
-use borrow.Author.Rules.{rules}
 use Rattle.plane_calls.proofs.refusal.Goals as goal
 
 pub returns-then-number-ne0 : goal.returns-then-number-ne0

@@ -5,7 +5,6 @@ use Rattle.facts.proofs.Zeros.{zeros, part_length}
 use Rattle.planes.specs.Planes.{cells_refusal}
 use Rattle.planes.proofs.Refusals.{less_length}
 use Rattle.plane_calls.proofs.Copies.{both_words, both_room, cells_fit, unpack_early, sizes_0, within_0, unpack_made}
-use borrow.Author.Rules.{rules}
 use Rattle.plane_calls.proofs.to_cells.Goals as goal
 use Rattle.plane_calls.proofs.to_cells.Goals.{Else-number-ne0}
 

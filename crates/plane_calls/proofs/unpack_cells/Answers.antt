@@ -5,7 +5,6 @@ use native.Mathlib.Omega.{arith}
 use lib.ListN.{length, take}
 use lib.Seq.{length-take-le}
 use Rattle.plane_calls.proofs.Rooms.{take_bytes}
-use borrow.Author.Rules.{rules}
 use Rattle.plane_calls.proofs.unpack_cells.Goals as goal
 use Rattle.plane_calls.proofs.unpack_cells.Goals.{After-unpack}
 

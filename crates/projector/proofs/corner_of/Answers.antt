@@ -3,7 +3,6 @@
 use Prim.Native.Nat.{◌≤◌}
 use native.Mathlib.Omega.{arith}
 use Rattle.projector.proofs.Places.{OnLines, on_lines, on_mesh_lem, corner_is}
-use borrow.Author.Rules.{rules}
 use Rattle.projector.proofs.corner_of.Goals as goal
 use Rattle.projector.proofs.corner_of.Goals.{After-line_at-up, After-shared_slice_known-1}
 

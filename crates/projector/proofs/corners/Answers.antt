@@ -4,7 +4,6 @@ use native.Mathlib.Omega.{arith}
 use Rattle.heights.specs.Heights.{heights_refusal}
 use Rattle.projector.specs.Projector.{mesh_refusal}
 use Rattle.projector.proofs.Refusals.{passed, ready, refused_mesh, refused_heights, accepted}
-use borrow.Author.Rules.{rules}
 use Rattle.projector.proofs.corners.Goals as goal
 use Rattle.projector.proofs.corners.Goals.{Else-early-ne0, Else-number-ne0}
 

@@ -7,7 +7,6 @@ use Rattle.grid.specs.Plan.{cell_total}
 use Rattle.mesh.specs.Mesh.{active, tally}
 use Rattle.projector.specs.Projector.{corners, words_of}
 use Rattle.projector.proofs.Words.{corners_length, words_count, counted, tally_small, too_short, all_written}
-use borrow.Author.Rules.{rules}
 use Rattle.projector.proofs.fill.Goals as goal
 use Rattle.projector.proofs.fill.Goals.{After-tally-count, Else-out-count}
 

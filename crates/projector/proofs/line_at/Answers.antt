@@ -1,6 +1,5 @@
 -- `line_at` meets its contract. Assumes nothing.
 use Rattle.projector.specs.Projector.{line_at}
-use borrow.Author.Rules.{rules}
 use Rattle.projector.proofs.line_at.Goals as goal
 
 pub returns : goal.returns

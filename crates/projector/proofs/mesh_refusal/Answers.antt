@@ -4,7 +4,6 @@ use mathlib.Core.Logic.{◌≢◌}
 use native.Mathlib.Omega.{arith}
 use Rattle.mesh.specs.Mesh.{refusal3}
 use Rattle.projector.proofs.Refusals.{refuse_1, refuse_2, ranged, refuse_16, refuse_later}
-use borrow.Author.Rules.{rules}
 use Rattle.projector.proofs.mesh_refusal.Goals as goal
 use Rattle.projector.proofs.mesh_refusal.Goals.{Else-early-eq2}
 

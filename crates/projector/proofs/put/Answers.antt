@@ -4,7 +4,6 @@ use native.Mathlib.Omega.{arith}
 use lib.Ieee.{binary64, to_bits}
 use lib.ListN.{length-set}
 use Rattle.facts.proofs.Writing.{writes, three_stores}
-use borrow.Author.Rules.{rules}
 use Rattle.projector.proofs.put.Goals as goal
 
 pub bounds-out-at-2 : goal.bounds-out-at-2

@@ -1,14 +1,12 @@
 -- `put_all` meets its contract: cell by cell. Assumes nothing.
 use mathlib.Core.Path.{◌≡◌}
-use Prim.Native.Nat.{◌+◌, ◌-◌, ◌≤◌, ◌<◌}
+use Prim.Native.Nat.{◌+◌, ◌≤◌, ◌<◌}
 use native.Mathlib.Omega.{arith}
 use lib.ListN.{length}
 use Rattle.grid.specs.Plan.{cell_total}
-use Rattle.facts.specs.Writing.{Writes}
 use Rattle.facts.proofs.Writing.{writes_none}
 use Rattle.grid.proofs.Laws.{cell_inside}
-use Rattle.projector.proofs.Words.{words_below, words_none, words_no, words_all, kept, room, turn}
-use borrow.Author.Rules.{rules}
+use Rattle.projector.proofs.Words.{words_none, words_no, words_all, kept, room, turn}
 use Rattle.projector.proofs.put_all.Goals as goal
 use Rattle.projector.proofs.put_all.Goals.{then-cells-c-eq1, else-cells-c-eq1}
 

@@ -1,15 +1,8 @@
 -- `put_all` meets its contract: cell by cell. Assumes nothing.
-use mathlib.Core.Path.{◌≡◌}
-use mathlib.Core.Logic.{⊎_elim}
-use Prim.Native.Nat.{◌+◌, ◌-◌, ◌≤◌, ◌<◌}
-use native.Mathlib.Omega.{arith}
+use Prim.Native.Nat.{◌-◌, ◌≤◌}
 use lib.ListN.{length}
-use Rattle.grid.specs.Plan.{cell_total}
 use Rattle.facts.specs.Writing.{Writes}
-use Rattle.facts.proofs.Writing.{writes_none}
-use Rattle.grid.proofs.Laws.{cell_inside}
-use Rattle.projector.proofs.Words.{words_below, words_none, words_no, words_all, kept, room, turn}
-use borrow.Author.Rules.{rules}
+use Rattle.projector.proofs.Words.{words_below}
 use Rattle.projector.proofs.put_all.Given as goal
 
 abbrev pub invariant-loop-c : goal.invariant-loop-c

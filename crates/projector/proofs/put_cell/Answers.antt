@@ -3,7 +3,6 @@ use native.Mathlib.Omega.{arith}
 use lib.Dec.{lit≤}
 use Rattle.projector.proofs.Places.{numbers}
 use Rattle.projector.proofs.Words.{four_written}
-use borrow.Author.Rules.{rules}
 use Rattle.projector.proofs.put_cell.Goals as goal
 
 pub put-at2-requires : goal.put-at2-requires

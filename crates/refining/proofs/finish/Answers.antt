@@ -1,11 +1,9 @@
 -- `finish` meets its contract: the new heights are judged beside the lent ones, and then all is written. Assumes nothing.
-use mathlib.Core.Path.{◌≡◌, sym, ap, ◌∙◌}
-use mathlib.Core.Bool.{true, false, not}
+use mathlib.Core.Path.{◌≡◌, sym, ◌∙◌}
+use mathlib.Core.Bool.{true, false}
 use native.Mathlib.Omega.{arith}
-use Rattle.changes.proofs.Changes.{not_not}
 use Rattle.carry.specs.Steps.{most_heights}
 use Rattle.refining.proofs.Finishing.{no_heights, heights_part, in_range_lem, few, old_functions, new_functions, old_heights, none_deactivated, cell_room_lem, function_room_lem, too_high, ends}
-use borrow.Author.Rules.{rules}
 use Rattle.refining.proofs.finish.Goals as goal
 
 pub function_total-count-requires : goal.function_total-count-requires

@@ -8,7 +8,6 @@ use Rattle.mesh.proofs.Bridge.{Passed, check_passed}
 use Rattle.nesting.specs.Table.{MeshTable}
 use Rattle.calls.specs.Parts.{by_of}
 use Rattle.refining.proofs.Making.{made_marks, renewable, new_mesh, made_rooms}
-use borrow.Author.Rules.{rules}
 use Rattle.refining.proofs.make.Goals as goal
 use Rattle.refining.proofs.make.Goals.{After-renew, After-shared_slice_known-1}
 

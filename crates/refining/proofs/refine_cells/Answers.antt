@@ -15,7 +15,6 @@ use Rattle.refining.specs.Refining.{tables_refusal}
 use Rattle.refining.specs.Steps.{Made}
 use Rattle.refining.proofs.Outcomes.{tables_none}
 use Rattle.refining.proofs.Whole.{tables_refused, make_refused, ready, finished_is}
-use borrow.Author.Rules.{rules}
 use Rattle.refining.proofs.refine_cells.Goals as goal
 use Rattle.refining.proofs.refine_cells.Goals.{After-make-number, Else-checked-ne0}
 

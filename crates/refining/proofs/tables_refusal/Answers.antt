@@ -5,7 +5,6 @@ use native.Mathlib.Omega.{arith}
 use Rattle.mesh.specs.Mesh.{check}
 use Rattle.mesh.proofs.Bridge.{check_passed}
 use Rattle.refining.proofs.Outcomes.{tables_check, tables_heights}
-use borrow.Author.Rules.{rules}
 use Rattle.refining.proofs.tables_refusal.Goals as goal
 use Rattle.refining.proofs.tables_refusal.Goals.{Else-first-ne0}
 

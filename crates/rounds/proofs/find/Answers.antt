@@ -4,7 +4,6 @@ use native.Mathlib.Omega.{arith}
 use Rattle.mesh.specs.Mesh.{check}
 use Rattle.mesh.proofs.Bridge.{check_passed}
 use Rattle.rounds.proofs.Whole.{today_refused, wanted_refused, same_size, losing_refused, marks_short, lengths_short, listable, ends}
-use borrow.Author.Rules.{rules}
 use Rattle.rounds.proofs.find.Goals as goal
 use Rattle.rounds.proofs.find.Goals.{Else-today-ne0, Else-wanted-ne0}
 

@@ -1,12 +1,8 @@
 -- `is_losing` meets its contract. The invariant: whether one of the cells passed is lost. Assumes nothing.
 use mathlib.Core.Path.{◌≡◌, sym}
-use Prim.Native.Nat.{◌-◌, ◌≤◌}
 use native.Mathlib.Omega.{arith}
 use lib.ListN.{length}
-use Rattle.facts.specs.Bounded.{some}
-use Rattle.rounds.specs.Steps.{lost_at}
 use Rattle.rounds.proofs.Turns.{some_none, some_more}
-use borrow.Author.Rules.{rules}
 use Rattle.rounds.proofs.is_losing.Goals as goal
 
 pub loop-i-init : goal.loop-i-init

@@ -1,12 +1,9 @@
 -- `is_losing` meets its contract. The invariant: whether one of the cells passed is lost. Assumes nothing.
-use mathlib.Core.Path.{◌≡◌, sym}
+use mathlib.Core.Path.{◌≡◌}
 use Prim.Native.Nat.{◌-◌, ◌≤◌}
-use native.Mathlib.Omega.{arith}
 use lib.ListN.{length}
 use Rattle.facts.specs.Bounded.{some}
 use Rattle.rounds.specs.Steps.{lost_at}
-use Rattle.rounds.proofs.Turns.{some_none, some_more}
-use borrow.Author.Rules.{rules}
 use Rattle.rounds.proofs.is_losing.Given as goal
 
 abbrev pub invariant-loop-i : goal.invariant-loop-i

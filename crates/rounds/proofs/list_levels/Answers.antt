@@ -8,9 +8,8 @@ use Rattle.grid.specs.Plan.{columns_at, rows_at}
 use Rattle.grid.proofs.Levels.{offset_mono}
 use Rattle.outcomes.specs.Calls.{changed, written}
 use Rattle.changes.proofs.Changes.{changed_short}
-use Rattle.rounds.specs.Steps.{missing_on, ListedLevels}
+use Rattle.rounds.specs.Steps.{missing_on}
 use Rattle.rounds.proofs.Turns.{start, block, list_room, listed_to, few, one_level, next}
-use borrow.Author.Rules.{rules}
 use Rattle.rounds.proofs.list_levels.Goals as goal
 use Rattle.rounds.proofs.list_levels.Goals.{After-list_changed_between-end}
 

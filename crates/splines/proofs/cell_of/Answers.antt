@@ -1,7 +1,6 @@
 -- `cell_of` meets its contract. Assumes nothing.
 use native.Mathlib.Omega.{arith}
 use Rattle.splines.specs.Values.{cell_of}
-use borrow.Author.Rules.{rules}
 use Rattle.splines.proofs.cell_of.Goals as goal
 
 pub returns-then-cell-cells : goal.returns-then-cell-cells

@@ -3,7 +3,6 @@ use Prim.Native.Nat.{◌+◌, ◌*◌, ◌≤◌}
 use native.Mathlib.Nat.{le_refl}
 use native.Mathlib.Omega.{arith}
 use Rattle.splines.proofs.Located.{small, inside, starts, before_le, rest, located}
-use borrow.Author.Rules.{rules}
 use Rattle.splines.proofs.locate.Goals as goal
 
 pub overflow_mul-before : goal.overflow_mul-before

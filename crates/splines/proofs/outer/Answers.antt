@@ -3,7 +3,6 @@ use native.Mathlib.Omega.{arith}
 use borrow.Author.Tests.{eq-eqb, ne_eqb}
 use Rattle.splines.specs.Local.{outer}
 use Rattle.splines.proofs.Located.{small, square}
-use borrow.Author.Rules.{rules}
 use Rattle.splines.proofs.outer.Goals as goal
 
 pub overflow_mul-result-then-degree-eq1 : goal.overflow_mul-result-then-degree-eq1

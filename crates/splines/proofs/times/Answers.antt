@@ -3,7 +3,6 @@ use mathlib.Core.Path.{sym, ap, ◌∙◌}
 use mathlib.Core.Bool.{Bool, cond}
 use Prim.Native.Nat.{◌+◌}
 use Rattle.grid.specs.Knots.{is_corner, times}
-use borrow.Author.Rules.{rules}
 use Rattle.splines.proofs.times.Goals as goal
 
 pub returns-then-j-side : goal.returns-then-j-side

@@ -1,6 +1,5 @@
 -- `tables::check` meets its contract. Refusals 1 to 3, then 4 to 6. Assumes nothing.
 use mathlib.Core.Path.{sym, ◌∙◌}
-use borrow.Author.Rules.{rules}
 use Rattle.mesh.proofs.Bridge.{passed}
 use Rattle.tables.proofs.Calls.{check_later, check_first}
 use Rattle.tables.proofs.check.Goals as goal

@@ -1,6 +1,5 @@
 -- `tables::count` meets its contract. The tables passed check, so the counts are small and the area is that of any mesh. Assumes nothing.
 use mathlib.Core.Path.{sym, ◌∙◌}
-use borrow.Author.Rules.{rules}
 use Rattle.mesh.proofs.Bridge.{check_good}
 use Rattle.tables.proofs.Calls.{short_cells, short_functions, counted, uncounted}
 use Rattle.tables.proofs.count.Goals as goal

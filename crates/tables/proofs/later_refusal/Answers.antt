@@ -1,6 +1,5 @@
 -- `tables::later_refusal` meets its contract. Each way by the tests that led there. Assumes nothing.
 use mathlib.Core.Path.{sym, ◌∙◌}
-use borrow.Author.Rules.{rules}
 use Rattle.tables.proofs.Calls.{refuse_4, refuse_5, refuse_6, refuse_none}
 use Rattle.tables.proofs.later_refusal.Goals as goal
 

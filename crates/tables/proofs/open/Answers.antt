@@ -1,6 +1,5 @@
 -- `tables::open` meets its contract. Nothing is written before the refusals are decided. Assumes nothing.
 use mathlib.Core.Path.{sym, ◌∙◌}
-use borrow.Author.Rules.{rules}
 use Rattle.mesh.proofs.Bridge.{passed}
 use Rattle.tables.proofs.Calls.{first_cells, first_functions, opened, unopened}
 use Rattle.tables.proofs.open.Goals as goal

@@ -1,6 +1,5 @@
 -- `tables::refusal` meets its contract. Each way by the tests that led there. Assumes nothing.
 use mathlib.Core.Path.{◌≡◌, sym, ◌∙◌}
-use borrow.Author.Rules.{rules}
 use Rattle.grid.specs.Plan.{plan_refusal}
 use Rattle.grid.proofs.Laws.{taken_range}
 use Rattle.tables.proofs.Calls.{refuse_plan, refuse_3, refuse_3', refuse_0}

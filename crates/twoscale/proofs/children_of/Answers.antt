@@ -7,7 +7,6 @@ use Rattle.grid.specs.Knots.{knot_on}
 use Rattle.grid.proofs.Sides.{functions_small}
 use Rattle.twoscale.specs.Passing.{children_of}
 use Rattle.twoscale.proofs.Steps.{Spread, spread}
-use borrow.Author.Rules.{rules}
 use Rattle.twoscale.proofs.children_of.Goals as goal
 use Rattle.twoscale.proofs.children_of.Goals.{After-knot-first, After-knot-last, After-knot-last_but_one, After-knot-second}
 

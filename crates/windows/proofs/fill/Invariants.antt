@@ -1,10 +1,8 @@
 -- `windows::fill` meets its contract. Assumes nothing.
-use mathlib.Core.Path.{◌≡◌, refl}
+use mathlib.Core.Path.{◌≡◌}
 use Prim.Native.Nat.{◌-◌, ◌≤◌}
-use native.Mathlib.Omega.{arith}
 use lib.ListN.{length}
 use Rattle.facts.specs.Mapped.{filled}
-use Rattle.facts.proofs.Mapped.{filled_none, fill_length, fill_next}
 use Rattle.windows.specs.Windows.{always}
 use Rattle.windows.proofs.fill.Given as goal
 

@@ -1,6 +1,5 @@
 -- `windows::has_near` meets its contract. Assumes nothing.
 use mathlib.Core.Path.{refl}
-use borrow.Author.Rules.{rules}
 use Rattle.windows.specs.Near.{has_near}
 use Rattle.windows.proofs.has_near.Goals as goal
 

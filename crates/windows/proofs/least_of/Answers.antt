@@ -1,9 +1,6 @@
 -- `windows::least_of` meets its contract. Assumes nothing.
 use mathlib.Core.Path.{◌≡◌, refl}
-use Prim.Native.Nat.{◌-◌, ◌≤◌}
 use native.Mathlib.Omega.{arith}
-use lib.ListN.{length}
-use Rattle.facts.specs.Mapped.{filled}
 use Rattle.facts.proofs.Mapped.{filled_none, fill_length, fill_next}
 use Rattle.windows.specs.Windows.{least_of}
 use Rattle.windows.proofs.least_of.Goals as goal

@@ -1,10 +1,8 @@
 -- `windows::lower` meets its contract. The invariant: the entries so far are lowered. Assumes nothing.
-use mathlib.Core.Path.{◌≡◌, refl, ap, ◌∙◌}
+use mathlib.Core.Path.{◌≡◌}
 use Prim.Native.Nat.{◌-◌, ◌≤◌}
-use native.Mathlib.Omega.{arith}
 use lib.ListN.{length}
 use Rattle.windows.specs.Windows.{lowered}
-use Rattle.windows.proofs.Lowered.{lowered_none, lowered_next, lowered_length}
 use Rattle.windows.proofs.lower.Given as goal
 
 abbrev pub invariant-loop-i : goal.invariant-loop-i

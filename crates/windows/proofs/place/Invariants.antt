@@ -1,19 +1,11 @@
 -- `windows::place` meets its contract. The invariant: the rows so far are at their places, and where the next begins. Assumes nothing.
-use mathlib.Core.Path.{◌≡◌, refl, sym, ap, ◌∙◌}
+use mathlib.Core.Path.{◌≡◌}
 use mathlib.Core.List.{List}
-use Prim.Native.Nat.{ℕ, ◌+◌, ◌-◌, ◌*◌, ◌≤◌, ◌<◌}
-use native.Mathlib.Nat.{mul-le-mul_right}
-use native.Mathlib.Numerals.{add-one}
-use native.Mathlib.Omega.{arith}
-use borrow.Author.Rules.{rules}
-use borrow.Rule.Slice.PartMut.{put_mid}
-use lib.ListN.{length, get_or}
+use Prim.Native.Nat.{ℕ, ◌+◌, ◌-◌, ◌*◌, ◌≤◌}
+use lib.ListN.{length}
 use Rattle.facts.specs.Mapped.{filled}
-use Rattle.facts.proofs.Mapped.{run_in, part_at, mapped_at, filled_length, filled_same}
-use Rattle.facts.proofs.Ranges.{mid_len}
-use Rattle.grid.specs.Side.{first_over, firsts}
-use Rattle.grid.proofs.Sides.{first_lt}
-use Rattle.windows.proofs.Placed.{table_to, row_part, table_start, table_all, table_fresh, table_next}
+use Rattle.grid.specs.Side.{firsts}
+use Rattle.windows.proofs.Placed.{table_to}
 use Rattle.windows.proofs.place.Given as goal
 
 abbrev pub invariant-loop-row : goal.invariant-loop-row

@@ -2,14 +2,12 @@
 use mathlib.Core.Path.{◌≡◌, refl, ap, ◌∙◌}
 use Prim.Native.Nat.{◌+◌, ◌-◌, ◌≤◌, ◌<◌}
 use native.Mathlib.Omega.{arith}
-use borrow.Author.Rules.{rules}
 use lib.ListN.{length}
 use borrow.Rule.Slice.PartMut.{put_mid}
-use Rattle.facts.specs.Mapped.{filled}
 use Rattle.facts.proofs.Mapped.{filled_length, filled_same}
 use Rattle.facts.proofs.Ranges.{mid_len}
 use Rattle.grid.specs.Side.{firsts}
-use Rattle.windows.proofs.Placed.{row_to, row_all, row_none, row_next, run_ends}
+use Rattle.windows.proofs.Placed.{row_all, row_none, row_next, run_ends}
 use Rattle.windows.proofs.place_row.Goals as goal
 use Rattle.windows.proofs.place_row.Goals.{After-first_over-at}
 

@@ -1,15 +1,10 @@
 -- `windows::place_row` meets its contract. The invariant: the columns so far are at their places. Assumes nothing.
-use mathlib.Core.Path.{◌≡◌, refl, ap, ◌∙◌}
-use Prim.Native.Nat.{◌+◌, ◌-◌, ◌≤◌, ◌<◌}
-use native.Mathlib.Omega.{arith}
-use borrow.Author.Rules.{rules}
+use mathlib.Core.Path.{◌≡◌}
+use Prim.Native.Nat.{◌-◌, ◌≤◌}
 use lib.ListN.{length}
-use borrow.Rule.Slice.PartMut.{put_mid}
 use Rattle.facts.specs.Mapped.{filled}
-use Rattle.facts.proofs.Mapped.{filled_length, filled_same}
-use Rattle.facts.proofs.Ranges.{mid_len}
 use Rattle.grid.specs.Side.{firsts}
-use Rattle.windows.proofs.Placed.{row_to, row_all, row_none, row_next, run_ends}
+use Rattle.windows.proofs.Placed.{row_to}
 use Rattle.windows.proofs.place_row.Given as goal
 
 abbrev pub invariant-loop-x : goal.invariant-loop-x

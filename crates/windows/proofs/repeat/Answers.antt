@@ -1,10 +1,8 @@
 -- `windows::repeat` meets its contract. Assumes nothing.
 use mathlib.Core.Path.{◌≡◌, refl, ap}
-use Prim.Native.Nat.{ℕ, ◌-◌, ◌≤◌}
+use Prim.Native.Nat.{ℕ}
 use native.Mathlib.Omega.{arith}
-use borrow.Author.Rules.{rules}
-use lib.ListN.{length, get_or}
-use Rattle.facts.specs.Mapped.{filled}
+use lib.ListN.{get_or}
 use Rattle.facts.proofs.Mapped.{filled_none, fill_length, fill_next}
 use Rattle.windows.specs.Near.{repeated}
 use Rattle.windows.proofs.repeat.Goals as goal

@@ -1,17 +1,10 @@
 -- `windows::slide` meets its contract. The invariant: the shifts so far. Assumes nothing.
-use mathlib.Core.Path.{◌≡◌, refl, sym, ap, ◌∙◌}
+use mathlib.Core.Path.{◌≡◌}
 use mathlib.Core.List.{List}
 use Prim.Native.Nat.{ℕ, ◌+◌, ◌-◌, ◌*◌, ◌≤◌}
-use native.Mathlib.Nat.{mul-le-mul_right}
-use native.Mathlib.Omega.{arith}
-use borrow.Author.Rules.{rules}
 use lib.ListN.{length}
 use Rattle.facts.specs.Mapped.{filled}
-use Rattle.facts.proofs.Mapped.{filled_length}
-use borrow.Rule.Slice.PartMut.{put_mid}
-use Rattle.facts.proofs.Ranges.{mid_len}
 use Rattle.windows.specs.Windows.{slid}
-use Rattle.windows.proofs.Lowered.{slid_next}
 use Rattle.windows.proofs.slide.Given as goal
 
 abbrev pub invariant-loop-d : goal.invariant-loop-d

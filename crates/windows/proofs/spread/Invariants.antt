@@ -1,15 +1,9 @@
 -- `windows::spread` meets its contract. The invariant: the rows so far, and where the next begins. Assumes nothing.
-use mathlib.Core.Path.{◌≡◌, refl, ap, ◌∙◌}
+use mathlib.Core.Path.{◌≡◌}
 use Prim.Native.Nat.{◌+◌, ◌-◌, ◌*◌, ◌≤◌}
-use native.Mathlib.Nat.{mul-le-mul_right}
-use native.Mathlib.Omega.{arith}
-use borrow.Author.Rules.{rules}
 use lib.ListN.{length}
 use Rattle.facts.specs.Mapped.{filled}
-use Rattle.facts.proofs.Mapped.{filled_none, fill_length, fill_part}
-use Rattle.facts.proofs.Ranges.{mid_len}
 use Rattle.windows.specs.Windows.{in_rows, row_slid}
-use Rattle.windows.proofs.Slides.{row_slid_lem}
 use Rattle.windows.proofs.spread.Given as goal
 
 abbrev pub invariant-loop-row : goal.invariant-loop-row

@@ -1,13 +1,9 @@
 -- `words::count_active` meets its contract. The invariant: the ones so far. Assumes nothing.
-use mathlib.Core.Path.{◌≡◌, refl}
+use mathlib.Core.Path.{◌≡◌}
 use Prim.Native.Nat.{◌-◌, ◌*◌, ◌≤◌}
-use native.Mathlib.Omega.{arith}
 use lib.ListN.{length}
 use Rattle.facts.specs.Bounded.{sum}
-use Rattle.facts.proofs.Ranges.{sum_more}
 use Rattle.planes.specs.Bits.{active_ones}
-use Rattle.words.proofs.Loops.{active_few}
-use borrow.Author.Rules.{rules}
 use Rattle.words.proofs.count_active.Given as goal
 
 abbrev pub invariant-loop-w : goal.invariant-loop-w

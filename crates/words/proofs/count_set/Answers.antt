@@ -1,13 +1,12 @@
 -- `words::count_set` meets its contract. The invariant: the ones so far. Assumes nothing.
 use mathlib.Core.Path.{◌≡◌, refl}
-use Prim.Native.Nat.{◌-◌, ◌*◌, ◌≤◌}
+use Prim.Native.Nat.{◌≤◌}
 use native.Mathlib.Omega.{arith}
 use lib.ListN.{length}
 use Rattle.facts.specs.Bounded.{sum}
 use Rattle.facts.proofs.Ranges.{sum_more}
 use Rattle.planes.specs.Bits.{ones_at}
 use Rattle.words.proofs.Loops.{ones_few}
-use borrow.Author.Rules.{rules}
 use Rattle.words.proofs.count_set.Goals as goal
 use Rattle.words.proofs.count_set.Goals.{After-shared_slice_known-1}
 

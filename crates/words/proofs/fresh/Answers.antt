@@ -1,13 +1,11 @@
 -- `words::fresh` meets its contract. The invariant: the words so far. Assumes nothing.
 use mathlib.Core.Path.{◌≡◌, refl, ap, ◌∙◌}
-use Prim.Native.Nat.{ℕ, ◌-◌, ◌*◌, ◌≤◌}
+use Prim.Native.Nat.{ℕ}
 use native.Mathlib.Omega.{arith}
 use lib.ListN.{length}
-use Rattle.facts.specs.Mapped.{filled}
 use Rattle.facts.proofs.Mapped.{filled_none, filled_all, fill_length, fill_next}
 use Rattle.planes.specs.Bits.{word_from, word_at, plane_of}
 use Rattle.words.specs.Words.{below}
-use borrow.Author.Rules.{rules}
 use Rattle.words.proofs.fresh.Goals as goal
 
 pub loop-w-init : goal.loop-w-init

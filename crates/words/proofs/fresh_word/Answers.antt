@@ -1,6 +1,5 @@
 -- `words::fresh_word` meets its contract. Assumes nothing.
 use Rattle.words.proofs.First.{shift_some, word_none, word_full, word_part}
-use borrow.Author.Rules.{rules}
 use Rattle.words.proofs.fresh_word.Goals as goal
 
 pub returns-then-first-at : goal.returns-then-first-at

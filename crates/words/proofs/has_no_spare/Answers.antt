@@ -1,6 +1,5 @@
 -- `words::has_no_spare` meets its contract: where a word is not full, the rest of it is 0. Assumes nothing.
 use native.Mathlib.Omega.{arith}
-use borrow.Author.Rules.{rules}
 use Rattle.planes.specs.Bits.{words_for}
 use Rattle.words.proofs.Order.{spare_none, spare_last}
 use Rattle.words.proofs.has_no_spare.Goals as goal

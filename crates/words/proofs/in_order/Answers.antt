@@ -1,7 +1,6 @@
 -- `words::in_order` meets its contract. Assumes nothing.
 use mathlib.Core.Path.{◌∙◌, ap₂}
 use mathlib.Core.Bool.{Bool, ◌&&◌}
-use borrow.Author.Rules.{rules}
 use Rattle.words.proofs.Order.{order_words}
 use Rattle.words.proofs.in_order.Goals as goal
 

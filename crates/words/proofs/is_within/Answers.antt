@@ -1,12 +1,10 @@
 -- `words::is_within` meets its contract. The invariant: the words so far. Assumes nothing.
 use mathlib.Core.Path.{◌≡◌, refl}
-use Prim.Native.Nat.{◌-◌, ◌≤◌}
 use native.Mathlib.Omega.{arith}
 use lib.ListN.{length}
 use Rattle.facts.specs.Bounded.{every}
 use Rattle.words.specs.Words.{word_within}
 use Rattle.facts.proofs.Bounded.{every_next}
-use borrow.Author.Rules.{rules}
 use Rattle.words.proofs.is_within.Goals as goal
 
 pub loop-w-init : goal.loop-w-init

@@ -1,5 +1,4 @@
 -- `Plan::across_at` meets its contract. Assumes nothing.
-use borrow.Author.Rules.{rules}
 use Rattle.grid.proofs.Sides.{side_same}
 use Rattle.grid.proofs.Plan.across_at.Goals as goal
 

@@ -1,6 +1,5 @@
 -- `Plan::ancestor_of` meets its contract. Assumes nothing.
 use Rattle.grid.specs.Spans.{ancestor_of}
-use borrow.Author.Rules.{rules}
 use Rattle.grid.proofs.Plan.ancestor_of.Goals as goal
 
 pub returns : goal.returns

@@ -1,7 +1,6 @@
 -- `Plan::area` meets its contract: the product fits. Assumes nothing.
 use native.Mathlib.Omega.{arith}
 use Rattle.grid.proofs.Small.{area_small}
-use borrow.Author.Rules.{rules}
 use Rattle.grid.proofs.Plan.area.Goals as goal
 
 pub overflow_mul-result : goal.overflow_mul-result

@@ -1,7 +1,5 @@
 -- `Plan::around` meets its contract. Assumes nothing.
 use mathlib.Core.Path.{refl}
-use Prim.Native.Nat.{◌-◌, ◌<◌}
-use borrow.Author.Rules.{rules}
 use Rattle.grid.proofs.Sides.{across_in, up_in}
 use Rattle.grid.specs.Spans.{around}
 use Rattle.grid.proofs.Plan.around.Goals as goal

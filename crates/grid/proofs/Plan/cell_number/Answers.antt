@@ -2,7 +2,6 @@
 use mathlib.Core.Path.{◌∙◌}
 use Rattle.grid.specs.Numbering.{number}
 use Rattle.grid.proofs.Small.{as_cells}
-use borrow.Author.Rules.{rules}
 use Rattle.grid.proofs.Plan.cell_number.Goals as goal
 
 pub returns : goal.returns

@@ -1,7 +1,6 @@
 -- `Plan::children` meets its contract. Assumes nothing.
 use Prim.Native.Nat.{◌+◌, ◌*◌, ◌≤◌}
 use native.Mathlib.Omega.{arith}
-use borrow.Author.Rules.{rules}
 use Rattle.grid.specs.Spans.{finer_span, children_of}
 use Rattle.grid.proofs.Small.{finer_small}
 use Rattle.grid.proofs.Plan.children.Goals as goal

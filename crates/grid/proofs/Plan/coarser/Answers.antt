@@ -1,6 +1,5 @@
 -- `Plan::coarser` meets its contract. Assumes nothing.
 use Rattle.grid.proofs.Small.{shifted_down}
-use borrow.Author.Rules.{rules}
 use Rattle.grid.proofs.Plan.coarser.Goals as goal
 
 pub returns : goal.returns

@@ -3,7 +3,6 @@ use mathlib.Core.Path.{ap}
 use Prim.Native.Nat.{◌+◌, ◌-◌}
 use native.Mathlib.Nat.{div-le_self}
 use native.Mathlib.Omega.{arith}
-use borrow.Author.Rules.{rules}
 use Rattle.grid.specs.Plan.{ratio, ancestor}
 use Rattle.grid.specs.Spans.{coarser_span}
 use Rattle.grid.proofs.Spans.{span_same}

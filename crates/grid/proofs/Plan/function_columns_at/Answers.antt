@@ -1,6 +1,5 @@
 -- `Plan::function_columns_at` meets its contract. Assumes nothing.
 use mathlib.Core.Path.{refl}
-use Prim.Native.Nat.{◌-◌, ◌≤◌}
 use native.Mathlib.Omega.{arith}
 use borrow.Author.Rules.{rules}
 use Rattle.grid.proofs.Sides.{functions_beyond}

@@ -1,6 +1,4 @@
 -- `Plan::function_offset` meets its contract. Assumes nothing.
-use Prim.Native.Nat.{◌-◌}
-use borrow.Author.Rules.{rules}
 use Rattle.grid.proofs.Sides.{functions_beyond}
 use Rattle.grid.proofs.Plan.function_offset.Goals as goal
 

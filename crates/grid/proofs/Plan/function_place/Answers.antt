@@ -1,6 +1,4 @@
 -- `Plan::function_place` meets its contract. Assumes nothing.
-use Prim.Native.Nat.{◌-◌}
-use borrow.Author.Rules.{rules}
 use Rattle.grid.proofs.Sides.{functions_beyond}
 use Rattle.grid.proofs.Plan.function_place.Goals as goal
 

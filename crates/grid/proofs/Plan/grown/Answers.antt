@@ -1,6 +1,5 @@
 -- `Plan::grown` meets its contract: the shift loses no bit. Assumes nothing.
 use Rattle.grid.proofs.Small.{shifted}
-use borrow.Author.Rules.{rules}
 use Rattle.grid.proofs.Plan.grown.Goals as goal
 
 pub returns : goal.returns

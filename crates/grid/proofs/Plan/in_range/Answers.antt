@@ -4,7 +4,6 @@ use lib.Dec.{T}
 use Rattle.grid.specs.Plan.{numbers_in_range, in_range}
 use Rattle.facts.proofs.Tests.{T_true}
 use Rattle.grid.proofs.Laws.{few_columns, few_rows}
-use borrow.Author.Rules.{rules}
 use Rattle.grid.proofs.Plan.in_range.Goals as goal
 
 numbers : (c : goal.Then-numbers_in_range) → T (numbers_in_range c.args.self)

@@ -1,6 +1,5 @@
 -- `Plan::neighbourhood` meets its contract. Assumes nothing.
 use mathlib.Core.Path.{refl}
-use borrow.Author.Rules.{rules}
 use Rattle.grid.specs.Spans.{neighbourhood}
 use Rattle.grid.proofs.Spans.{ancestor_in}
 use Rattle.grid.proofs.Rectangles.{ancestor_below}

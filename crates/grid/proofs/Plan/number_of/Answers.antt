@@ -4,7 +4,6 @@ use native.Mathlib.Omega.{arith}
 use Rattle.grid.specs.Plan.{widened, columns_at, rows_at}
 use Rattle.grid.specs.Numbering.{number}
 use Rattle.grid.proofs.Small.{number_small}
-use borrow.Author.Rules.{rules}
 use Rattle.grid.proofs.Plan.number_of.Goals as goal
 
 small : (c : goal.After-offset) → let a = c.args in number (widened (columns_at a.self) a.across) (widened (rows_at a.self) a.up) a.place < 35179273

@@ -1,6 +1,5 @@
 -- `Plan::numbers_in_range` meets its contract: one test for each part of the definition. Assumes nothing.
 use Rattle.grid.specs.Plan.{numbers_in_range}
-use borrow.Author.Rules.{rules}
 use Rattle.grid.proofs.Plan.numbers_in_range.Goals as goal
 
 pub returns : goal.returns

@@ -1,6 +1,6 @@
 -- `Plan::offset` meets its contract. The invariant: the sum is the offset of level k. Assumes nothing.
 use mathlib.Core.Path.{◌≡◌, sym}
-use Prim.Native.Nat.{◌+◌, ◌*◌, ◌-◌, ◌≤◌}
+use Prim.Native.Nat.{◌+◌, ◌*◌, ◌≤◌}
 use native.Mathlib.Omega.{arith}
 use borrow.Author.Rules.{rules}
 use Rattle.grid.specs.Plan.{widened, columns_at, rows_at}

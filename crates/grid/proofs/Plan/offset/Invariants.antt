@@ -1,12 +1,8 @@
 -- `Plan::offset` meets its contract. The invariant: the sum is the offset of level k. Assumes nothing.
-use mathlib.Core.Path.{◌≡◌, sym}
-use Prim.Native.Nat.{◌+◌, ◌*◌, ◌-◌, ◌≤◌}
-use native.Mathlib.Omega.{arith}
-use borrow.Author.Rules.{rules}
+use mathlib.Core.Path.{◌≡◌}
+use Prim.Native.Nat.{◌-◌, ◌≤◌}
 use Rattle.grid.specs.Plan.{widened, columns_at, rows_at}
 use Rattle.grid.specs.Numbering.{offset}
-use Rattle.grid.proofs.Small.{offset_small}
-use Rattle.grid.proofs.Levels.{offset_zero, offset_next}
 use Rattle.grid.proofs.Plan.offset.Given as goal
 
 abbrev pub invariant-loop-k : goal.invariant-loop-k

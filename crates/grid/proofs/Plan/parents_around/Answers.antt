@@ -1,6 +1,5 @@
 -- `Plan::parents_around` meets its contract. Assumes nothing.
 use mathlib.Core.Path.{refl}
-use borrow.Author.Rules.{rules}
 use Rattle.grid.proofs.Rectangles.{around_ends}
 use Rattle.grid.proofs.Plan.parents_around.Goals as goal
 

@@ -1,6 +1,5 @@
 -- `Plan::parents_of` meets its contract. Assumes nothing.
 use native.Mathlib.Numerals.{sub-one}
-use borrow.Author.Rules.{rules}
 use Rattle.grid.specs.Spans.{parents_of}
 use Rattle.grid.proofs.Plan.parents_of.Goals as goal
 

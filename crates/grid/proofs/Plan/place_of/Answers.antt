@@ -1,11 +1,9 @@
 -- `Plan::place_of` meets its contract. The invariant: the level is one of the plan's, and what is left of the number is the number
 -- less the level's offset. Assumes nothing.
-use mathlib.Core.Path.{◌≡◌}
-use Prim.Native.Nat.{◌+◌, ◌*◌, ◌-◌, ◌<◌}
+use Prim.Native.Nat.{◌+◌, ◌<◌}
 use native.Mathlib.Omega.{arith}
 use borrow.Author.Rules.{rules}
 use Rattle.grid.specs.Plan.{widened, columns_at, rows_at}
-use Rattle.grid.specs.Numbering.{offset}
 use Rattle.grid.proofs.Numbering.{place_rest, place_next}
 use Rattle.grid.proofs.Small.{columns_pos}
 use Rattle.grid.proofs.Levels.{offset_zero, offset_next}

@@ -2,13 +2,8 @@
 -- less the level's offset. Assumes nothing.
 use mathlib.Core.Path.{◌≡◌}
 use Prim.Native.Nat.{◌+◌, ◌*◌, ◌-◌, ◌<◌}
-use native.Mathlib.Omega.{arith}
-use borrow.Author.Rules.{rules}
 use Rattle.grid.specs.Plan.{widened, columns_at, rows_at}
 use Rattle.grid.specs.Numbering.{offset}
-use Rattle.grid.proofs.Numbering.{place_rest, place_next}
-use Rattle.grid.proofs.Small.{columns_pos}
-use Rattle.grid.proofs.Levels.{offset_zero, offset_next}
 use Rattle.grid.proofs.Plan.place_of.Given as goal
 
 abbrev pub invariant-loop-area : goal.invariant-loop-area

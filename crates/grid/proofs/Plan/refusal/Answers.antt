@@ -1,7 +1,6 @@
 -- `Plan::refusal` meets its contract. Each way by the tests that led there. Assumes nothing.
 use mathlib.Core.Path.{◌≡◌, sym, ◌∙◌}
 use mathlib.Core.Bool.{true}
-use borrow.Author.Rules.{rules}
 use Rattle.facts.proofs.Tests.{true_T}
 use Rattle.grid.specs.Plan.{in_range}
 use Rattle.grid.proofs.Laws.{in_range_lem, refused_0, refused_1, refused_2}

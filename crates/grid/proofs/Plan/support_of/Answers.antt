@@ -1,7 +1,5 @@
 -- `Plan::support_of` meets its contract. Assumes nothing.
 use mathlib.Core.Path.{refl}
-use Prim.Native.Nat.{◌-◌, ◌<◌}
-use borrow.Author.Rules.{rules}
 use Rattle.grid.proofs.Sides.{across_in, up_in, across_functions, up_functions}
 use Rattle.grid.specs.Spans.{support_of}
 use Rattle.grid.proofs.Plan.support_of.Goals as goal

@@ -3,7 +3,6 @@ use mathlib.Core.Path.{ap}
 use lib.Dec.{ltb}
 use Rattle.grid.specs.Plan.{too_large}
 use Rattle.grid.specs.Bounds.{most_cells}
-use borrow.Author.Rules.{rules}
 use Rattle.grid.proofs.Plan.too_large.Goals as goal
 
 pub returns : goal.returns

@@ -1,5 +1,4 @@
 -- `Plan::up_at` meets its contract. Assumes nothing.
-use borrow.Author.Rules.{rules}
 use Rattle.grid.proofs.Sides.{side_same}
 use Rattle.grid.proofs.Plan.up_at.Goals as goal
 

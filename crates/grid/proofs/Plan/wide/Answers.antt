@@ -1,7 +1,6 @@
 -- `Plan::wide` meets its contract. Assumes nothing.
 use native.Mathlib.Omega.{arith}
 use Rattle.grid.proofs.Small.{grown_small}
-use borrow.Author.Rules.{rules}
 use Rattle.grid.proofs.Plan.wide.Goals as goal
 
 pub overflow_add-result : goal.overflow_add-result

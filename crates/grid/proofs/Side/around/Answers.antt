@@ -4,7 +4,6 @@ use native.Mathlib.Omega.{arith}
 use Rattle.grid.specs.Side.{around_span}
 use Rattle.grid.proofs.Sides.{first_small}
 use Rattle.grid.proofs.Spans.{span_same}
-use borrow.Author.Rules.{rules}
 use Rattle.grid.proofs.Side.around.Goals as goal
 
 pub overflow_add-over : goal.overflow_add-over

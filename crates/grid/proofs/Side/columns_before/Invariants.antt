@@ -1,11 +1,7 @@
 -- `Side::columns_before` meets its contract. Assumes nothing.
-use mathlib.Core.Path.{◌≡◌, sym, subst}
-use Prim.Native.Nat.{◌+◌, ◌-◌, ◌≤◌}
-use native.Mathlib.Omega.{arith}
-use borrow.Author.Rules.{rules}
+use mathlib.Core.Path.{◌≡◌}
+use Prim.Native.Nat.{◌-◌, ◌≤◌}
 use Rattle.grid.specs.Side.{before}
-use Rattle.grid.proofs.Turns.{before_none, before_more, before_plain}
-use Rattle.grid.proofs.Sides.{line_small}
 use Rattle.grid.proofs.Side.columns_before.Given as goal
 
 abbrev pub invariant-loop-c : goal.invariant-loop-c

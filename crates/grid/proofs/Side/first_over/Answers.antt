@@ -5,7 +5,6 @@ use native.Mathlib.Omega.{arith}
 use Rattle.grid.specs.Knots.{corners_to, first_over}
 use Rattle.grid.proofs.Knots.{plain_first}
 use Rattle.grid.proofs.Sides.{extra_small, quotient}
-use borrow.Author.Rules.{rules}
 use Rattle.grid.proofs.Side.first_over.Goals as goal
 
 pub returns-then-corners-eq0 : goal.returns-then-corners-eq0

@@ -2,7 +2,6 @@
 use mathlib.Core.Path.{ap}
 use Prim.Native.Nat.{◌-◌}
 use native.Mathlib.Omega.{arith}
-use borrow.Author.Rules.{rules}
 use Rattle.grid.specs.Knots.{functions, beyond}
 use Rattle.grid.specs.Side.{firsts}
 use Rattle.grid.proofs.Side.firsts.Goals as goal

@@ -4,7 +4,6 @@ use Prim.Native.Nat.{◌+◌}
 use native.Mathlib.Omega.{arith}
 use Rattle.grid.specs.Knots.{beyond, functions}
 use Rattle.grid.proofs.Sides.{functions_small}
-use borrow.Author.Rules.{rules}
 use Rattle.grid.proofs.Side.functions.Goals as goal
 
 of : (c : goal.After-struct_known-1) → let s = c.args.self in s.cells + beyond s.degree s.corners s.base ≡ functions s

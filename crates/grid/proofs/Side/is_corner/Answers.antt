@@ -4,7 +4,6 @@ use Prim.Native.Nat.{◌+◌, ◌*◌, ◌<◌}
 use native.Mathlib.Nat.{div-lt_iff_lt-mul}
 use native.Mathlib.Omega.{arith}
 use Rattle.grid.specs.Knots.{is_set, is_corner}
-use borrow.Author.Rules.{rules}
 use Rattle.grid.proofs.Side.is_corner.Goals as goal
 
 pub overflow_shr-result : goal.overflow_shr-result

@@ -1,7 +1,6 @@
 -- `Side::knot` meets its contract. Assumes nothing.
-use mathlib.Core.Path.{◌≡◌, refl, sym, ◌∙◌}
+use mathlib.Core.Path.{sym}
 use Rattle.grid.proofs.SideLaws.{knot_is}
-use borrow.Author.Rules.{rules}
 use Rattle.grid.proofs.Side.knot.Goals as goal
 
 pub returns : goal.returns

@@ -4,7 +4,6 @@ use native.Mathlib.Omega.{arith}
 use Rattle.grid.specs.Side.{Run}
 use Rattle.grid.proofs.SideLaws.{run_plain, run_unit}
 use Rattle.grid.proofs.Sides.{quotient}
-use borrow.Author.Rules.{rules}
 use Rattle.grid.proofs.Side.run_end.Goals as goal
 
 pub returns-then-self-eq0 : goal.returns-then-self-eq0

@@ -4,7 +4,6 @@ use native.Mathlib.Omega.{arith}
 use Rattle.grid.specs.Side.{support_span}
 use Rattle.grid.proofs.Sides.{functions_small}
 use Rattle.grid.proofs.Spans.{span_same}
-use borrow.Author.Rules.{rules}
 use Rattle.grid.proofs.Side.support.Goals as goal
 
 pub overflow_add-i : goal.overflow_add-i

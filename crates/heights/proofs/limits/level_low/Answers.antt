@@ -4,7 +4,6 @@ use native.Mathlib.Omega.{arith}
 use Rattle.grid.specs.Plan.{function_columns_at, function_rows_at}
 use Rattle.grid.proofs.Levels.{offset_mono}
 use Rattle.heights.proofs.Lows.{level_low}
-use borrow.Author.Rules.{rules}
 use Rattle.heights.proofs.limits.level_low.Goals as goal
 
 pub run_low-requires : goal.run_low-requires

@@ -1,12 +1,8 @@
 -- `run_low` meets its contract: function by function. Assumes nothing.
 use mathlib.Core.Path.{◌≡◌}
 use Prim.Native.Nat.{◌-◌, ◌≤◌}
-use native.Mathlib.Omega.{arith}
 use Rattle.facts.specs.Ranges.{every_from}
-use Rattle.facts.proofs.Rows.{from_zero}
 use Rattle.heights.specs.Heights.{low_on}
-use Rattle.heights.proofs.Lows.{run_turn}
-use borrow.Author.Rules.{rules}
 use Rattle.heights.proofs.limits.run_low.Given as goal
 
 abbrev pub invariant-loop-i : goal.invariant-loop-i

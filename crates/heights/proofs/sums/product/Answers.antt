@@ -5,7 +5,6 @@ use lib.Signed.{nat_abs-le}
 use mir.Syntax.{w32}
 use mir.ValLaws.{to_z-of_z}
 use Rattle.heights.proofs.Turns.{product_exact}
-use borrow.Author.Rules.{rules}
 use Rattle.heights.proofs.sums.product.Goals as goal
 
 pub returns : goal.returns

@@ -1,13 +1,11 @@
 -- `rows` meets its contract: row by row. Assumes nothing.
 use mathlib.Core.Path.{◌≡◌}
-use Prim.Native.Nat.{◌+◌, ◌-◌, ◌*◌, ◌≤◌}
+use Prim.Native.Nat.{◌+◌}
 use native.Mathlib.Omega.{arith}
 use lib.Ieee.{of_bits}
 use Rattle.exact.specs.Dyadic.{dyadic}
 use Rattle.exact.specs.Sums.{sumℤ}
-use Rattle.splines.specs.Local.{piece_of}
-use Rattle.heights.specs.Heights.{places}
-use Rattle.heights.specs.Steps.{row_sum, level_sum}
+use Rattle.heights.specs.Steps.{level_sum}
 use Rattle.heights.proofs.Turns.{turn_row}
 use borrow.Author.Rules.{rules}
 use Rattle.heights.proofs.sums.rows.Goals as goal

@@ -1,10 +1,8 @@
 -- `tables::bytes::fill` meets its contract. The invariant: what is written so far. Assumes nothing.
 use mathlib.Core.Path.{◌≡◌, refl}
-use Prim.Native.Nat.{◌-◌, ◌≤◌}
 use native.Mathlib.Omega.{arith}
 use borrow.Author.Rules.{rules}
 use Rattle.facts.proofs.Ranges.{written_none, written_set, written_more}
-use Rattle.facts.specs.Ranges.{Written}
 use Rattle.tables.proofs.bytes.fill.Goals as goal
 
 pub loop-i-init : goal.loop-i-init
