@@ -1,7 +1,7 @@
 // The session program (document 01): it reads its input, has crate `replies` answer each line, and hands the answers over.
 #![tactic(auto)]
 
-ghost use Rattle.std.specs.Prelude.{◌≤◌, length, IfOk, IfSome, OnOk, OnErr};
+ghost use Rattle.std.specs.Prelude.{◌≡◌, ◌≤◌, ◌⊎◌, true, length, IfOk, IfSome, OnOk, OnErr};
 ghost use Rattle.std.specs.Io.KnownBytes.{Appends};
 ghost use Rattle.script.specs.Bounds.{answer_bytes, input_bytes, wall_cells, wall_functions};
 ghost use Rattle.script.specs.Session as sessions;
@@ -10,14 +10,14 @@ ghost use Rattle.standard.specs.Bytes.{AppendsFront};
 ghost use Rattle.session.specs.Program.{printed_of};
 
 use script::{ANSWER_BYTES, INPUT_BYTES, WALL_CELLS, WALL_FUNCTIONS};
-use standard::Handed;
+use standard::{Handed, Watched, watch};
 use std::io;
 use std::io::{Read, Write};
 
-// The lines one after the other. At the end all answers are handed over, and the output has grown by them. Where a write fails, it has grown
-// by a front of them.
+// The lines one after the other. At the end all answers are handed over, and the output has grown by them. Only a write that fails ends it
+// before, and the output has then grown by a front of them.
 fn run<W: Write>(
-    output: &mut W,
+    output: &mut Watched<W>,
     input: &[u8],
     cells: &mut [u8],
     functions: &mut [u8],
@@ -30,8 +30,10 @@ fn run<W: Write>(
     requires wall_cells_in_bounds_2 { (wall_cells ≤ length cell_list.old) × (wall_functions ≤ length function_list.old) }
     requires answer_bytes_in_bounds { answer_bytes ≤ length out.old }
     ensures handed { IfOk result (λ h. AllHanded input.now h.answers) }
-    ensures written { OnOk result (Appends (W.contents output.old) (W.contents output.new) (sessions.session input.now)) }
-    ensures failed { OnErr result (AppendsFront (W.contents output.old) (W.contents output.new) (sessions.session input.now)) }
+    ensures written { OnOk result (Appends (W.contents output.old.stream) (W.contents output.new.stream) (sessions.session input.now)) }
+    ensures none_failed { OnOk result (output.new.has_failed ≡ output.old.has_failed) }
+    ensures failed { OnErr result (output.new.has_failed ≡ true) }
+    ensures left { OnErr result (AppendsFront (W.contents output.old.stream) (W.contents output.new.stream) (sessions.session input.now)) }
 {
     let mut hand = script::no_wall();
     let mut handed = standard::nothing();
@@ -56,11 +58,13 @@ fn run<W: Write>(
 }
 
 // The tables and lists of the largest wall of a session, and room for its longest answer.
-fn session<W: Write>(output: &mut W, input: &[u8]) -> io::Result<Handed>
+fn session<W: Write>(output: &mut Watched<W>, input: &[u8]) -> io::Result<Handed>
     requires { length input.now ≤ input_bytes }
     ensures handed { IfOk result (λ h. AllHanded input.now h.answers) }
-    ensures written { OnOk result (Appends (W.contents output.old) (W.contents output.new) (sessions.session input.now)) }
-    ensures failed { OnErr result (AppendsFront (W.contents output.old) (W.contents output.new) (sessions.session input.now)) }
+    ensures written { OnOk result (Appends (W.contents output.old.stream) (W.contents output.new.stream) (sessions.session input.now)) }
+    ensures none_failed { OnOk result (output.new.has_failed ≡ output.old.has_failed) }
+    ensures failed { OnErr result (output.new.has_failed ≡ true) }
+    ensures left { OnErr result (AppendsFront (W.contents output.old.stream) (W.contents output.new.stream) (sessions.session input.now)) }
 {
     let mut cells = [0u8; WALL_CELLS];
     let mut functions = [0u8; WALL_FUNCTIONS];
@@ -78,11 +82,13 @@ fn session<W: Write>(output: &mut W, input: &[u8]) -> io::Result<Handed>
     )
 }
 
-// The whole program, on any input and output. The output grows by the session of the first 16,384 bytes of the input, or of all of it. Where
-// a read or a write fails, it has grown by a front of that session.
-fn program<R: Read, W: Write>(input: &mut R, output: &mut W) -> io::Result<()>
-    ensures written { OnOk result (IfSome (R.remaining input.old) (λ xs. Appends (W.contents output.old) (W.contents output.new) (printed_of xs))) }
-    ensures failed { OnErr result (IfSome (R.remaining input.old) (λ xs. AppendsFront (W.contents output.old) (W.contents output.new) (printed_of xs))) }
+// The whole program, on any input and output. The output grows by the session of the first 16,384 bytes of the input, or of all of it. Only a
+// read or a write that fails ends it before, and the output has then grown by a front of that session.
+fn program<R: Read, W: Write>(input: &mut Watched<R>, output: &mut Watched<W>) -> io::Result<()>
+    ensures written { OnOk result (IfSome (R.remaining input.old.stream) (λ xs. Appends (W.contents output.old.stream) (W.contents output.new.stream) (printed_of xs))) }
+    ensures none_failed { OnOk result ((input.new.has_failed ≡ input.old.has_failed) × (output.new.has_failed ≡ output.old.has_failed)) }
+    ensures failed { OnErr result ((input.new.has_failed ≡ true) ⊎ (output.new.has_failed ≡ true)) }
+    ensures left { OnErr result (IfSome (R.remaining input.old.stream) (λ xs. AppendsFront (W.contents output.old.stream) (W.contents output.new.stream) (printed_of xs))) }
 {
     let mut buffer = [0u8; INPUT_BYTES];
     let count = standard::read(input, &mut buffer)?;
@@ -91,5 +97,5 @@ fn program<R: Read, W: Write>(input: &mut R, output: &mut W) -> io::Result<()>
 }
 
 fn main(rt: HostRuntime) -> io::Result<()> {
-    program(&mut rt.stdin(), &mut rt.stdout())
+    program(&mut watch(rt.stdin()), &mut watch(rt.stdout()))
 }

@@ -2,7 +2,9 @@
 // each reader and writer whose bytes are known. Of the process's own a contract of std says how many bytes went, and not which.
 #![tactic(auto)]
 
-ghost use Rattle.std.specs.Prelude.{◌≡◌, ◌++◌, ◌+◌, ◌<◌, length, take, IfOk, OnOk, OnErr};
+mod streams;
+
+ghost use Rattle.std.specs.Prelude.{◌≡◌, ◌++◌, ◌+◌, ◌<◌, true, length, take, IfOk, OnOk, OnErr};
 ghost use Rattle.std.specs.Io.{ReadsAtMost};
 ghost use Rattle.std.specs.Io.KnownBytes.{Appends, Consumes, IsAtEnd};
 ghost use Rattle.script.specs.Bounds.{input_bytes};
@@ -11,6 +13,7 @@ ghost use Rattle.standard.specs.Bytes.{AppendsFront, ConsumesFront};
 
 use std::io;
 use std::io::{Read, Write};
+pub use streams::{Watched, watch};
 
 // How many answers were handed over. The field is private: only `nothing` and `say` make one.
 #[derive(Clone, Copy)]
@@ -18,14 +21,16 @@ pub struct Handed {
     answers: usize,
 }
 
-// The first 16,384 bytes of the input, or all of it, at the start of the buffer. The result is how many. A read that fails ends it with
-// that read's error, and the bytes that came before it stand at the start of the buffer.
-pub fn read<R: Read>(input: &mut R, buffer: &mut [u8]) -> io::Result<usize>
+// The first 16,384 bytes of the input, or all of it, at the start of the buffer. The result is how many. Only a read that fails ends it with
+// an error, and the bytes that came before it stand at the start of the buffer.
+pub fn read<R: Read>(input: &mut Watched<R>, buffer: &mut [u8]) -> io::Result<usize>
     requires { length buffer.old ≡ input_bytes }
     ensures count { ReadsAtMost result buffer.new }
-    ensures bytes { IfOk result (λ n. Consumes (R.remaining input.old) (R.remaining input.new) (take n buffer.new)) }
-    ensures all { IfOk result (λ n. n < input_bytes → IsAtEnd (R.remaining input.new)) }
-    ensures failed { OnErr result (ConsumesFront (R.remaining input.old) (R.remaining input.new) buffer.new) }
+    ensures bytes { IfOk result (λ n. Consumes (R.remaining input.old.stream) (R.remaining input.new.stream) (take n buffer.new)) }
+    ensures all { IfOk result (λ n. n < input_bytes → IsAtEnd (R.remaining input.new.stream)) }
+    ensures none_failed { OnOk result (input.new.has_failed ≡ input.old.has_failed) }
+    ensures failed { OnErr result (input.new.has_failed ≡ true) }
+    ensures left { OnErr result (ConsumesFront (R.remaining input.old.stream) (R.remaining input.new.stream) buffer.new) }
 {
     let mut done = 0;
     while done < buffer.len() {
@@ -38,19 +43,18 @@ pub fn read<R: Read>(input: &mut R, buffer: &mut [u8]) -> io::Result<usize>
     Ok(done)
 }
 
-// A text to the output: a line of some input prints it. A write that fails, or takes nothing, ends it with an error, when the first bytes of
-// the text may have been written.
-fn print<W: Write>(output: &mut W, text: &[u8]) -> io::Result<()>
+// A text to the output: a line of some input prints it. Only a write that fails, or takes nothing, ends it with an error, when the first bytes
+// of the text may have been written.
+fn print<W: Write>(output: &mut Watched<W>, text: &[u8]) -> io::Result<()>
     requires { IsReply text.now }
-    ensures written { OnOk result (Appends (W.contents output.old) (W.contents output.new) text.now) }
-    ensures failed { OnErr result (AppendsFront (W.contents output.old) (W.contents output.new) text.now) }
+    ensures written { OnOk result (Appends (W.contents output.old.stream) (W.contents output.new.stream) text.now) }
+    ensures none_failed { OnOk result (output.new.has_failed ≡ output.old.has_failed) }
+    ensures failed { OnErr result (output.new.has_failed ≡ true) }
+    ensures left { OnErr result (AppendsFront (W.contents output.old.stream) (W.contents output.new.stream) text.now) }
 {
     let mut done = 0;
     while done < text.len() {
         let n = output.write(&text[done..])?;
-        if n == 0 {
-            return Err(io::Error::from(io::ErrorKind::WriteZero));
-        }
         done += n;
     }
     Ok(())
@@ -65,7 +69,7 @@ pub fn nothing() -> Handed
 
 // Hands over the answer that is due after those handed over: what is printed grows by the text, and the output by its bytes.
 pub fn say<W: Write>(
-    output: &mut W,
+    output: &mut Watched<W>,
     input: &[u8],
     handed: Handed,
     text: &[u8],
@@ -74,8 +78,10 @@ pub fn say<W: Write>(
     requires answers_lt_input_bytes { handed.answers < input_bytes }
     ensures answers_value { IfOk result (λ h. h.answers ≡ handed.answers + 1) }
     ensures answers_value_2 { IfOk result (λ h. printed input.now h.answers ≡ printed input.now handed.answers ++ text.now) }
-    ensures written { OnOk result (Appends (W.contents output.old) (W.contents output.new) text.now) }
-    ensures failed { OnErr result (AppendsFront (W.contents output.old) (W.contents output.new) text.now) }
+    ensures written { OnOk result (Appends (W.contents output.old.stream) (W.contents output.new.stream) text.now) }
+    ensures none_failed { OnOk result (output.new.has_failed ≡ output.old.has_failed) }
+    ensures failed { OnErr result (output.new.has_failed ≡ true) }
+    ensures left { OnErr result (AppendsFront (W.contents output.old.stream) (W.contents output.new.stream) text.now) }
 {
     print(output, text)?;
     let answers = handed.answers + 1;

@@ -1,5 +1,5 @@
 -- `run` meets its contract: each turn hands over the answer to its line, and at the end none is left. Assumes nothing.
-use Rattle.std.proofs.Common.{arith, rules, subst, sym}
+use Rattle.std.proofs.Common.{arith, rules, subst, sym, ◌∙◌}
 use Rattle.std.specs.Io.KnownBytes.{Appends}
 use Rattle.std.proofs.KnownBytes.{Appends-trans}
 use Rattle.standard.proofs.Printed.{all_handed, none_written, front_written}
@@ -17,16 +17,17 @@ loop-at-init g c = record {
   cell_list = search rules;
   function_list = search rules;
   out = search rules;
+  none_failed = search rules;
 }
 
 pub say-requires-clause-due : goal.say-requires-clause-due
 say-requires-clause-due g c =
     due c.args.input.now c.loop-at.handed.answers c.loop-at.at c.line_end-end.result _ c.loop-at.invariant.left c.loop-at-test.true c.line_end-end.ensures _ _ _ _ c.step-done.ensures
 
-pub returns-in_err-handed-clause-failed : goal.returns-in_err-handed-clause-failed
-returns-in_err-handed-clause-failed g c =
+pub returns-in_err-handed-clause-left : goal.returns-in_err-handed-clause-left
+returns-in_err-handed-clause-left g c =
     let answer = due c.args.input.now c.loop-at.handed.answers c.loop-at.at c.line_end-end.result _ c.loop-at.invariant.left c.loop-at-test.true c.line_end-end.ensures _ _ _ _ c.step-done.ensures in
-    on_err _ (front_written _ _ _ _ _ _ answer c.loop-at.invariant.written c.in_err-handed.ensures.failed)
+    on_err _ (front_written _ _ _ _ _ _ answer c.loop-at.invariant.written c.in_err-handed.ensures.left)
 
 pub loop-at-preserved : goal.loop-at-preserved
 loop-at-preserved g c = record {
@@ -39,6 +40,7 @@ loop-at-preserved g c = record {
   cell_list = search rules;
   function_list = search rules;
   out = search rules;
+  none_failed = c.in_ok-handed.ensures.none_failed ∙ c.loop-at.invariant.none_failed;
 }
 
 pub returns-clause-handed : goal.returns-clause-handed

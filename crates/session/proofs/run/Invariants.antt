@@ -11,12 +11,13 @@ invariant-loop-at g l = record {
   sized : HandSized l.hand;
   left : Left l.input l.handed.answers l.at (held l.hand l.cells l.functions);
   few : l.handed.answers ≤ l.at;
-  written : Appends (g.W.Write.contents l.initial.output) (g.W.Write.contents l.output) (printed l.input l.handed.answers);
+  written : Appends (g.W.Write.contents l.initial.output.stream) (g.W.Write.contents l.output.stream) (printed l.input l.handed.answers);
   cells : length l.cells ≡ length l.initial.cells;
   functions : length l.functions ≡ length l.initial.functions;
   cell_list : length l.cell_list ≡ length l.initial.cell_list;
   function_list : length l.function_list ≡ length l.initial.function_list;
   out : length l.out ≡ length l.initial.out;
+  none_failed : l.output.has_failed ≡ l.initial.output.has_failed;
 }
 
 abbrev pub decreases-loop-at : goal.decreases-loop-at

@@ -14,6 +14,7 @@ loop-done-preserved g c =
     let most = length-take (length text - done) (drop done text) in
     let joined = ap (λ l. take done text ++ l) (take-take n (length text - done) (drop done text) (omega arith)) ∙ sym (take-add done n text) in
     record {
+      none_failed = c.in_ok-n.ensures.none ∙ c.loop-done.invariant.none_failed;
       inside = omega arith;
       written = subst (Appends _ _) joined (Appends-trans _ _ _ _ _ c.loop-done.invariant.written c.in_ok-n.ensures.bytes);
     }

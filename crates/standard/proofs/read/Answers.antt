@@ -24,11 +24,12 @@ loop-done-preserved g c =
     let to = from + c.in_ok-n.n in
     let old = c.loop-done.buffer in
     let room = length old - from in
-    let new = put_mid from room old c.read.new.buf in
+    let new = put_mid from room old c.read.new.buffer in
     let within = c.loop-done.invariant.inside in
-    let part = slice_range-put_mid from room c.in_ok-n.n old c.read.new.buf within c.in_ok-n.ensures.bound.0 in
+    let part = slice_range-put_mid from room c.in_ok-n.n old c.read.new.buffer within c.in_ok-n.ensures.bound.0 in
     let joined = take_split from to old new (omega arith) (take-put_mid_below _ _ _ _ _ (le_refl _) within) in
     record {
+      none_failed = c.in_ok-n.ensures.none ∙ c.loop-done.invariant.none_failed;
       same_length = search rules;
       inside = search rules;
       taken = subst (Consumes _ _) (ap (λ l. take from old ++ l) (sym part) ∙ joined) (Consumes-trans _ _ _ _ _ c.loop-done.invariant.taken c.in_ok-n.ensures.bytes.0);

@@ -7,7 +7,8 @@ abbrev pub invariant-loop-done : goal.invariant-loop-done
 invariant-loop-done g l = record {
   same_length : length l.buffer ≡ length l.initial.buffer;
   inside : l.done ≤ length l.buffer;
-  taken : Consumes (g.R.Read.remaining l.initial.input) (g.R.Read.remaining l.input) (take l.done l.buffer);
+  taken : Consumes (g.R.Read.remaining l.initial.input.stream) (g.R.Read.remaining l.input.stream) (take l.done l.buffer);
+  none_failed : l.input.has_failed ≡ l.initial.input.has_failed;
 }
 
 abbrev pub decreases-loop-done : goal.decreases-loop-done
