@@ -20,7 +20,7 @@ not_1 : (c : Else-early-eq2) → let a = c.args in refusal3 a.plan a.cells.now a
 not_1 c = λ e. c.if-early-eq1.false (c.refusal-early.ensures ∙ e)
 
 not_2 : (c : Else-early-eq2) → let a = c.args in refusal3 a.plan a.cells.now a.functions.now ≢ 2
-not_2 c = λ e. c.if-early-eq2.false (c.refusal-early.ensures ∙ e)
+not_2 c = λ e. absurd (omega (arith, e, c.refusal-early.ensures, c.if-early-eq2.false))
 
 pub cell_total-requires : goal.cell_total-requires
 cell_total-requires c = ranged _ _ _ (not_1 (goal.at.cell_total-requires c).Else-early-eq2) (not_2 (goal.at.cell_total-requires c).Else-early-eq2)
