@@ -130,7 +130,7 @@ class Function:
                 self.kept[f_new] = [it[1][5:] for it in kept]
         self.needs = {alike(old): new for old, new in names["needs"]}
         self.goal_place = {new: at[1] for (_, new), at in zip(names["needs"], names["asked_at"])}
-        self.helpers, self.used, self.instances = {}, set(), {}
+        self.helpers, self.instances = {}, {}
 
     # ---- paths
 
@@ -222,7 +222,6 @@ class Function:
             if not found or m.group(2) not in self.vars:
                 continue
             place, arm = found[0]
-            old = next(k for k, (o, it, a) in self.at.items() if k == place)
             rows = [(field, path[1:]) for field, step, path in arm[2] if alike(step) == self.at[place][0] and path[:1] == ["given"]]
 
             def field_of(k, rows=rows, var=var):
@@ -254,9 +253,6 @@ class Function:
                 text = text[: m.end()] + re.sub(rf"(?<![\w.'-])({re.escape(var)})((?:\.{WORD})+)", field, text[m.end() :])
         return text
 
-    def plain(self, head, befores, out, parts):
-        return ".".join(out + parts)
-
     def bound(self, text):
         """let s = c.before.before in ..: s is c, whose fields are those of all steps before."""
         text = re.sub(rf"\blet ({WORD}) = ({WORD})(?:\.before)+ in", r"let \1 = \2 in", text)
@@ -270,8 +266,6 @@ class Function:
         for m in re.finditer(rf"\blet ({WORD}) = ({WORD})(?:\.before)* in", text):
             if m.group(2) in self.vars:
                 self.vars.add(m.group(1))
-        for m in re.finditer(rf"\blet ({WORD}) = ({WORD})(?:\.before)*\.({WORD})(?:\.auto|\.ensures|)(?= in)", text):
-            pass
         # records handed to a lemma about a place
         for name, place in self.helpers.items():
             text = re.sub(
@@ -293,7 +287,6 @@ class Function:
         if record.split(".")[0] not in self.vars:
             return record
         if self.goal:
-            self.used.add(place)
             return f"(goal.at.{self.goal} {self.main}).{place}"
         return self.main
 
@@ -442,7 +435,6 @@ def turn(path, names, crate):
                 end = i
                 break
         args = words_top(tail[:end])
-        n_skip = 2 * len(names["loops"])
         k = 0
         list_ = names["needs"]
         args = [a for a in args if not re.match(r"(invariant|decreases)[-_]", a)]
