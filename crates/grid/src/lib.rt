@@ -2,12 +2,15 @@
 #![tactic(auto)]
 
 ghost use Rattle.std.specs.Prelude.{◌≡◌, min, ◌+◌, ◌-◌, ◌*◌, ◌≤◌, ◌<◌, get_or};
+ghost use Rattle.refusals.specs.Numbers.{number_of};
 ghost use Rattle.grid.specs.Numbering.{Inside, offset, number, place};
 ghost use Rattle.grid.specs.Range.{InRange, Beyond, HasNeighbourhood};
 ghost use Rattle.grid.specs.Spans.{support_of, children_of, around, ancestor_of, coarser_span, parents_of, neighbourhood};
 ghost use Rattle.grid.specs.Knots.{is_corner, corners_to, knot_on, beyond, functions, first_over};
 ghost use Rattle.grid.specs.Side.{SideIn, Run, firsts, passed, columns_before, support_span, around_span};
 ghost use Rattle.grid.specs.Plan.{plan_of, between, numbers_in_range, corners_in_range, in_range, ratio, grown, widened, columns_at, rows_at, across_at, up_at, beyond_across, beyond_up, function_columns_at, function_rows_at, cell_offset, function_offset, cell_total, function_total, too_large, plan_refusal, cell_place, cell_number, function_place, function_number, CellInside, FunctionInside, ancestor};
+
+use refusals::Refusal;
 
 // The most cells that a plan may have, the most functions of such a plan, and the largest table of neighbourhoods: what lent tables need.
 pub const MOST_CELLS: usize = 21845;
@@ -490,17 +493,17 @@ impl Plan {
         self.cell_total() as usize > MOST_CELLS
     }
 
-    // 0, or the first of document 01's refusals 1 and 2.
-    pub fn refusal(self) -> u32
-        ensures { result ≡ plan_refusal self }
+    // The first of document 01's refusals 1 and 2, if any.
+    pub fn refusal(self) -> Result<(), Refusal>
+        ensures { number_of result ≡ plan_refusal self }
     {
-        if self.in_range() {
-            if self.too_large() {
-                return 2;
-            }
-            return 0;
+        if !self.in_range() {
+            return Err(Refusal::PlanOutOfRange);
         }
-        1
+        if self.too_large() {
+            return Err(Refusal::TooManyCells);
+        }
+        Ok(())
     }
 
     // The place of a number. Each level passed takes its area off the number.

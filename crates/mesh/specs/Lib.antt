@@ -1,2 +1,3 @@
 pub mod Mesh
 pub mod HAdmissible
+pub mod Answers

@@ -4,3 +4,4 @@ pub mod Runs
 pub mod Demands
 pub mod Steps
 pub mod Printed
+pub mod Answers

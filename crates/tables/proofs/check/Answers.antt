@@ -1,14 +1,16 @@
 -- `tables::check` meets its contract. Refusals 1 to 3, then 4 to 6. Assumes nothing.
 use mathlib.Core.Path.{sym, ◌∙◌}
+use Rattle.refusals.proofs.Refused.{refused, handed_on}
 use Rattle.mesh.proofs.Bridge.{passed}
 use Rattle.tables.proofs.Calls.{check_later, check_first}
 use Rattle.tables.proofs.check.Goals as goal
 
-pub later_refusal-requires : goal.later_refusal-requires
-later_refusal-requires c = let k = passed _ _ _ (sym c.refusal-early.ensures ∙ c.if-early-eq0.true) in (record { range = k.range; size = k.cells }, k.functions, k.small)
+pub returns-in_err-refusal : goal.returns-in_err-refusal
+returns-in_err-refusal c = let e = c.in_err-refusal.ensures in
+    rw (handed_on _ c.from_residual.ensures.1) (e ∙ check_first _ _ _ (λ z. refused c.in_err-refusal.field-0.0 (e ∙ z)))
 
-pub returns-then-early-eq0 : goal.returns-then-early-eq0
-returns-then-early-eq0 c = c.later_refusal.ensures ∙ check_later _ _ _ (sym c.refusal-early.ensures ∙ c.if-early-eq0.true)
+pub later_refusal-requires : goal.later_refusal-requires
+later_refusal-requires c = let k = passed _ _ _ (sym c.in_ok-refusal.ensures) in (record { range = k.range; size = k.cells }, k.functions, k.small)
 
 pub returns : goal.returns
-returns c = c.refusal-early.ensures ∙ check_first _ _ _ (λ e. c.if-early-eq0.false (c.refusal-early.ensures ∙ e))
+returns c = c.later_refusal.ensures ∙ check_later _ _ _ (sym c.in_ok-refusal.ensures)

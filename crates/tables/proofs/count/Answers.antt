@@ -1,23 +1,24 @@
 -- `tables::count` meets its contract. The tables passed check, so the counts are small and the area is that of any mesh. Assumes nothing.
-use mathlib.Core.Path.{sym, ◌∙◌}
+use mathlib.Core.Path.{refl, sym}
+use Rattle.refusals.proofs.Refused.{refused, handed_on}
 use Rattle.mesh.proofs.Bridge.{check_good}
 use Rattle.tables.proofs.Calls.{short_cells, short_functions, counted, uncounted}
 use Rattle.tables.proofs.count.Goals as goal
 
-pub tally-active-requires : goal.tally-active-requires
-tally-active-requires c = short_cells _ _ _ (sym c.check-answer.ensures ∙ c.if-answer-eq0.true)
+pub returns-in_err-check : goal.returns-in_err-check
+returns-in_err-check c = rw (handed_on _ c.from_residual.ensures.1) (uncounted _ _ _ c.in_err-check.ensures (refused c.in_err-check.field-0.0))
 
-pub tally-refined-requires : goal.tally-refined-requires
-tally-refined-requires c = short_cells _ _ _ (sym c.check-answer.ensures ∙ c.if-answer-eq0.true)
+pub tally-requires : goal.tally-requires
+tally-requires c = short_cells _ _ _ (sym c.in_ok-check.ensures)
 
-pub tally-labels-requires : goal.tally-labels-requires
-tally-labels-requires c = short_functions _ _ _ (sym c.check-answer.ensures ∙ c.if-answer-eq0.true)
+pub tally-requires-2 : goal.tally-requires-2
+tally-requires-2 c = short_cells _ _ _ (sym c.in_ok-check.ensures)
+
+pub tally-requires-3 : goal.tally-requires-3
+tally-requires-3 c = short_functions _ _ _ (sym c.in_ok-check.ensures)
 
 pub area-requires : goal.area-requires
-area-requires c = (check_good _ _ _ (sym c.check-answer.ensures ∙ c.if-answer-eq0.true)).0.range
-
-pub returns-then-answer-eq0 : goal.returns-then-answer-eq0
-returns-then-answer-eq0 c = counted _ _ _ c.check-answer.ensures c.if-answer-eq0.true c.tally-active.ensures c.tally-refined.ensures c.tally-labels.ensures c.area.ensures
+area-requires c = (check_good _ _ _ (sym c.in_ok-check.ensures)).0.range
 
 pub returns : goal.returns
-returns c = uncounted _ _ _ c.check-answer.ensures c.if-answer-eq0.false
+returns c = counted _ _ _ c.in_ok-check.ensures refl c.tally.ensures c.tally-2.ensures c.tally-3.ensures c.area.ensures

@@ -1,30 +1,25 @@
 -- `tables::refusal` meets its contract. Each way by the tests that led there. Assumes nothing.
-use mathlib.Core.Path.{◌≡◌, sym, ◌∙◌}
-use Rattle.grid.specs.Plan.{plan_refusal}
+use mathlib.Core.Path.{sym, ◌∙◌}
 use Rattle.grid.proofs.Laws.{taken_range}
+use Rattle.refusals.proofs.Refused.{refused, handed_on}
 use Rattle.tables.proofs.Calls.{refuse_plan, refuse_3, refuse_3', refuse_0}
 use Rattle.tables.proofs.refusal.Goals as goal
-use Rattle.tables.proofs.refusal.Goals.{Else-number-ne0}
 
-pub returns-then-number-ne0 : goal.returns-then-number-ne0
-returns-then-number-ne0 c = c.refusal-number.ensures ∙ refuse_plan _ _ _ (λ e. c.if-number-ne0.true (c.refusal-number.ensures ∙ e))
+pub returns-in_err-refusal : goal.returns-in_err-refusal
+returns-in_err-refusal c = rw (handed_on _ c.from_residual.ensures.1) (c.in_err-refusal.ensures ∙ refuse_plan _ _ _ (λ e. refused c.in_err-refusal.field-0.0 (c.in_err-refusal.ensures ∙ e)))
 
-planned : (c : Else-number-ne0) → plan_refusal c.args.plan ≡ 0
-planned c = sym c.refusal-number.ensures ∙ c.if-number-ne0.false
+pub cell_total-requires : goal.cell_total-requires
+cell_total-requires c = taken_range _ (sym c.in_ok-refusal.ensures)
 
-pub cell_total-total-requires : goal.cell_total-total-requires
-cell_total-total-requires c = taken_range _ (planned (goal.at.cell_total-total-requires c).Else-number-ne0)
+pub returns-then-cells-cell_total : goal.returns-then-cells-cell_total
+returns-then-cells-cell_total c = refuse_3 _ _ _ (sym c.in_ok-refusal.ensures) (λ e. c.if-cells-cell_total.true (e ∙ sym c.cell_total.ensures))
 
-pub returns-then-cells-total : goal.returns-then-cells-total
-returns-then-cells-total c = refuse_3 _ _ _ (planned (goal.at.returns-then-cells-total c).Else-number-ne0) (λ e. c.if-cells-total.true (e ∙ sym c.cell_total-total.ensures))
+pub function_total-requires : goal.function_total-requires
+function_total-requires c = taken_range _ (sym c.in_ok-refusal.ensures)
 
-pub function_total-labels-requires : goal.function_total-labels-requires
-function_total-labels-requires c = taken_range _ (planned (goal.at.function_total-labels-requires c).Else-number-ne0)
-
-pub returns-then-functions-labels : goal.returns-then-functions-labels
-returns-then-functions-labels c = let b = c in
-    refuse_3' _ _ _ (planned (goal.at.returns-then-functions-labels c).Else-number-ne0) (b.if-cells-total.false ∙ b.cell_total-total.ensures) (λ e. c.if-functions-labels.true (e ∙ sym c.function_total-labels.ensures))
+pub returns-then-functions-function_total : goal.returns-then-functions-function_total
+returns-then-functions-function_total c =
+    refuse_3' _ _ _ (sym c.in_ok-refusal.ensures) (c.if-cells-cell_total.false ∙ c.cell_total.ensures) (λ e. c.if-functions-function_total.true (e ∙ sym c.function_total.ensures))
 
 pub returns : goal.returns
-returns c = let b = c in
-    refuse_0 _ _ _ (planned (goal.at.returns c).Else-number-ne0) (b.if-cells-total.false ∙ b.cell_total-total.ensures) (c.if-functions-labels.false ∙ c.function_total-labels.ensures)
+returns c = refuse_0 _ _ _ (sym c.in_ok-refusal.ensures) (c.if-cells-cell_total.false ∙ c.cell_total.ensures) (c.if-functions-function_total.false ∙ c.function_total.ensures)

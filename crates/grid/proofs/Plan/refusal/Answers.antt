@@ -5,18 +5,19 @@ use Rattle.facts.proofs.Tests.{true_T}
 use Rattle.grid.specs.Plan.{in_range}
 use Rattle.grid.proofs.Laws.{in_range_lem, refused_0, refused_1, refused_2}
 use Rattle.grid.proofs.Plan.refusal.Goals as goal
+use Rattle.grid.proofs.Plan.refusal.Goals.{Else-not-in_range}
 
-ranges : (c : goal.Then-in_range) → in_range c.args.self ≡ true
-ranges c = sym c.in_range.ensures ∙ c.if-in_range.true
+pub returns-then-not-in_range : goal.returns-then-not-in_range
+returns-then-not-in_range c = sym (refused_1 _ (sym c.in_range.ensures ∙ c.if-not-in_range.true))
+
+ranges : (c : Else-not-in_range) → in_range c.args.self ≡ true
+ranges c = sym c.in_range.ensures ∙ c.if-not-in_range.false
 
 pub too_large-requires : goal.too_large-requires
-too_large-requires c = in_range_lem _ (true_T _ (ranges c))
+too_large-requires c = in_range_lem _ (true_T _ (ranges (goal.at.too_large-requires c).Else-not-in_range))
 
 pub returns-then-too_large : goal.returns-then-too_large
-returns-then-too_large c = sym (refused_2 _ (ranges c.before.before) (sym c.too_large.ensures ∙ c.if-too_large.true))
-
-pub returns-then-in_range : goal.returns-then-in_range
-returns-then-in_range c = sym (refused_0 _ (ranges c.before.before) (sym c.too_large.ensures ∙ c.if-too_large.false))
+returns-then-too_large c = sym (refused_2 _ (ranges (goal.at.returns-then-too_large c).Else-not-in_range) (sym c.too_large.ensures ∙ c.if-too_large.true))
 
 pub returns : goal.returns
-returns c = sym (refused_1 _ (sym c.in_range.ensures ∙ c.if-in_range.false))
+returns c = sym (refused_0 _ (ranges (goal.at.returns c).Else-not-in_range) (sym c.too_large.ensures ∙ c.if-too_large.false))
