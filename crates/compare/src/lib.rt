@@ -10,10 +10,8 @@ pub fn same(a: &[u8], b: &[u8], from: usize, to: usize) -> bool
     ensures { result ≡ agree from to a.now b.now }
 {
     let mut ok = true;
-    let mut i = from;
-    while i < to {
+    for i in from..to {
         ok = ok & (a[i] == b[i]);
-        i += 1;
     }
     ok
 }

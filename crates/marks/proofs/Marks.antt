@@ -1,35 +1,14 @@
--- The verdict on a mark by cases, and the flags after one more mark. Assumes nothing.
+-- The flags after one more mark. Assumes nothing.
 use mathlib.Core.Path.{◌≡◌, refl, sym, ap, ◌∙◌}
 use mathlib.Core.Bool.{Bool, true, false, ◌||◌, cond}
 use mathlib.Core.List.{List}
-use Prim.Native.Nat.{ℕ, ◌+◌, ◌≤◌, ◌<◌}
+use Prim.Native.Nat.{ℕ, ◌+◌, ◌<◌}
 use lib.Dec.{eqb}
 use lib.ListN.{length, get_or, take, set}
-use lib.Seq.{take_all}
-use borrow.Author.Tests.{lt-ltb, le-ltb, le-leb, lt-leb, eq-eqb, ne_eqb}
 use Rattle.facts.specs.Numbers.{elem, tabulate}
 use Rattle.facts.proofs.Numbers.{tabulate_is, tabulate_same, get_d_tabulate}
 use Rattle.facts.proofs.Turns.{set_tabulate, elem_at, elem_none, elem_more}
-use Rattle.marks.specs.Marks.{verdict, MarksBelow, with_marks, unmarked_at, weighed}
-
-module _ (kinds : List ℕ) (deep x : ℕ) where
-  pub verdict_7 : length kinds ≤ x → verdict kinds deep x ≡ 7
-  unfolding verdict
-  verdict_7 h = rw (le-ltb _ _ h)
-
-  pub verdict_8 : x < length kinds → (get_or kinds x 0 ≡ 1 → ⊥) → verdict kinds deep x ≡ 8
-  unfolding verdict
-  verdict_8 h n = rw (lt-ltb _ _ h, ne_eqb _ _ n)
-
-  pub verdict_9 : x < length kinds → get_or kinds x 0 ≡ 1 → deep ≤ x → verdict kinds deep x ≡ 9
-  unfolding verdict
-  verdict_9 h n l = rw (lt-ltb _ _ h, eq-eqb _ _ n, le-leb _ _ l)
-
-  pub verdict_0 : x < length kinds → get_or kinds x 0 ≡ 1 → x < deep → verdict kinds deep x ≡ 0
-  unfolding verdict
-  verdict_0 h n l = rw (lt-ltb _ _ h, eq-eqb _ _ n, lt-leb _ _ l)
-
--- ---- flags
+use Rattle.marks.specs.Marks.{MarksBelow, with_marks, unmarked_at, weighed}
 
 module _ (marks table : List ℕ) where
   -- no mark is flagged at the start
@@ -46,9 +25,6 @@ module _ (marks table : List ℕ) where
   flagged_more n i h =
       set_tabulate n (λ x. cond (elem x (take i marks)) 1 (get_or table x 0)) (get_or marks i 0) 1
       ∙ tabulate_same n _ _ (λ x l. one_more (elem x (take i marks)) (eqb x (get_or marks i 0)) (get_or table x 0) ∙ sym (ap (λ b. cond b 1 (get_or table x 0)) (elem_more marks i x h)))
-
-  pub flagged_all : (n i : ℕ) → length marks ≤ i → with_marks n (take i marks) table ≡ with_marks n marks table
-  flagged_all n i h = ap (λ m. with_marks n m table) (take_all i marks h)
 
 pub mark_inside : {n : ℕ} {marks : List ℕ} → MarksBelow n marks → (i : ℕ) → i < length marks → get_or marks i 0 < n
 mark_inside {n} {marks} M i h = M.inside (get_or marks i 0) (elem_at marks i h)

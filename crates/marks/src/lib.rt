@@ -7,6 +7,7 @@ ghost use Rattle.facts.specs.Numbers.{first, tabulate};
 ghost use Rattle.marks.specs.Marks.{verdict, MarksBelow, with_marks, unmarked as weight·unmarked, unmarked_at, weighed, common, common_at};
 
 // Why a mark is refused, or 0.
+#[tactic(auto, unfolding(crate::specs::Marks::verdict))]
 fn verdict_of(kinds: &[u8], deep: u32, mark: u32) -> u32
     ensures { result ≡ verdict kinds.now deep mark }
 {
@@ -27,13 +28,11 @@ fn verdict_of(kinds: &[u8], deep: u32, mark: u32) -> u32
 pub fn judge(kinds: &[u8], deep: u32, marks: &[u32]) -> u32
     ensures { result ≡ first (verdict kinds.now deep) marks.now }
 {
-    let mut i = 0;
-    while i < marks.len() {
-        let number = verdict_of(kinds, deep, marks[i]);
+    for mark in marks {
+        let number = verdict_of(kinds, deep, *mark);
         if number != 0 {
             return number;
         }
-        i += 1;
     }
     0
 }
@@ -43,11 +42,8 @@ fn flag(marks: &[u32], out: &mut [u8])
     requires { MarksBelow (length out.old) marks.now }
     ensures { out.new ≡ with_marks (length out.old) marks.now out.old }
 {
-    let mut k = 0;
-    while k < marks.len() {
-        let at = marks[k] as usize;
-        out[at] = 1;
-        k += 1;
+    for mark in marks {
+        out[*mark as usize] = 1;
     }
 }
 
@@ -62,10 +58,8 @@ fn unmarked(table: &[u8], out: &mut [u8])
     requires { length table.now ≡ length out.old }
     ensures { out.new ≡ tabulate (length out.old) (unmarked_at table.now) }
 {
-    let mut i = 0;
-    while i < out.len() {
-        out[i] = unmarked_of(table[i]);
-        i += 1;
+    for (i, byte) in table.iter().enumerate() {
+        out[i] = unmarked_of(*byte);
     }
 }
 
@@ -82,12 +76,7 @@ pub fn weigh(table: &[u8], marks: &[u32], out: &mut [u8])
 fn common_of(a: u8, b: u8) -> u8
     ensures { result ≡ common a b }
 {
-    if a == 1 {
-        if b == 1 {
-            return 1;
-        }
-    }
-    0
+    u8::from((a == 1) & (b == 1))
 }
 
 // Of the numbers that are flagged, those stay so that have byte 1 in a table too.
@@ -95,9 +84,7 @@ pub fn keep(table: &[u8], flags: &mut [u8])
     requires { length table.now ≡ length flags.old }
     ensures { flags.new ≡ tabulate (length flags.old) (common_at flags.old table.now) }
 {
-    let mut i = 0;
-    while i < flags.len() {
-        flags[i] = common_of(flags[i], table[i]);
-        i += 1;
+    for (i, byte) in table.iter().enumerate() {
+        flags[i] = common_of(flags[i], *byte);
     }
 }

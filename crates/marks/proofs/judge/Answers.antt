@@ -7,15 +7,15 @@ use Rattle.marks.proofs.judge.Goals as goal
 
 pub returns-then-number-ne0 : goal.returns-then-number-ne0
 returns-then-number-ne0 c = let a = c.args in
-    let at = c.loop-i in
+    let at = c.loop-mark in
     c.verdict_of-number.ensures
-    ∙ sym (at.invariant.1 ∙ first_stop (verdict a.kinds.now a.deep) a.marks.now at.i (omega arith) (λ z. c.if-number-ne0.true (c.verdict_of-number.ensures ∙ z)))
+    ∙ sym (at.invariant ∙ first_stop (verdict a.kinds.now a.deep) a.marks.now at.mark-index (omega arith) (λ z. c.if-number-ne0.true (c.verdict_of-number.ensures ∙ z)))
 
-pub loop-i-preserved : goal.loop-i-preserved
-loop-i-preserved c = let a = c.args in
-    let at = c.loop-i in
-    (omega arith, at.invariant.1 ∙ first_skip (verdict a.kinds.now a.deep) a.marks.now at.i (omega arith) (sym c.verdict_of-number.ensures ∙ c.if-number-ne0.false))
+pub loop-mark-preserved : goal.loop-mark-preserved
+loop-mark-preserved c = let a = c.args in
+    let at = c.loop-mark in
+    at.invariant ∙ first_skip (verdict a.kinds.now a.deep) a.marks.now at.mark-index (omega arith) (sym c.verdict_of-number.ensures ∙ c.if-number-ne0.false)
 
 pub returns : goal.returns
 returns c = let a = c.args in
-    sym (c.loop-i.invariant.1 ∙ first_end (verdict a.kinds.now a.deep) a.marks.now c.loop-i.i (omega arith))
+    sym (c.loop-mark.invariant ∙ first_end (verdict a.kinds.now a.deep) a.marks.now c.loop-mark.mark-index (omega arith))

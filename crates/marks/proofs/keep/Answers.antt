@@ -2,30 +2,19 @@
 use mathlib.Core.Path.{refl, ap, ◌∙◌}
 use Prim.Native.Nat.{ℕ}
 use native.Mathlib.Omega.{arith}
-use lib.ListN.{length, get_or, length-set}
+use lib.ListN.{get_or}
 use lib.Seq.{get_or-set_other}
-use borrow.Author.Rules.{rules}
-use Rattle.facts.proofs.Turns.{tabulate_none, tabulate_more, tabulate_all}
+use Rattle.facts.proofs.Turns.{tabulate_none, tabulate_more}
 use Rattle.marks.specs.Marks.{common, common_at}
 use Rattle.marks.proofs.keep.Goals as goal
 
 pub loop-i-init : goal.loop-i-init
-loop-i-init c = (search rules, refl, tabulate_none c.args.flags.now _, λ x h. refl)
+loop-i-init c = (tabulate_none c.args.flags.now _, λ x h. refl)
 
 pub loop-i-preserved : goal.loop-i-preserved
 loop-i-preserved c = let a = c.args in
     let at = c.loop-i in (
-      omega (arith, at.invariant.0),
-      rw length-set at.invariant.1,
-      tabulate_more at.flags (common_at a.flags.now a.table.now) at.i _ (omega (arith, at.invariant.0, at.invariant.1))
-          (c.common_of.ensures ∙ ap (λ (n : ℕ). common n (get_or a.table.now at.i 0)) (at.invariant.3 at.i (omega arith))) at.invariant.2,
-      λ x h. get_or-set_other at.flags at.i x _ 0 (omega arith) ∙ at.invariant.3 x (omega arith),
+      tabulate_more at.flags (common_at a.flags.now a.table.now) at.i _ (omega arith)
+          (c.common_of.ensures ∙ ap (λ (n : ℕ). common n (get_or a.table.now at.i 0)) (at.invariant.1 at.i (omega arith))) at.invariant.0,
+      λ x h. get_or-set_other at.flags at.i x _ 0 (omega arith) ∙ at.invariant.1 x (omega arith),
     )
-
-pub shape_of-flags : goal.shape_of-flags
-shape_of-flags c = c.loop-i.invariant.1
-
-pub returns : goal.returns
-returns c = let a = c.args in
-    let at = c.loop-i in
-    tabulate_all _ (common_at a.flags.now a.table.now) (length a.flags.now) at.i at.invariant.1 at.invariant.0 (omega arith) at.invariant.2

@@ -1,15 +1,11 @@
 -- `weigh` meets its contract: the marks are flagged in a table of what the others weigh. Assumes nothing.
 use mathlib.Core.Path.{ap, ◌∙◌}
 use Prim.Native.Nat.{ℕ}
-use native.Mathlib.Omega.{arith}
 use lib.ListN.{length}
 use Rattle.facts.proofs.Numbers.{length_tabulate}
 use Rattle.marks.specs.Marks.{with_marks}
 use Rattle.marks.proofs.Marks.{weighed_is}
 use Rattle.marks.proofs.weigh.Goals as goal
-
-pub flag-requires : goal.flag-requires
-flag-requires c = record { inside = λ x m. omega (arith, c.requires.marks_below.inside x m, ap length c.unmarked.ensures ∙ length_tabulate _ _) }
 
 pub returns : goal.returns
 returns c = let a = c.args in
