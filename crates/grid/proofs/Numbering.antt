@@ -71,14 +71,6 @@ module _ (w h : ℕ → ℕ) where
       let b : n < offset w h L = omega (arith, level_ends k L l) in
       sym (place_on_lem L n k o b ∙ (λ i. record { level = k; row = q i / w k; column = q i % w k }))
 
-  -- another level follows one that does not have the number
-  pub place_next : (L n k rest : ℕ) → k < L → rest + offset w h k ≡ n → h k * w k ≤ rest → n < offset w h L → k + 1 < L
-  unfolding offset
-  place_next L n k rest l e m b = omega (arith, last)
-    where
-      last : suc k ≡ L → ⊥
-      last q = let c : n < offset w h (suc k) = rw (← q) at b in omega arith
-
   pub place_number : (L : ℕ) (x : Place) → Inside w h L x → place w h L (number w h x) ≡ x
   place_number L x i = place_on_lem L (number w h x) x.level (number_on L x i) (number_lt L x i) ∙ place_on_number x i.column<
 

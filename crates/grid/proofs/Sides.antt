@@ -15,11 +15,6 @@ use Rattle.grid.proofs.Small.{grown_small, unit_small, offset_small}
 use Rattle.grid.proofs.Knots.{corners_le, functions_last, first_lt as over-lt}
 pub use Rattle.grid.proofs.Spans.{across_functions, up_functions}
 
--- a side is its plan's where its columns and its unit are
-pub side_same : {s : Side} {cells unit : ℕ} → s.cells ≡ cells → s.unit ≡ unit
-    → s ≡ record { cells = cells; degree = s.degree; base = s.base; unit = unit; corners = s.corners }
-side_same {s} a b = λ i. record { cells = a i; degree = s.degree; base = s.base; unit = b i; corners = s.corners }
-
 -- the last `degree` functions are the first over no column
 pub firsts_functions : (s : Side) → firsts s + s.degree ≡ functions s
 unfolding firsts functions beyond
@@ -44,9 +39,6 @@ module _ (s : Side) (r : SideIn s) where
 
   pub functions_small : functions s ≤ 2097
   functions_small = omega (arith, functions_last s r.sized, first_small (s.cells - 1) (omega (arith, r.cells≥)), r.degree≤)
-
-  pub line_small : (c : ℕ) → c < s.base → c * s.unit ≤ 2048
-  line_small c l = let h : c ≤ 16 = omega (arith, r.base≤) in mul-le-mul h r.unit≤
 
 -- a level has a place for each first function: its columns, and three more for each corner at the most
 pub firsts_most : (s : Side) → Sized s → s.degree ≤ 4 → firsts s ≤ s.cells + 3 * (s.base - 1)

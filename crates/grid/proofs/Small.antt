@@ -7,9 +7,7 @@ use lib.Pow.{pow_mono}
 use Rattle.grid.specs.declared.Plan.{Plan}
 use Rattle.grid.specs.declared.Place.{Place}
 use Rattle.grid.specs.Numbering.{Inside, offset, number}
-use Rattle.grid.proofs.Direction.{grown_pos}
 use Rattle.grid.proofs.Numbering.{number_lt}
-use Rattle.grid.proofs.Laws.{ratio_pos}
 use Rattle.grid.specs.Plan.{ratio, grown, widened, columns_at, rows_at, ancestor}
 use Rattle.grid.specs.Range.{InRange, Beyond}
 
@@ -65,7 +63,3 @@ module _ (p : Plan) (range : InRange p) (across up : ℕ) (beyond : Beyond acros
   -- the sums that make a place's number fit
   pub number_small : (x : Place) → Inside w h p.levels x → number w h x < 35179273
   number_small x i = omega (arith, number_lt w h p.levels x i, offset_small p.levels (le_refl _))
-
-  -- one level more, as the code counts
-  pub columns_pos : (k : ℕ) → 0 < w k
-  columns_pos k = omega (arith, grown_pos (ratio p) (ratio_pos p) p.columns k range.columns≥)

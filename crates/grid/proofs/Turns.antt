@@ -1,7 +1,7 @@
 -- What the loops over level 0 columns do in a turn, and that their numbers stay small. Assumes nothing.
-use Prim.Native.Nat.{ℕ, zero, suc, ◌+◌, ◌-◌, ◌*◌, ◌/◌, ◌%◌, ◌^◌, ◌≤◌, ◌<◌}
+use Prim.Native.Nat.{ℕ, zero, suc, max, ◌+◌, ◌-◌, ◌*◌, ◌/◌, ◌%◌, ◌^◌, ◌≤◌, ◌<◌}
 use native.Mathlib.Nat.{mod-eq_of_lt, le_of_suc-le-suc, mod-lt, mod-one, div-add-mod', div-div-eq-div-mul, mul_comm, mul-le-mul_right, one-le-pow, pow-suc, zero-div}
-use native.Mathlib.Numerals.{add-one}
+use native.Mathlib.Numerals.{unary_clauses}
 use lib.Arith.{digits_mod}
 use lib.Pow.{pow_mono}
 use lib.Count.{ones, ones_in, ones_cat}
@@ -16,9 +16,10 @@ pub before_none : (bits e u j : ℕ) → j ≡ before bits e u 0 j
 unfolding before
 before_none bits e u j = refl
 
-pub before_more : (bits e u c j : ℕ) → passed e ((c + 1) * u) (eqb (bits / 2 ^ (c + 1) % 2) 1) (before bits e u c j) ≡ before bits e u (c + 1) j
+pub before_next : (bits e u c j : ℕ) → 1 ≤ c → passed e (c * u) (eqb (bits / 2 ^ c % 2) 1) (before bits e u (c - 1) j) ≡ before bits e u (c + 1 - 1) j
 unfolding before is_set
-before_more bits e u c j = rw (add-one c) refl
+before_next bits e u zero j l = absurd (omega arith)
+before_next bits e u (suc c) j l = simp unary_clauses
 
 -- without corners nothing is passed
 pub before_plain : (e u c j : ℕ) → j ≡ before 0 e u c j
@@ -28,13 +29,9 @@ before_plain e u (suc c) j = rw (zero-div (2 ^ suc c)) (before_plain e u c j)
 
 -- the cases of `passed`
 module _ (e z : ℕ) (b : Bool) (l : ℕ) where
-  pub passed_line : (b && ltb z l) ≡ true → l - e < z → z ≡ passed e z b l
+  pub passed_line : (b && ltb z l) ≡ true → max z (l - e) ≡ passed e z b l
   unfolding passed
-  passed_line t h = rw t (omega arith)
-
-  pub passed_back : (b && ltb z l) ≡ true → z ≤ l - e → l - e ≡ passed e z b l
-  unfolding passed
-  passed_back t h = rw t (omega arith)
+  passed_line t = rw t refl
 
   pub passed_not : (b && ltb z l) ≡ false → l ≡ passed e z b l
   unfolding passed

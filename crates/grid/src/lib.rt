@@ -1,14 +1,14 @@
 // A plan's grids: cells and functions of every level, their numbers and places, supports, children and neighbourhoods.
 #![tactic(auto)]
 
-ghost use Rattle.std.specs.Prelude.{◌≡◌, min, ◌+◌, ◌-◌, ◌*◌, ◌≤◌, ◌<◌, get_or};
+ghost use Rattle.std.specs.Prelude.{◌≡◌, ◌+◌, ◌-◌, ◌*◌, ◌≤◌, ◌<◌};
 ghost use Rattle.refusals.specs.Numbers.{number_of};
 ghost use Rattle.grid.specs.Numbering.{Inside, offset, number, place};
 ghost use Rattle.grid.specs.Range.{InRange, Beyond, HasNeighbourhood};
 ghost use Rattle.grid.specs.Spans.{support_of, children_of, around, ancestor_of, coarser_span, parents_of, neighbourhood};
 ghost use Rattle.grid.specs.Knots.{is_corner, corners_to, knot_on, beyond, functions, first_over};
 ghost use Rattle.grid.specs.Side.{SideIn, Run, firsts, passed, columns_before, support_span, around_span};
-ghost use Rattle.grid.specs.Plan.{plan_of, between, numbers_in_range, corners_in_range, in_range, ratio, grown, widened, columns_at, rows_at, across_at, up_at, beyond_across, beyond_up, function_columns_at, function_rows_at, cell_offset, function_offset, cell_total, function_total, too_large, plan_refusal, cell_place, cell_number, function_place, function_number, CellInside, FunctionInside, ancestor};
+ghost use Rattle.grid.specs.Plan.{plan_of, numbers_in_range, corners_in_range, in_range, ratio, grown, widened, columns_at, rows_at, across_at, up_at, beyond_across, beyond_up, function_columns_at, function_rows_at, cell_offset, function_offset, cell_total, function_total, too_large, plan_refusal, cell_place, cell_number, function_place, function_number, CellInside, FunctionInside, ancestor};
 
 use refusals::Refusal;
 
@@ -21,7 +21,7 @@ pub const MOST_NEAR: usize = 13806;
 
 // Document 01, "The plan": six numbers handed over by value. Document 02, Req 05: two more.
 #[repr(C)]
-#[derive(Clone, Copy)]
+#[derive(Clone, Copy, Default)]
 pub struct Plan {
     // cells across and up of level 0
     pub columns: u32,
@@ -36,29 +36,20 @@ pub struct Plan {
     pub corners_up: u32,
 }
 
-// A number of a list, 0 past its end.
-fn number_at(numbers: &[u32], i: usize) -> u32
-    ensures { result ≡ get_or numbers.now i 0 }
-{
-    if i < numbers.len() {
-        return numbers[i];
-    }
-    0
-}
-
 // The plan of its eight numbers, in that order; those left out are 0.
 pub fn plan_of(numbers: &[u32]) -> Plan
     ensures { result ≡ plan_of numbers.now }
 {
+    let number = |i: usize| numbers.get(i).copied().unwrap_or(0);
     Plan {
-        columns: number_at(numbers, 0),
-        rows: number_at(numbers, 1),
-        levels: number_at(numbers, 2),
-        degree_across: number_at(numbers, 3),
-        degree_up: number_at(numbers, 4),
-        class: number_at(numbers, 5),
-        corners_across: number_at(numbers, 6),
-        corners_up: number_at(numbers, 7),
+        columns: number(0),
+        rows: number(1),
+        levels: number(2),
+        degree_across: number(3),
+        degree_up: number(4),
+        class: number(5),
+        corners_across: number(6),
+        corners_up: number(7),
     }
 }
 
@@ -104,19 +95,6 @@ pub struct Side {
     pub corners: u32,
 }
 
-// x less d, or 0.
-fn less(x: u32, d: u32) -> u32
-    ensures { result ≡ x - d }
-{
-    if x < d { 0 } else { x - d }
-}
-
-fn smaller(a: u32, b: u32) -> u32
-    ensures { result ≡ min a b }
-{
-    if a < b { a } else { b }
-}
-
 // How many corners there are on the level 0 lines 1 to c.
 fn corners_to(corners: u32, c: u32) -> u32
     requires { c < 32 }
@@ -139,20 +117,10 @@ fn passed(more: u32, z: u32, corner: bool, line: u32) -> u32
     ensures { result ≡ passed more z corner line }
 {
     if corner & (z < line) {
-        let back = less(line, more);
-        if back < z {
-            return z;
-        }
-        return back;
+        z.max(line.saturating_sub(more))
+    } else {
+        line
     }
-    line
-}
-
-// x is one of lo to hi.
-fn between(lo: u32, hi: u32, x: u32) -> bool
-    ensures { result ≡ between lo hi x }
-{
-    (lo <= x) & (x <= hi)
 }
 
 impl Side {
@@ -162,8 +130,7 @@ impl Side {
         requires j_le_cells { j ≤ self.cells }
         ensures { result ≡ is_corner self j }
     {
-        let unit = self.unit;
-        (j % unit == 0) & ((self.corners >> (j / unit)) % 2 == 1)
+        (j % self.unit == 0) & ((self.corners >> (j / self.unit)) % 2 == 1)
     }
 
     // How many functions there are.
@@ -180,13 +147,10 @@ impl Side {
         requires x_lt_cells { x < self.cells }
         ensures { result ≡ first_over self x }
     {
-        let degree = self.degree;
-        let unit = self.unit;
-        let corners = self.corners;
-        if corners == 0 {
+        if self.corners == 0 {
             return x;
         }
-        x + (degree - 1) * corners_to(corners, x / unit)
+        x + (self.degree - 1) * corners_to(self.corners, x / self.unit)
     }
 
     // Where columns end from x on that have no corner between them: within a column of level 0.
@@ -195,11 +159,10 @@ impl Side {
         requires x_lt_cells { x < self.cells }
         ensures { Run self x result }
     {
-        let unit = self.unit;
         if self.corners == 0 {
             return self.cells;
         }
-        (x / unit + 1) * unit
+        (x / self.unit + 1) * self.unit
     }
 
     // How many functions there are up to the first over the last column.
@@ -207,8 +170,7 @@ impl Side {
         requires { SideIn self }
         ensures { result ≡ firsts self }
     {
-        let degree = self.degree;
-        self.functions() - degree
+        self.functions() - self.degree
     }
 
     // How many columns have a first function below j.
@@ -216,18 +178,13 @@ impl Side {
         requires { SideIn self }
         ensures { result ≡ columns_before self j }
     {
-        let last = self.base - 1;
-        let unit = self.unit;
-        let more = self.degree - 1;
-        let corners = self.corners;
-        if corners == 0 {
+        if self.corners == 0 {
             return j;
         }
+        let more = self.degree - 1;
         let mut line = j;
-        let mut c = 0;
-        while c < last {
-            c += 1;
-            line = passed(more, c * unit, (corners >> c) % 2 == 1, line);
+        for c in 1..self.base {
+            line = passed(more, c * self.unit, (self.corners >> c) % 2 == 1, line);
         }
         line
     }
@@ -238,10 +195,8 @@ impl Side {
         requires i_bound { i ≤ functions self + self.degree }
         ensures { result ≡ knot_on self i }
     {
-        let degree = self.degree;
-        let cells = self.cells;
-        let line = self.columns_before(less(i, degree));
-        smaller(cells, line)
+        let line = self.columns_before(i.saturating_sub(self.degree));
+        self.cells.min(line)
     }
 
     // The columns that function i covers.
@@ -250,13 +205,11 @@ impl Side {
         requires i_bound { i < functions self }
         ensures { result ≡ support_span self i }
     {
-        let degree = self.degree;
-        let cells = self.cells;
-        let first = self.columns_before(less(i, degree));
+        let first = self.columns_before(i.saturating_sub(self.degree));
         let end = self.columns_before(i + 1);
         Span {
             first,
-            end: smaller(cells, end),
+            end: self.cells.min(end),
         }
     }
 
@@ -266,14 +219,12 @@ impl Side {
         requires x_lt_cells { x < self.cells }
         ensures { result ≡ around_span self x }
     {
-        let degree = self.degree;
-        let cells = self.cells;
         let over = self.first_over(x);
-        let first = self.columns_before(less(over, degree));
-        let end = self.columns_before(over + degree + 1);
+        let first = self.columns_before(over.saturating_sub(self.degree));
+        let end = self.columns_before(over + self.degree + 1);
         Span {
             first,
-            end: smaller(cells, end),
+            end: self.cells.min(end),
         }
     }
 }
@@ -290,21 +241,21 @@ impl Plan {
     fn numbers_in_range(self) -> bool
         ensures { result ≡ numbers_in_range self }
     {
-        let class = (self.class == 0) | between(2, 8, self.class);
-        let degrees = between(1, 4, self.degree_across) & (between(1, 4, self.degree_up) & class);
-        between(1, 16, self.columns)
-            & (between(1, 16, self.rows) & (between(1, 8, self.levels) & degrees))
+        (1..=16).contains(&self.columns)
+            & (1..=16).contains(&self.rows)
+            & (1..=8).contains(&self.levels)
+            & (1..=4).contains(&self.degree_across)
+            & (1..=4).contains(&self.degree_up)
+            & ((self.class == 0) | (2..=8).contains(&self.class))
     }
 
     // Document 01, refusal 1, is its opposite.
     pub fn in_range(self) -> bool
         ensures { result ≡ in_range self }
     {
-        if self.numbers_in_range() {
-            return corners_in_range(self.columns, self.corners_across)
-                & corners_in_range(self.rows, self.corners_up);
-        }
-        false
+        self.numbers_in_range()
+            && corners_in_range(self.columns, self.corners_across)
+            && corners_in_range(self.rows, self.corners_up)
     }
 
     // How many columns (or rows) of the next level stand on one. This and the shifts of `grown` and `coarser` are where code knows it.
@@ -389,23 +340,28 @@ impl Plan {
     }
 
     // A level's directions.
+    fn side(self, base: u32, degree: u32, corners: u32, level: u32) -> Side
+        requires base_bound { base ≤ 2048 }
+        requires level_bound { level < 8 }
+        ensures cells { result.cells ≡ grown (ratio self) base level }
+        ensures unit { result.unit ≡ grown (ratio self) 1 level }
+        ensures same { (result.degree ≡ degree) × (result.base ≡ base) × (result.corners ≡ corners) }
+    {
+        Side {
+            cells: self.grown(base, level),
+            degree,
+            base,
+            unit: self.grown(1, level),
+            corners,
+        }
+    }
+
     pub fn across_at(self, level: u32) -> Side
         requires in_range { InRange self }
         requires level_lt_levels { level < self.levels }
         ensures { result ≡ across_at self level }
     {
-        let cells = self.columns_at(level);
-        let unit = self.grown(1, level);
-        let degree = self.degree_across;
-        let base = self.columns;
-        let corners = self.corners_across;
-        Side {
-            cells,
-            degree,
-            base,
-            unit,
-            corners,
-        }
+        self.side(self.columns, self.degree_across, self.corners_across, level)
     }
 
     pub fn up_at(self, level: u32) -> Side
@@ -413,18 +369,7 @@ impl Plan {
         requires level_lt_levels { level < self.levels }
         ensures { result ≡ up_at self level }
     {
-        let cells = self.rows_at(level);
-        let unit = self.grown(1, level);
-        let degree = self.degree_up;
-        let base = self.rows;
-        let corners = self.corners_up;
-        Side {
-            cells,
-            degree,
-            base,
-            unit,
-            corners,
-        }
+        self.side(self.rows, self.degree_up, self.corners_up, level)
     }
 
     // Cells and functions are numbered by the same functions: `across` and `up` are how many columns and rows a level has beyond those
@@ -446,10 +391,8 @@ impl Plan {
         ensures { result ≡ offset (widened (columns_at self) across) (widened (rows_at self) up) level }
     {
         let mut sum = 0;
-        let mut k = 0;
-        while k < level {
+        for k in 0..level {
             sum += self.area(across, up, k);
-            k += 1;
         }
         sum
     }
@@ -513,20 +456,20 @@ impl Plan {
         requires number_bound { number < offset (widened (columns_at self) across) (widened (rows_at self) up) self.levels }
         ensures { result ≡ place (widened (columns_at self) across) (widened (rows_at self) up) self.levels number }
     {
-        let mut level = 0;
         let mut rest = number;
-        let mut area = self.area(across, up, 0);
-        while rest >= area {
+        for level in 0..self.levels {
+            let area = self.area(across, up, level);
+            if rest < area {
+                let columns = self.wide(self.columns, across, level);
+                return Place {
+                    level,
+                    row: rest / columns,
+                    column: rest % columns,
+                };
+            }
             rest -= area;
-            level += 1;
-            area = self.area(across, up, level);
         }
-        let columns = self.wide(self.columns, across, level);
-        Place {
-            level,
-            row: rest / columns,
-            column: rest % columns,
-        }
+        unreachable!()
     }
 
     // The number of a place.
@@ -536,11 +479,8 @@ impl Plan {
         requires inside { Inside (widened (columns_at self) across) (widened (rows_at self) up) self.levels place }
         ensures { result ≡ number (widened (columns_at self) across) (widened (rows_at self) up) place }
     {
-        let level = place.level;
-        let row = place.row;
-        let column = place.column;
-        let columns = self.wide(self.columns, across, level);
-        self.offset(across, up, level) + row * columns + column
+        let columns = self.wide(self.columns, across, place.level);
+        self.offset(across, up, place.level) + place.row * columns + place.column
     }
 
     pub fn cell_place(self, cell: Cell) -> Place
@@ -581,15 +521,10 @@ impl Plan {
         requires function_inside { FunctionInside self place }
         ensures { result ≡ support_of self place }
     {
-        let level = place.level;
-        let row = place.row;
-        let column = place.column;
-        let rows = self.up_at(level).support(row);
-        let columns = self.across_at(level).support(column);
         Rectangle {
-            level,
-            rows,
-            columns,
+            level: place.level,
+            rows: self.up_at(place.level).support(place.row),
+            columns: self.across_at(place.level).support(place.column),
         }
     }
 
@@ -600,21 +535,18 @@ impl Plan {
         ensures { result ≡ children_of self place }
     {
         let ratio = self.ratio();
-        let level = place.level;
         let row = place.row * ratio;
         let column = place.column * ratio;
-        let rows = Span {
-            first: row,
-            end: row + ratio,
-        };
-        let columns = Span {
-            first: column,
-            end: column + ratio,
-        };
         Rectangle {
-            level: level + 1,
-            rows,
-            columns,
+            level: place.level + 1,
+            rows: Span {
+                first: row,
+                end: row + ratio,
+            },
+            columns: Span {
+                first: column,
+                end: column + ratio,
+            },
         }
     }
 
@@ -624,15 +556,10 @@ impl Plan {
         requires cell_inside { CellInside self place }
         ensures { result ≡ around self place }
     {
-        let level = place.level;
-        let row = place.row;
-        let column = place.column;
-        let rows = self.up_at(level).around(row);
-        let columns = self.across_at(level).around(column);
         Rectangle {
-            level,
-            rows,
-            columns,
+            level: place.level,
+            rows: self.up_at(place.level).around(place.row),
+            columns: self.across_at(place.level).around(place.column),
         }
     }
 
@@ -643,13 +570,10 @@ impl Plan {
         ensures { result ≡ ancestor_of self place }
     {
         let back = self.class - 2;
-        let level = place.level;
-        let row = place.row;
-        let column = place.column;
         Place {
-            level: level - back,
-            row: self.coarser(row, back),
-            column: self.coarser(column, back),
+            level: place.level - back,
+            row: self.coarser(place.row, back),
+            column: self.coarser(place.column, back),
         }
     }
 
@@ -658,13 +582,9 @@ impl Plan {
         requires { 1 ≤ span.end }
         ensures { result ≡ coarser_span (ratio self) span }
     {
-        let first = span.first;
-        let last = span.end - 1;
-        let low = self.coarser(first, 1);
-        let high = self.coarser(last, 1);
         Span {
-            first: low,
-            end: high + 1,
+            first: self.coarser(span.first, 1),
+            end: self.coarser(span.end - 1, 1) + 1,
         }
     }
 
@@ -673,15 +593,10 @@ impl Plan {
         requires { (1 ≤ rectangle.level) × (1 ≤ rectangle.rows.end) × (1 ≤ rectangle.columns.end) }
         ensures { result ≡ parents_of self rectangle }
     {
-        let level = rectangle.level;
-        let rows = rectangle.rows;
-        let columns = rectangle.columns;
-        let up = self.coarser_span(rows);
-        let across = self.coarser_span(columns);
         Rectangle {
-            level: level - 1,
-            rows: up,
-            columns: across,
+            level: rectangle.level - 1,
+            rows: self.coarser_span(rectangle.rows),
+            columns: self.coarser_span(rectangle.columns),
         }
     }
 

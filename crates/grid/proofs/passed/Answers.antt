@@ -1,14 +1,11 @@
 -- `passed` meets its contract. Assumes nothing.
-use mathlib.Core.Path.{◌∙◌}
-use native.Mathlib.Omega.{arith}
-use Rattle.grid.proofs.Turns.{passed_line, passed_back, passed_not}
+use mathlib.Core.Path.{ap, ◌∙◌}
+use Prim.Native.Nat.{max}
+use Rattle.grid.proofs.Turns.{passed_line, passed_not}
 use Rattle.grid.proofs.passed.Goals as goal
 
-pub returns-then-back-z : goal.returns-then-back-z
-returns-then-back-z c = passed_line _ _ _ _ c.if-corner-z.true (omega arith)
-
 pub returns-then-corner-z : goal.returns-then-corner-z
-returns-then-corner-z c = c.less-back.ensures ∙ passed_back _ _ _ _ c.if-corner-z.true (omega arith)
+returns-then-corner-z c = c.max.ensures ∙ (ap (max c.args.z) c.saturating_sub.ensures ∙ passed_line _ _ _ _ c.if-corner-z.true)
 
-pub returns : goal.returns
-returns c = passed_not _ _ _ _ c.if-corner-z.false
+pub returns-else-corner-z : goal.returns-else-corner-z
+returns-else-corner-z c = passed_not _ _ _ _ c.if-corner-z.false

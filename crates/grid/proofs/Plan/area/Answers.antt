@@ -6,6 +6,3 @@ use Rattle.grid.proofs.Plan.area.Goals as goal
 pub overflow_mul-result : goal.overflow_mul-result
 overflow_mul-result c = let d = c in
     rw (c.wide.ensures, c.wide-2.ensures) (omega (arith, area_small d.args.self d.requires.in_range d.args.across d.args.up d.requires.beyond d.args.level d.requires.level_lt_levels))
-
-pub returns : goal.returns
-returns c = rw (c.wide.ensures, c.wide-2.ensures)

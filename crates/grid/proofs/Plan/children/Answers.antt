@@ -1,30 +1,32 @@
 -- `Plan::children` meets its contract. Assumes nothing.
-use Prim.Native.Nat.{◌+◌, ◌*◌, ◌≤◌}
+use mathlib.Core.Path.{◌≡◌}
+use Prim.Native.Nat.{ℕ, ◌+◌, ◌*◌, ◌≤◌}
 use native.Mathlib.Omega.{arith}
+use Rattle.grid.specs.declared.Plan.{Plan}
+use Rattle.grid.specs.declared.Place.{Place}
+use Rattle.grid.specs.Plan.{ratio, CellInside}
+use Rattle.grid.specs.Range.{InRange}
 use Rattle.grid.specs.Spans.{finer_span, children_of}
 use Rattle.grid.proofs.Small.{finer_small}
 use Rattle.grid.proofs.Plan.children.Goals as goal
 
-small : (c : goal.After-struct_known-1) → let x = c.args.place in
-    (x.row * c.ratio-ratio.result + c.ratio-ratio.result ≤ 4096) × (x.column * c.ratio-ratio.result + c.ratio-ratio.result ≤ 4096)
-small c = let s = c in
-    let r = s.requires.in_range in
-    let i = s.requires.cell_inside in (
-      finer_small s.args.self r.rows≤ (omega (arith, i.level<, r.levels≤)) i.row< c.ratio-ratio.ensures,
-      finer_small s.args.self r.columns≤ (omega (arith, i.level<, r.levels≤)) i.column< c.ratio-ratio.ensures,
-    )
+small : (p : Plan) (x : Place) (s : ℕ) → InRange p → CellInside p x → s ≡ ratio p → (x.row * s + s ≤ 4096) × (x.column * s + s ≤ 4096)
+small p x s r i e = (
+  finer_small p r.rows≤ (omega (arith, i.level<, r.levels≤)) i.row< e,
+  finer_small p r.columns≤ (omega (arith, i.level<, r.levels≤)) i.column< e,
+)
 
 pub overflow_mul-row : goal.overflow_mul-row
-overflow_mul-row c = omega (arith, small c)
+overflow_mul-row c = omega (arith, small _ _ _ c.requires.in_range c.requires.cell_inside c.ratio-ratio.ensures)
 
 pub overflow_mul-column : goal.overflow_mul-column
-overflow_mul-column c = omega (arith, small c.before)
+overflow_mul-column c = omega (arith, small _ _ _ c.requires.in_range c.requires.cell_inside c.ratio-ratio.ensures)
 
-pub overflow_add-rows : goal.overflow_add-rows
-overflow_add-rows c = omega (arith, small c.before)
+pub overflow_add-result-2 : goal.overflow_add-result-2
+overflow_add-result-2 c = omega (arith, small _ _ _ c.requires.in_range c.requires.cell_inside c.ratio-ratio.ensures)
 
-pub overflow_add-columns : goal.overflow_add-columns
-overflow_add-columns c = omega (arith, small c.before)
+pub overflow_add-result-3 : goal.overflow_add-result-3
+overflow_add-result-3 c = omega (arith, small _ _ _ c.requires.in_range c.requires.cell_inside c.ratio-ratio.ensures)
 
 pub returns : goal.returns
 unfolding children_of finer_span

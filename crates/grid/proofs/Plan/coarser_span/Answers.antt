@@ -10,8 +10,8 @@ use Rattle.grid.proofs.Plan.coarser_span.Goals as goal
 
 pub overflow_add-result : goal.overflow_add-result
 unfolding ancestor ratio
-overflow_add-result c = rw c.coarser-high.ensures (omega (arith, div-le_self (c.args.span.end - 1) 2))
+overflow_add-result c = rw c.coarser-2.ensures (omega (arith, div-le_self (c.args.span.end - 1) 2))
 
 pub returns : goal.returns
 unfolding coarser_span ancestor ratio
-returns c = span_same c.coarser-low.ensures (ap (λ x. x + 1) c.coarser-high.ensures)
+returns c = span_same c.coarser.ensures (ap (λ x. x + 1) c.coarser-2.ensures)

@@ -1,12 +1,7 @@
 -- `Plan::function_columns_at` meets its contract. Assumes nothing.
-use mathlib.Core.Path.{refl}
 use native.Mathlib.Omega.{arith}
-use borrow.Author.Rules.{rules}
 use Rattle.grid.proofs.Sides.{functions_beyond}
 use Rattle.grid.proofs.Plan.function_columns_at.Goals as goal
 
-pub wide-requires : goal.wide-requires
-wide-requires c = record { base_bound = search rules; more_bound = omega (arith, c.beyond_across.ensures, (functions_beyond c.args.self c.requires.in_range).across≤); level_bound = search rules }
-
-pub returns : goal.returns
-returns c = rw (c.wide.ensures, c.beyond_across.ensures) refl
+pub wide-requires-clause-more_bound : goal.wide-requires-clause-more_bound
+wide-requires-clause-more_bound c = omega (arith, c.beyond_across.ensures, (functions_beyond c.args.self c.requires.in_range).across≤)

@@ -1,25 +1,29 @@
 -- `Plan::in_range` meets its contract: corners are looked at where columns and rows are few. Assumes nothing.
 use mathlib.Core.Path.{sym, ◌∙◌}
-use lib.Dec.{T}
-use Rattle.grid.specs.Plan.{numbers_in_range, in_range}
-use Rattle.facts.proofs.Tests.{T_true}
+use Rattle.grid.specs.Plan.{in_range}
 use Rattle.grid.proofs.Laws.{few_columns, few_rows}
 use Rattle.grid.proofs.Plan.in_range.Goals as goal
-
-numbers : (c : goal.Then-numbers_in_range) → T (numbers_in_range c.args.self)
-numbers c = rw (sym c.numbers_in_range.ensures ∙ c.if-numbers_in_range.true) tt
+use Rattle.grid.proofs.Plan.in_range.Goals.{then-numbers_in_range, else-numbers_in_range}
 
 pub corners_in_range-requires : goal.corners_in_range-requires
-corners_in_range-requires c = few_columns c.args.self (numbers c)
+corners_in_range-requires c = few_columns c.args.self (rw (sym c.numbers_in_range.ensures ∙ c.if-numbers_in_range.true) tt)
 
-pub corners_in_range-requires-then-numbers_in_range : goal.corners_in_range-requires-then-numbers_in_range
-corners_in_range-requires-then-numbers_in_range c = few_rows c.args.self (numbers c.before)
+pub corners_in_range-requires-then-corners_in_range : goal.corners_in_range-requires-then-corners_in_range
+corners_in_range-requires-then-corners_in_range c = elim c.if-numbers_in_range.branch [
+  | then-numbers_in_range w ↦ few_rows c.args.self (rw (sym c.numbers_in_range.ensures ∙ w.if-numbers_in_range.true) tt)
+  | else-numbers_in_range w ↦ cc
+]
 
-pub returns-then-numbers_in_range : goal.returns-then-numbers_in_range
+pub returns-then-corners_in_range : goal.returns-then-corners_in_range
 unfolding in_range
-returns-then-numbers_in_range c = let p = c.args.self in
-    rw (T_true (numbers_in_range p) (numbers c.before.before), c.corners_in_range.ensures, c.corners_in_range-then-numbers_in_range.ensures)
+returns-then-corners_in_range c = elim c.if-numbers_in_range.branch [
+  | then-numbers_in_range w ↦ rw (sym c.numbers_in_range.ensures ∙ w.if-numbers_in_range.true, sym w.corners_in_range.ensures ∙ (sym w.value-is ∙ c.if-corners_in_range.true)) c.corners_in_range-then-corners_in_range.ensures
+  | else-numbers_in_range w ↦ cc
+]
 
-pub returns : goal.returns
+pub returns-else-corners_in_range : goal.returns-else-corners_in_range
 unfolding in_range
-returns c = rw (sym c.numbers_in_range.ensures ∙ c.if-numbers_in_range.false)
+returns-else-corners_in_range c = elim c.if-numbers_in_range.branch [
+  | then-numbers_in_range w ↦ rw (sym c.numbers_in_range.ensures ∙ w.if-numbers_in_range.true, sym w.corners_in_range.ensures ∙ (sym w.value-is ∙ c.if-corners_in_range.false)) c.if-corners_in_range.false
+  | else-numbers_in_range w ↦ rw (sym c.numbers_in_range.ensures ∙ w.if-numbers_in_range.false) c.if-corners_in_range.false
+]

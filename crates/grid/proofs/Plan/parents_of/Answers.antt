@@ -7,6 +7,6 @@ pub returns : goal.returns
 unfolding parents_of
 returns c = λ i. record {
   level = sub-one c.args.rectangle.level i;
-  rows = c.coarser_span-up.ensures i;
-  columns = c.coarser_span-across.ensures i;
+  rows = c.coarser_span.ensures i;
+  columns = c.coarser_span-2.ensures i;
 }

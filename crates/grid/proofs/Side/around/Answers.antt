@@ -15,5 +15,5 @@ overflow_add-over-2 c = omega (arith, c.first_over-over.ensures, first_small c.a
 pub returns : goal.returns
 unfolding around_span
 returns c = span_same
-    (rw (c.columns_before-first.ensures, c.less.ensures, c.first_over-over.ensures) refl)
-    (rw (c.smaller.ensures, c.columns_before-end.ensures, c.first_over-over.ensures) refl)
+    (rw (c.columns_before-first.ensures, c.saturating_sub.ensures, c.first_over-over.ensures) refl)
+    (rw (c.min.ensures, c.columns_before-end.ensures, c.first_over-over.ensures) refl)

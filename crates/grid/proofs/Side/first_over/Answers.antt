@@ -7,11 +7,8 @@ use Rattle.grid.proofs.Knots.{plain_first}
 use Rattle.grid.proofs.Sides.{extra_small, quotient}
 use Rattle.grid.proofs.Side.first_over.Goals as goal
 
-pub returns-then-corners-eq0 : goal.returns-then-corners-eq0
-returns-then-corners-eq0 c = sym (plain_first c.args.self c.if-corners-eq0.true c.args.x)
-
-pub corners_to-requires : goal.corners_to-requires
-corners_to-requires c = let s = c in omega (arith, quotient s.args.self s.requires.side_in s.args.x s.requires.x_lt_cells, s.requires.side_in.base≤)
+pub returns-then-self-eq0 : goal.returns-then-self-eq0
+returns-then-self-eq0 c = sym (plain_first c.args.self c.if-self-eq0.true c.args.x)
 
 extra : (c : goal.After-corners_to) → let a = c.args in (a.self.degree - 1) * corners_to a.self.corners (a.x / a.self.unit) ≤ 45
 extra c = let s = c in

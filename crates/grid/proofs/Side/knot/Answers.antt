@@ -5,4 +5,4 @@ use Rattle.grid.proofs.Side.knot.Goals as goal
 
 pub returns : goal.returns
 returns c = let s = c in
-    rw (c.smaller.ensures, c.columns_before-line.ensures, c.less.ensures) (sym (knot_is s.args.self s.requires.side_in.sized s.args.i s.requires.i_bound))
+    rw (c.min.ensures, c.columns_before-line.ensures, c.saturating_sub.ensures) (sym (knot_is s.args.self s.requires.side_in.sized s.args.i s.requires.i_bound))

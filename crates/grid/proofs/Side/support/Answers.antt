@@ -12,5 +12,5 @@ overflow_add-i c = omega (arith, c.requires.i_bound, functions_small c.args.self
 pub returns : goal.returns
 unfolding support_span
 returns c = span_same
-    (rw (c.columns_before-first.ensures, c.less.ensures) refl)
-    (rw (c.smaller.ensures, c.columns_before-end.ensures) refl)
+    (rw (c.columns_before-first.ensures, c.saturating_sub.ensures) refl)
+    (rw (c.min.ensures, c.columns_before-end.ensures) refl)

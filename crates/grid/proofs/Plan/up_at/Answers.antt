@@ -1,6 +1,0 @@
--- `Plan::up_at` meets its contract. Assumes nothing.
-use Rattle.grid.proofs.Sides.{side_same}
-use Rattle.grid.proofs.Plan.up_at.Goals as goal
-
-pub returns : goal.returns
-returns c = side_same c.rows_at-cells.ensures c.grown-unit.ensures
