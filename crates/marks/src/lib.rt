@@ -3,38 +3,38 @@
 #![tactic(auto)]
 
 ghost use Rattle.std.specs.Prelude.{◌≡◌, length};
+ghost use Rattle.refusals.specs.Numbers.{number_of};
 ghost use Rattle.facts.specs.Numbers.{first, tabulate};
 ghost use Rattle.marks.specs.Marks.{verdict, MarksBelow, with_marks, unmarked as weight·unmarked, unmarked_at, weighed, common, common_at};
 
-// Why a mark is refused, or 0.
+use refusals::Refusal;
+
+// Whether a mark is refused, and why.
 #[tactic(auto, unfolding(crate::specs::Marks::verdict))]
-fn verdict_of(kinds: &[u8], deep: u32, mark: u32) -> u32
-    ensures { result ≡ verdict kinds.now deep mark }
+fn verdict_of(kinds: &[u8], deep: u32, mark: u32) -> Result<(), Refusal>
+    ensures { number_of result ≡ verdict kinds.now deep mark }
 {
     let at = mark as usize;
     if at >= kinds.len() {
-        return 7;
+        return Err(Refusal::MarkOutOfRange);
     }
     if kinds[at] != 1 {
-        return 8;
+        return Err(Refusal::MarkOfWrongKind);
     }
     if deep <= mark {
-        return 9;
+        return Err(Refusal::MarkOfLastLevel);
     }
-    0
+    Ok(())
 }
 
-// Why the first mark that is refused is, or 0: marks in list order, each tried for 7, 8, 9.
-pub fn judge(kinds: &[u8], deep: u32, marks: &[u32]) -> u32
-    ensures { result ≡ first (verdict kinds.now deep) marks.now }
+// The refusal of the first mark that has one: marks in list order, each tried for 7, 8, 9.
+pub fn judge(kinds: &[u8], deep: u32, marks: &[u32]) -> Result<(), Refusal>
+    ensures { number_of result ≡ first (verdict kinds.now deep) marks.now }
 {
     for mark in marks {
-        let number = verdict_of(kinds, deep, *mark);
-        if number != 0 {
-            return number;
-        }
+        verdict_of(kinds, deep, *mark)?;
     }
-    0
+    Ok(())
 }
 
 // The marked numbers get byte 1, repeats mean one mark; the others keep theirs.
