@@ -4,16 +4,18 @@
 
 ghost use Rattle.std.specs.Prelude.{◌≡◌, not, ◌+◌, ◌≤◌, ◌<◌, eqb, ltb, length};
 ghost use Rattle.std.specs.Bool.{beq};
+ghost use Rattle.refusals.specs.Numbers.{number_of};
 ghost use Rattle.grid.specs.Plan.{cell_total, function_total};
 ghost use Rattle.mesh.specs.Mesh.{labels};
 ghost use Rattle.nesting.specs.Table.{MeshTable};
 ghost use Rattle.outcomes.specs.Calls.{changed, written};
 ghost use Rattle.outcomes.specs.Steps.{room_refusal, settle_cells, relabel};
+ghost use Rattle.outcomes.specs.Answers.{settled_of};
 ghost use Rattle.outcomes.specs.Meets.{left_cells, left_functions};
 ghost use Rattle.changes.specs.Changes.{Block, ListRoom, ListedTo, Rooms, Taken};
 
 use grid::Plan;
-use outcomes::Answer;
+use refusals::Refusal;
 
 // Tables are compared in blocks of so many bytes, and only a block that differs is read byte by byte.
 const BLOCK: usize = 64;
@@ -161,17 +163,6 @@ fn list_changed(old: &[u8], new: &[u8], list: &mut [u32]) -> usize
     list_changed_between(old, new, list, 0, 0, old.len())
 }
 
-// A refusal answers its number, with zero lengths.
-pub fn refuse(number: u32) -> Answer
-    ensures { result ≡ record { number = number; cells = 0; functions = 0 } }
-{
-    Answer {
-        number,
-        cells: 0,
-        functions: 0,
-    }
-}
-
 // Whether so many entries are too few for the numbers that changed. As many as the table has never are, and nothing is counted then.
 pub fn is_short(old: &[u8], new: &[u8], room: usize) -> bool
     requires { length old.now ≡ length new.now }
@@ -203,7 +194,7 @@ fn is_short_for_labels(
     is_short(functions, made, room)
 }
 
-// Refusals 10 and 11, or 0: the cells and the functions are only read.
+// The first of refusals 10 and 11, if any: the cells and the functions are only read.
 pub fn room_refusal(
     plan: Plan,
     cells: &[u8],
@@ -212,19 +203,19 @@ pub fn room_refusal(
     function_room: usize,
     new_cells: &[u8],
     made: &mut [u8],
-) -> u32
+) -> Result<(), Refusal>
     requires cells_len { length cells.now ≡ cell_total plan }
     requires mesh_table { MeshTable plan new_cells.now }
     requires rooms { Rooms plan functions.now made.old }
-    ensures { result ≡ room_refusal plan cells.now functions.now cell_room function_room new_cells.now }
+    ensures { number_of result ≡ room_refusal plan cells.now functions.now cell_room function_room new_cells.now }
 {
     if is_short(cells, new_cells, cell_room) {
-        return 10;
+        return Err(Refusal::CellListTooShort);
     }
     if is_short_for_labels(plan, new_cells, functions, function_room, made) {
-        return 11;
+        return Err(Refusal::FunctionListTooShort);
     }
-    0
+    Ok(())
 }
 
 // The list gets the numbers that changed, and the table the new bytes. Answers how many changed.
@@ -238,7 +229,7 @@ pub fn take_over(table: &mut [u8], list: &mut [u32], new: &[u8]) -> u32
 }
 
 // The first step of a call (document 000, algorithm 1, lines 1 to 6), when the cells of the new mesh are known: 10 and 11, or the cells and
-// their list are written. The functions are only read, and of their list only its length counts.
+// their list are written, and it answers how many cells changed. The functions are only read, and of their list only its length counts.
 pub fn settle_cells(
     plan: Plan,
     cells: &mut [u8],
@@ -247,13 +238,13 @@ pub fn settle_cells(
     room: usize,
     new_cells: &[u8],
     made: &mut [u8],
-) -> Answer
+) -> Result<u32, Refusal>
     requires cells_len { length cells.old ≡ cell_total plan }
     requires mesh_table { MeshTable plan new_cells.now }
     requires rooms { Rooms plan functions.now made.old }
-    ensures { left_cells result cells cell_list ≡ settle_cells plan cells.old functions.now cell_list.old room new_cells.now }
+    ensures { left_cells (settled_of result) cells cell_list ≡ settle_cells plan cells.old functions.now cell_list.old room new_cells.now }
 {
-    let number = room_refusal(
+    room_refusal(
         plan,
         cells,
         functions,
@@ -261,16 +252,8 @@ pub fn settle_cells(
         room,
         new_cells,
         made,
-    );
-    if number != 0 {
-        return refuse(number);
-    }
-    let count = take_over(cells, cell_list, new_cells);
-    Answer {
-        number: 0,
-        cells: count,
-        functions: 0,
-    }
+    )?;
+    Ok(take_over(cells, cell_list, new_cells))
 }
 
 // The second step (lines 7 to 12): the functions and their list get what the settled cells and the old function bytes say. The cells are

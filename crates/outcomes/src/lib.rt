@@ -23,10 +23,10 @@ pub struct Answer {
 }
 
 impl From<Result<Changes, Refusal>> for Answer {
-    ghost from_gives = { λ result answer. answer ≡ answer_of result };
+    ghost from_gives = { λ changed answer. answer ≡ answer_of changed };
 
-    fn from(result: Result<Changes, Refusal>) -> Answer {
-        match result {
+    fn from(changed: Result<Changes, Refusal>) -> Answer {
+        match changed {
             Ok(changes) => Answer {
                 number: 0,
                 cells: changes.cells,
