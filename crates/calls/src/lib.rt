@@ -4,19 +4,22 @@
 #![tactic(auto)]
 
 ghost use Rattle.std.specs.Prelude.{◌≡◌, List, ℕ, ◌≤◌, length};
+ghost use Rattle.refusals.specs.Numbers.{number_of};
 ghost use Rattle.grid.specs.Bounds.{most_cells};
 ghost use Rattle.grid.specs.Plan.{cell_total, function_total};
 ghost use Rattle.grid.specs.Range.{InRange};
 ghost use Rattle.mesh.specs.Mesh.{check};
 ghost use Rattle.outcomes.specs.Calls as calls;
 ghost use Rattle.outcomes.specs.Calls.{outcome};
+ghost use Rattle.outcomes.specs.Answers.{answer_of, settled_of};
 ghost use Rattle.outcomes.specs.Steps.{settle_cells, in_steps};
 ghost use Rattle.outcomes.specs.Meets.{left, left_cells, Meets};
 ghost use Rattle.closure.specs.Ready.{Ready};
 ghost use Rattle.calls.specs.Parts.{direction_of, by_of, Eligible, Kept, Scratch, Flags, renewed, Applicable};
 
 use grid::{MOST_CELLS, MOST_FUNCTIONS, Plan};
-use outcomes::Answer;
+use outcomes::Changes;
+use refusals::Refusal;
 
 // Which way a call goes.
 #[derive(Clone, Copy)]
@@ -102,18 +105,15 @@ fn flag_cells(
     cells: &[u8],
     marks: &[u32],
     flags: &mut [u8],
-) -> u32
+) -> Result<(), Refusal>
     requires in_range { InRange plan }
     requires cells_len { (length cells.now ≡ cell_total plan) × (length flags.old ≡ cell_total plan) }
-    ensures { (fs : List ℕ) → Flags (direction_of direction) calls.cells plan cells.now fs marks.now result flags.new }
+    ensures { (fs : List ℕ) → Flags (direction_of direction) calls.cells plan cells.now fs marks.now (number_of result) flags.new }
 {
     let deep = eligible_cells(direction, plan, cells, flags);
-    let number = marks::judge(flags, deep, marks);
-    if number != 0 {
-        return number;
-    }
+    marks::judge(flags, deep, marks)?;
     marks::weigh(cells, marks, flags);
-    0
+    Ok(())
 }
 
 // Judges marks that are functions, and flags the cells that they mean: of the cells that may be marked, those over which the least weight
@@ -126,20 +126,17 @@ fn flag_functions(
     marks: &[u32],
     flags: &mut [u8],
     values: &mut [u8],
-) -> u32
+) -> Result<(), Refusal>
     requires functions_value { check plan cells.now functions.now ≡ 0 }
     requires scratch { Scratch plan flags.old values.old }
-    ensures { Flags (direction_of direction) calls.functions plan cells.now functions.now marks.now result flags.new }
+    ensures { Flags (direction_of direction) calls.functions plan cells.now functions.now marks.now (number_of result) flags.new }
 {
     let deep = eligible_functions(direction, plan, cells, functions, flags, values);
-    let number = marks::judge(values, deep, marks);
-    if number != 0 {
-        return number;
-    }
+    marks::judge(values, deep, marks)?;
     marks::weigh(functions, marks, values);
     cover::cover(plan, values, flags);
     keep_eligible(direction, plan, cells, flags);
-    0
+    Ok(())
 }
 
 // Judges the marks, and flags the cells that they mean.
@@ -151,10 +148,10 @@ pub fn flag_marks(
     marks: &[u32],
     flags: &mut [u8],
     values: &mut [u8],
-) -> u32
+) -> Result<(), Refusal>
     requires functions_value { check plan cells.now functions.now ≡ 0 }
     requires scratch { Scratch plan flags.old values.old }
-    ensures { Flags (direction_of call.0) (by_of call.1) plan cells.now functions.now marks.now result flags.new }
+    ensures { Flags (direction_of call.0) (by_of call.1) plan cells.now functions.now marks.now (number_of result) flags.new }
 {
     let direction = call.0;
     let by = call.1;
@@ -185,9 +182,9 @@ fn settle_mesh(
     room: usize,
     flags: &[u8],
     made: &mut [u8],
-) -> Answer
+) -> Result<u32, Refusal>
     requires { Applicable (direction_of direction) plan cells.old functions.now flags.now made.old }
-    ensures { left_cells result cells cell_list ≡ settle_cells plan cells.old functions.now cell_list.old room (renewed (direction_of direction) plan cells.old flags.now) }
+    ensures { left_cells (settled_of result) cells cell_list ≡ settle_cells plan cells.old functions.now cell_list.old room (renewed (direction_of direction) plan cells.old flags.now) }
 {
     let total = plan.cell_total() as usize;
     let mut cell_room = [0u8; MOST_CELLS];
@@ -207,29 +204,25 @@ fn in_steps(
     function_list: &mut [u32],
     flags: &[u8],
     made: &mut [u8],
-) -> Answer
+) -> Result<Changes, Refusal>
     requires { Applicable (direction_of direction) plan cells.old functions.old flags.now made.old }
-    ensures { left result cells functions cell_list function_list ≡ in_steps plan cells.old functions.old cell_list.old function_list.old (renewed (direction_of direction) plan cells.old flags.now) }
+    ensures { left (answer_of result) cells functions cell_list function_list ≡ in_steps plan cells.old functions.old cell_list.old function_list.old (renewed (direction_of direction) plan cells.old flags.now) }
 {
     let room = function_list.len();
-    let mesh = settle_mesh(
+    let settled = settle_mesh(
         direction, plan, cells, functions, cell_list, room, flags, made,
-    );
-    if mesh.number != 0 {
-        return mesh;
-    }
+    )?;
     let relabelled = changes::relabel(plan, cells, functions, function_list, made);
-    Answer {
-        number: 0,
-        cells: mesh.cells,
+    Ok(Changes {
+        cells: settled,
         functions: relabelled,
-    }
+    })
 }
 
 // A call, when its tables are checked. The caller checks them, so that the rooms of the check and those of the change are not on the stack
 // at the same time. The room for a byte of each function is used for what they weigh, and then for their new labels.
 pub fn change(
-    checked: u32,
+    checked: Result<(), Refusal>,
     call: Call,
     plan: Plan,
     cells: &mut [u8],
@@ -237,26 +230,20 @@ pub fn change(
     marks: &[u32],
     cell_list: &mut [u32],
     function_list: &mut [u32],
-) -> Answer
-    requires { checked ≡ check plan cells.old functions.old }
-    ensures { Meets (outcome (direction_of call.0) (by_of call.1) plan) result cells functions marks cell_list function_list }
+) -> Result<Changes, Refusal>
+    requires { number_of checked ≡ check plan cells.old functions.old }
+    ensures { Meets (outcome (direction_of call.0) (by_of call.1) plan) (answer_of result) cells functions marks cell_list function_list }
 {
-    if checked != 0 {
-        return changes::refuse(checked);
-    }
+    checked?;
     let total = plan.cell_total() as usize;
     let count = plan.function_total() as usize;
     let mut cell_room = [0u8; MOST_CELLS];
     let mut function_room = [0u8; MOST_FUNCTIONS];
     let flags = &mut cell_room[..total];
     let values = &mut function_room[..count];
-    let judged = flag_marks(call, plan, cells, functions, marks, flags, values);
-    if judged != 0 {
-        return changes::refuse(judged);
-    }
-    let direction = call.0;
+    flag_marks(call, plan, cells, functions, marks, flags, values)?;
     in_steps(
-        direction,
+        call.0,
         plan,
         cells,
         functions,
