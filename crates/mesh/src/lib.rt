@@ -3,7 +3,7 @@
 
 // What count answers: a refusal or 0, and the counts, all 0 with a refusal.
 #[repr(C)]
-#[derive(Clone, Copy)]
+#[derive(Clone, Copy, Default)]
 pub struct Count {
     pub number: u32,
     // active cells, refined cells, active functions

@@ -3,7 +3,7 @@
 
 // What the four calls answer: a refusal or 0, and how many entries of each list were written.
 #[repr(C)]
-#[derive(Clone, Copy)]
+#[derive(Clone, Copy, Default)]
 pub struct Answer {
     pub number: u32,
     pub cells: u32,
