@@ -19,7 +19,7 @@ pub struct Counts {
 
 // The same for C, which has no enum that holds a value: a refusal or 0, and the counts, all 0 with a refusal.
 #[repr(C)]
-#[derive(Clone, Copy)]
+#[derive(Clone, Copy, Default)]
 pub struct Count {
     pub number: u32,
     pub active: u32,
@@ -42,10 +42,7 @@ impl From<Result<Counts, Refusal>> for Count {
             },
             Err(refusal) => Count {
                 number: u32::from(refusal),
-                active: 0,
-                refined: 0,
-                functions: 0,
-                area: 0,
+                ..Count::default()
             },
         }
     }

@@ -15,7 +15,7 @@ pub struct Changes {
 
 // The same for C, which has no enum that holds a value: a refusal or 0, and the lengths, both 0 with a refusal.
 #[repr(C)]
-#[derive(Clone, Copy)]
+#[derive(Clone, Copy, Default)]
 pub struct Answer {
     pub number: u32,
     pub cells: u32,
@@ -34,8 +34,7 @@ impl From<Result<Changes, Refusal>> for Answer {
             },
             Err(refusal) => Answer {
                 number: u32::from(refusal),
-                cells: 0,
-                functions: 0,
+                ..Answer::default()
             },
         }
     }

@@ -27,12 +27,12 @@ impl LocalValues {
         ensures { result ≡ piece_of self j }
     {
         if j == 0 {
-            return self.low;
+            self.low
+        } else if j == self.degree {
+            self.high
+        } else {
+            self.middle
         }
-        if j == self.degree {
-            return self.high;
-        }
-        self.middle
     }
 }
 
@@ -41,11 +41,7 @@ fn cell_of(parts: u32, cells: u32, x: u32) -> u32
     requires { (1 ≤ parts) × (1 ≤ cells) }
     ensures { result ≡ cell_of parts cells x }
 {
-    let cell = x / parts;
-    if cell < cells {
-        return cell;
-    }
-    cells - 1
+    (x / parts).min(cells - 1)
 }
 
 // How often the knot on line j is taken.
@@ -54,14 +50,13 @@ fn times(side: Side, j: u32) -> u32
     requires j_le_cells { j ≤ side.cells }
     ensures { result ≡ times side j }
 {
-    let degree = side.degree;
     if (j == 0) | (j == side.cells) {
-        return degree + 1;
+        side.degree + 1
+    } else if side.is_corner(j) {
+        side.degree
+    } else {
+        1
     }
-    if side.is_corner(j) {
-        return degree;
-    }
-    1
 }
 
 // The first of the functions over a cell, or the last: v parts lie between the point and the line where it ends. `full`: the knot on the
@@ -71,12 +66,12 @@ fn outer(degree: u32, full: bool, parts: u32, v: u32) -> u32
     ensures { result ≡ outer degree full parts v }
 {
     if degree == 1 {
-        return 2 * parts * v;
+        2 * parts * v
+    } else if full {
+        2 * (v * v)
+    } else {
+        v * v
     }
-    if full {
-        return 2 * (v * v);
-    }
-    v * v
 }
 
 // Where the point x lies, of which `parts` make a cell.
@@ -85,18 +80,15 @@ pub fn locate(side: Side, parts: u32, x: u32) -> LocalValues
     requires in_room { InRoom side parts }
     ensures { result ≡ local_of side parts x }
 {
-    let cells = side.cells;
-    let degree = side.degree;
-    let cell = cell_of(parts, cells, x);
+    let cell = cell_of(parts, side.cells, x);
     let before = x - cell * parts;
-    let low = outer(degree, 1 < times(side, cell), parts, parts - before);
-    let high = outer(degree, 1 < times(side, cell + 1), parts, before);
-    let middle = 2 * parts * parts - low - high;
+    let low = outer(side.degree, 1 < times(side, cell), parts, parts - before);
+    let high = outer(side.degree, 1 < times(side, cell + 1), parts, before);
     LocalValues {
-        degree,
+        degree: side.degree,
         cell,
         low,
-        middle,
+        middle: 2 * parts * parts - low - high,
         high,
     }
 }

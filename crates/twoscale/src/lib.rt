@@ -26,12 +26,12 @@ impl Children {
         ensures { result ≡ quarters_of self j }
     {
         if j == self.first {
-            return self.low;
+            self.low
+        } else if j == self.last {
+            self.high
+        } else {
+            self.middle
         }
-        if j == self.last {
-            return self.high;
-        }
-        self.middle
     }
 }
 
@@ -56,11 +56,10 @@ pub fn children_of(side: Side, i: u32) -> Children
     requires i_bound { i < functions side }
     ensures { result ≡ children_of side i }
 {
-    let degree = side.degree;
     let first = side.knot(i);
     let second = side.knot(i + 1);
-    let last_but_one = side.knot(i + degree);
-    let last = side.knot(i + degree + 1);
+    let last_but_one = side.knot(i + side.degree);
+    let last = side.knot(i + side.degree + 1);
     Children {
         first: i + first,
         last: i + last,

@@ -14,6 +14,6 @@ pub returns-then-is_corner : goal.returns-then-is_corner
 unfolding times
 returns-then-is_corner c = rw (c.if-j-side.false, sym c.is_corner.ensures ∙ c.if-is_corner.true)
 
-pub returns : goal.returns
+pub returns-else-is_corner : goal.returns-else-is_corner
 unfolding times
-returns c = rw (c.if-j-side.false, sym c.is_corner.ensures ∙ c.if-is_corner.false)
+returns-else-is_corner c = rw (c.if-j-side.false, sym c.is_corner.ensures ∙ c.if-is_corner.false)

@@ -11,6 +11,6 @@ pub returns-then-j-self : goal.returns-then-j-self
 unfolding piece_of
 returns-then-j-self c = rw (ne_eqb _ _ c.if-j-eq0.false, eq-eqb _ _ c.if-j-self.true)
 
-pub returns : goal.returns
+pub returns-else-j-self : goal.returns-else-j-self
 unfolding piece_of
-returns c = rw (ne_eqb _ _ c.if-j-eq0.false, ne_eqb _ _ c.if-j-self.false)
+returns-else-j-self c = rw (ne_eqb _ _ c.if-j-eq0.false, ne_eqb _ _ c.if-j-self.false)

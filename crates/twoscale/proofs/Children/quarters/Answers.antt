@@ -9,5 +9,5 @@ returns-then-j-self c = let s = c in is_low s.args.self s.args.j s.requires.0 s.
 pub returns-then-j-self-2 : goal.returns-then-j-self-2
 returns-then-j-self-2 c = let s = c in is_high s.args.self s.args.j s.requires.0 s.requires.1 (λ e. omega arith) (omega arith)
 
-pub returns : goal.returns
-returns c = let s = c in is_middle s.args.self s.args.j s.requires.0 s.requires.1 (λ e. omega arith) (λ e. omega arith)
+pub returns-else-j-self-2 : goal.returns-else-j-self-2
+returns-else-j-self-2 c = let s = c in is_middle s.args.self s.args.j s.requires.0 s.requires.1 (λ e. omega arith) (λ e. omega arith)
