@@ -23,12 +23,10 @@ fn row_admissible(plan: Plan, cells: &[u8], near: &[u8], level: u32, row: u32, a
 {
     let columns = plan.columns_at(level);
     let mut ok = true;
-    let mut column = 0;
-    while column < columns {
+    for column in 0..columns {
         let n = at + column as usize;
         let least = windows::least_near(plan, near, Place { level, row, column });
-        ok = ok & ((cells[n] != 2) | (least == 2));
-        column += 1;
+        ok &= (cells[n] != 2) | (least == 2);
     }
     ok
 }
@@ -51,11 +49,9 @@ fn level_admissible(
     let rows = plan.rows_at(level);
     let mut at = plan.cell_offset(level) as usize;
     let mut ok = true;
-    let mut row = 0;
-    while row < rows {
-        ok = ok & row_admissible(plan, cells, near, level, row, at);
+    for row in 0..rows {
+        ok &= row_admissible(plan, cells, near, level, row, at);
         at += columns;
-        row += 1;
     }
     ok
 }
@@ -66,12 +62,9 @@ fn levels_admissible(plan: Plan, cells: &[u8], near: &mut [u8], scratch: &mut [u
     requires near_room { (NearRoom plan (length near.old)) × (NearRoom plan (length scratch.old)) }
     ensures { result ≡ is_admissible plan cells.now }
 {
-    let last = plan.levels - 1;
     let mut ok = true;
-    let mut level = 0;
-    while level < last {
-        ok = ok & level_admissible(plan, cells, near, scratch, level);
-        level += 1;
+    for level in 0..plan.levels - 1 {
+        ok &= level_admissible(plan, cells, near, scratch, level);
     }
     ok
 }

@@ -29,11 +29,8 @@ fn write_levels(plan: Plan, cells: &[u8], out: &mut [u8], scratch: &mut [u8])
     requires out_len { (length out.old ≡ function_total plan) × (function_total plan ≤ length scratch.old) }
     ensures { out.new ≡ labels plan cells.now }
 {
-    let levels = plan.levels;
-    let mut level = 0;
-    while level < levels {
+    for level in 0..plan.levels {
         write_level(plan, cells, out, scratch, level);
-        level += 1;
     }
 }
 

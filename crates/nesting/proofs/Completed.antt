@@ -25,9 +25,6 @@ use Rattle.nesting.proofs.Nested.{level_zero}
 pub filled_zero : (a n : ℕ) (f : ℕ → ℕ) (xs : List ℕ) → n ≡ 0 → xs ≡ filled a n f xs
 filled_zero a n f xs z = rw z (filled_none a f xs)
 
-pub filled_size : (a n : ℕ) (f : ℕ → ℕ) (xs : List ℕ) {ys : List ℕ} → ys ≡ filled a n f xs → length ys ≡ length xs
-filled_size a n f xs e = ap length e ∙ filled_length a n f xs
-
 -- a table in which f gives 2 just to its refined cells keeps them
 refined_filled : (a n : ℕ) (f : ℕ → ℕ) (xs : List ℕ) → ((c : ℕ) → eqb (f c) 2 ≡ refined xs c) → (c : ℕ) → refined (filled a n f xs) c ≡ refined xs c
 unfolding refined filled
@@ -46,11 +43,12 @@ module _ (g : Cells → ℕ → ℕ) (two : (S : Cells) (c : ℕ) → eqb (g S c
       f ∙ ((λ i. filled b n (g (keeps i)) (e i)) ∙ filled_more a m b n (g (refined ts)) ts q)
 
 -- one cell more
-pub cells_next : (a i : ℕ) (present : Bool) (ts : List ℕ) {v : ℕ} {xs : List ℕ} → a + i < length xs → xs ≡ filled a i (byte_in (refined ts) present) ts
-    → v ≡ cond (eqb (get_or xs (a + i) 0) 2) 2 (cond present 1 0) → set xs (a + i) v ≡ filled a (i + 1) (byte_in (refined ts) present) ts
+pub cells_next : (a i : ℕ) (present : Bool) (ts : List ℕ) {v : ℕ} {xs : List ℕ} → a ≤ i → i < length xs → xs ≡ filled a (i - a) (byte_in (refined ts) present) ts
+    → v ≡ cond (eqb (get_or xs i 0) 2) 2 (cond present 1 0) → set xs i v ≡ filled a (i + 1 - a) (byte_in (refined ts) present) ts
 unfolding byte_in refined
-cells_next a i present ts {v} {xs} l e q =
-    filled_join (λ S. byte_in S present) (λ S c. byte_two (S c) present) ts a i (a + i) 1 refl e (filled_set (a + i) v (byte_in (refined xs) present) xs l q)
+cells_next a i present ts {v} {xs} m l e q =
+    let n : i + 1 - a ≡ i - a + 1 = omega arith in
+    rw n (filled_join (λ S. byte_in S present) (λ S c. byte_two (S c) present) ts a (i - a) i 1 (omega arith) e (filled_set i v (byte_in (refined xs) present) xs l q))
 
 module _ (p : Plan) where
   completed_two : (S : Cells) (c : ℕ) → eqb (completed p S c) 2 ≡ S c

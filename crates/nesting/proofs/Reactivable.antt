@@ -118,9 +118,6 @@ module _ (p : Plan) (cells : List ℕ) where
       → zs ≡ mapped (ruled_out p cells (cell_offset p 1) (cell_offset p (k + 1 + 1) - cell_offset p 1)) ys
   ruled_levels k ys e f = rw (level_more p k) (ruled_join (cell_offset p 1) _ (cell_offset p (k + 1)) _ ys (omega (arith, first_before p k)) e f)
 
-  pub ruled_length : (a n : ℕ) (xs : List ℕ) {zs : List ℕ} → zs ≡ mapped (ruled_out p cells a n) xs → length zs ≡ length xs
-  ruled_length a n xs e = ap length e ∙ mapped_length _ xs
-
 -- 1 where nothing ruled the cell out
 left : (r n y : Bool) → ◌≡◌ {A = ℕ} (cond y (cond (r && n) 1 2) 2) (cond (r && (n && y)) 1 2)
 left true true y = refl

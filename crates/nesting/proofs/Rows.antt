@@ -7,7 +7,8 @@ use native.Mathlib.Nat.{le_refl, mul_assoc, pow-suc, pow-zero}
 use native.Mathlib.Numerals.{add-one}
 use native.Mathlib.Omega.{arith}
 use lib.Arith.{digits_div}
-use lib.ListN.{get_or}
+use lib.ListN.{length, get_or, take, drop}
+use Rattle.std.proofs.lemmas.List.{length-take, get_or-take, get_or-drop}
 use lib.Dec.{eqb}
 use borrow.Author.Tests.{ne_eqb}
 use Rattle.facts.specs.Ranges.{every_from}
@@ -23,7 +24,8 @@ use Rattle.grid.proofs.Levels.{offset_next, offset_mono, row_within}
 use Rattle.grid.proofs.Small.{as_cells, offset_small}
 use Rattle.grid.proofs.Laws.{ratio_pos, cell_number_lt, cell_place_number, parent_lt}
 use Rattle.mesh.specs.Mesh.{refined}
-use Rattle.nesting.specs.Table.{RowUnder}
+use Rattle.nesting.specs.declared.Below.{Below}
+use Rattle.nesting.specs.Table.{IsBelow, RowUnder}
 use Rattle.nesting.specs.Nested.{cell_byte_fits, most_at, nested}
 use Rattle.facts.proofs.Rows.{rows_join}
 
@@ -62,24 +64,30 @@ module _ (p : Plan) (k x e : ℕ) (l : e < ratio p) where
   unfolding ancestor
   column_up = rw (power_one (ratio p)) (digits_div x l)
 
-pub columns_are : (p : Plan) (k : ℕ) → columns_at p k * ratio p ≡ columns_at p (k + 1)
+columns_are : (p : Plan) (k : ℕ) → columns_at p k * ratio p ≡ columns_at p (k + 1)
 unfolding grown
 columns_are p k = rw (add-one k, pow-suc) (mul_assoc _ _ _)
 
--- a row, by what the plan's methods gave of the two levels
-pub row_under : (p : Plan) (k row : ℕ) {rows first width up start over : ℕ} → InRange p → k + 1 < p.levels → row < rows → rows ≡ rows_at p (k + 1)
-    → start ≡ cell_offset p (k + 1) + row * columns_at p (k + 1) → first ≡ cell_offset p k → width ≡ columns_at p k → up ≡ ancestor p 1 row → over ≡ first + up * width → RowUnder p k start over width
-row_under p k row range l m er ea ef ew eu eo = record {
-  range = range;
-  level< = l;
+-- one of the rows of a level
+pub row_of : (p : Plan) (b : Below) (row : ℕ) → IsBelow p b → row < b.rows → RowUnder p b.level (b.at + row * b.columns) (b.over + ancestor p 1 row * b.width) b.width
+row_of p b row i m = record {
+  range = i.range;
+  level< = i.level<;
   row = row;
-  row< = rw er at m;
-  at≡ = ea;
-  over≡ = rw (ef, ew, eu) at eo;
-  width≡ = ew;
+  row< = rw i.rows≡ at m;
+  at≡ = λ j. i.at≡ j + row * i.columns≡ j;
+  over≡ = λ j. i.over≡ j + ancestor p 1 row * i.width≡ j;
+  width≡ = i.width≡;
 }
 
+-- what a part of a table has where the table goes on
+pub part_at : (a n : ℕ) (xs : List ℕ) (i : ℕ) → i < length (take (a + n - a) (drop a xs)) → get_or (take (a + n - a) (drop a xs)) i 0 ≡ get_or xs (a + i) 0
+part_at a n xs i l = let m : i < a + n - a = omega (arith, length-take (a + n - a) (drop a xs)) in get_or-take (a + n - a) (drop a xs) i 0 m ∙ get_or-drop a xs i 0
+
 module _ (p : Plan) (k start over width : ℕ) (u : RowUnder p k start over width) where
+  pub row_width : width * ratio p ≡ columns_at p (k + 1)
+  row_width = (λ j. u.width≡ j * ratio p) ∙ columns_are p k
+
   some_column : 0 < width
   some_column = rw u.width≡ (grown_pos (ratio p) (ratio_pos p) p.columns k u.range.columns≥)
 

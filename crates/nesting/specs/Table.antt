@@ -4,6 +4,7 @@ use Rattle.grid.specs.declared.Plan.{Plan}
 use Rattle.grid.specs.Plan.{columns_at, rows_at, cell_offset, cell_total, ancestor}
 use Rattle.grid.specs.Range.{InRange}
 use Rattle.mesh.specs.Mesh.{is_mesh}
+use Rattle.nesting.specs.declared.Below.{Below}
 
 -- the table has a byte for each cell of the plan
 pub record CellTable (p : Plan) (cells : List ℕ) : Type 0 where
@@ -24,3 +25,13 @@ pub record RowUnder (p : Plan) (k at over width : ℕ) : Type 0 where
   pub at≡ : at ≡ cell_offset p (k + 1) + row * columns_at p (k + 1)
   pub over≡ : over ≡ cell_offset p k + ancestor p 1 row * columns_at p k
   pub width≡ : width ≡ columns_at p k
+
+-- the level below level b.level: its rows and columns and where it begins, and the same of the level itself
+pub record IsBelow (p : Plan) (b : Below) : Type 0 where
+  pub range : InRange p
+  pub level< : b.level + 1 < p.levels
+  pub rows≡ : b.rows ≡ rows_at p (b.level + 1)
+  pub columns≡ : b.columns ≡ columns_at p (b.level + 1)
+  pub at≡ : b.at ≡ cell_offset p (b.level + 1)
+  pub width≡ : b.width ≡ columns_at p b.level
+  pub over≡ : b.over ≡ cell_offset p b.level

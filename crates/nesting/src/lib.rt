@@ -1,5 +1,5 @@
 // The nesting of cells: refusal 4, which refined cells are reactivable, and the bytes of those that are not refined. Each cell is read with
-// its parent, row by row: a row of cells begins at `at`, and the row of their parents, `width` of them, at `over`.
+// its parent, row by row.
 #![tactic(auto)]
 
 ghost use Rattle.std.specs.Prelude.{◌≡◌, cond, ℕ, ◌+◌, ◌-◌, ◌*◌, ◌≤◌, ◌<◌, eqb, length};
@@ -9,12 +9,64 @@ ghost use Rattle.facts.specs.Mapped.{mapped, filled};
 ghost use Rattle.grid.specs.Plan.{ratio, columns_at, rows_at, cell_offset, cell_total};
 ghost use Rattle.grid.specs.Range.{InRange};
 ghost use Rattle.mesh.specs.Mesh.{active, refined, is_mesh, table_of};
-ghost use Rattle.nesting.specs.Table.{CellTable, RowUnder};
+ghost use Rattle.nesting.specs.Table.{CellTable, IsBelow, RowUnder};
 ghost use Rattle.nesting.specs.Nested.{byte_fits, cell_byte_fits, most_at, nested};
 ghost use Rattle.nesting.specs.Reactivable.{reactivable_byte, refined_byte, ruled_out};
 ghost use Rattle.nesting.specs.Completed.{byte_in, completed};
 
 use grid::Plan;
+
+// A row of a level: its cells begin at `at`, and the row of their parents, `width` of them, at `over`.
+#[derive(Clone, Copy)]
+struct Row {
+    at: usize,
+    over: usize,
+    width: usize,
+}
+
+// The level below `level`: its rows and columns, and where it begins. The level itself has rows of `width` cells and begins at `over`.
+#[derive(Clone, Copy)]
+struct Below {
+    level: u32,
+    rows: u32,
+    columns: u32,
+    at: u32,
+    width: u32,
+    over: u32,
+}
+
+impl Below {
+    // The level below `level`.
+    fn of(plan: Plan, level: u32) -> Below
+        requires in_range { InRange plan }
+        requires level_bound { level + 1 < plan.levels }
+        ensures { (IsBelow plan result) × (result.level ≡ level) }
+    {
+        let next = level + 1;
+        Below {
+            level,
+            rows: plan.rows_at(next),
+            columns: plan.columns_at(next),
+            at: plan.cell_offset(next),
+            width: plan.columns_at(level),
+            over: plan.cell_offset(level),
+        }
+    }
+
+    // One of its rows.
+    fn row(self, plan: Plan, row: u32) -> Row
+        requires is_below { IsBelow plan self }
+        requires row_bound { row < self.rows }
+        ensures under { RowUnder plan self.level result.at result.over result.width }
+        ensures at_value { result.at ≡ cell_offset plan (self.level + 1) + row * columns_at plan (self.level + 1) }
+    {
+        Row {
+            at: (self.at + row * self.columns) as usize,
+            over: (self.over + plan.coarser(row, 1) * self.width) as usize,
+            width: self.width as usize,
+        }
+    }
+}
 
 // The cell is present just where it must be, and its byte is at most `most`.
 fn byte_fits(byte: u8, most: u8, present: bool) -> bool
@@ -33,10 +85,8 @@ fn all_fit(cells: &[u8], at: usize, n: usize, most: u8, present: bool) -> bool
     ensures { result ≡ every_from at n (cell_byte_fits cells.now most present) }
 {
     let mut ok = true;
-    let mut i = 0;
-    while i < n {
-        ok = ok & byte_fits(cells[at + i], most, present);
-        i += 1;
+    for cell in &cells[at..at + n] {
+        ok &= byte_fits(*cell, most, present);
     }
     ok
 }
@@ -59,20 +109,17 @@ fn first_level_fits(plan: Plan, cells: &[u8]) -> bool
 }
 
 // A row of the next level: the children of a cell are present just where it is refined.
-fn row_fits(plan: Plan, cells: &[u8], level: u32, at: usize, over: usize, width: usize) -> bool
-    requires row_under { RowUnder plan level at over width }
+fn row_fits(plan: Plan, cells: &[u8], level: u32, row: Row) -> bool
+    requires row_under { RowUnder plan level row.at row.over row.width }
     requires cells_len { length cells.now ≡ cell_total plan }
-    ensures { result ≡ every_from at (width * ratio plan) (nested plan cells.now) }
+    ensures { result ≡ every_from row.at (row.width * ratio plan) (nested plan cells.now) }
 {
     let most = most_at(plan, level + 1);
+    let ratio = plan.ratio() as usize;
     let mut ok = true;
-    let mut here = at;
-    let mut column = 0;
-    while column < width {
-        let ratio = plan.ratio() as usize;
-        ok = ok & all_fit(cells, here, ratio, most, cells[over + column] == 2);
-        here += ratio;
-        column += 1;
+    for column in 0..row.width {
+        let present = cells[row.over + column] == 2;
+        ok &= all_fit(cells, row.at + column * ratio, ratio, most, present);
     }
     ok
 }
@@ -83,27 +130,10 @@ fn next_level_fits(plan: Plan, cells: &[u8], level: u32) -> bool
     requires level_bound { level + 1 < plan.levels }
     ensures { result ≡ every_from (cell_offset plan (level + 1)) (rows_at plan (level + 1) * columns_at plan (level + 1)) (nested plan cells.now) }
 {
-    let next = level + 1;
-    let rows = plan.rows_at(next);
-    let columns = plan.columns_at(next);
-    let width = plan.columns_at(level);
-    let first = plan.cell_offset(level);
-    let mut at = plan.cell_offset(next);
+    let below = Below::of(plan, level);
     let mut ok = true;
-    let mut row = 0;
-    while row < rows {
-        let over = first + plan.coarser(row, 1) * width;
-        ok = ok
-            & row_fits(
-                plan,
-                cells,
-                level,
-                at as usize,
-                over as usize,
-                width as usize,
-            );
-        at += columns;
-        row += 1;
+    for row in 0..below.rows {
+        ok &= row_fits(plan, cells, below.level, below.row(plan, row));
     }
     ok
 }
@@ -113,12 +143,9 @@ pub fn is_mesh(plan: Plan, cells: &[u8]) -> bool
     requires { CellTable plan cells.now }
     ensures { result ≡ is_mesh plan cells.now }
 {
-    let last = plan.levels - 1;
     let mut ok = first_level_fits(plan, cells);
-    let mut level = 0;
-    while level < last {
-        ok = ok & next_level_fits(plan, cells, level);
-        level += 1;
+    for level in 0..plan.levels - 1 {
+        ok &= next_level_fits(plan, cells, level);
     }
     ok
 }
@@ -135,10 +162,8 @@ fn refined_cells(cells: &[u8], out: &mut [u8], from: usize, to: usize, kept: u8)
     requires { (from ≤ to) × (to ≤ length cells.now) × (to ≤ length out.old) }
     ensures { out.new ≡ filled from (to - from) (refined_byte cells.now kept) out.old }
 {
-    let mut i = from;
-    while i < to {
+    for i in from..to {
         out[i] = refined_byte(cells[i], kept);
-        i += 1;
     }
 }
 
@@ -155,28 +180,22 @@ fn left_by_all(cells: &[u8], at: usize, n: usize, byte: u8) -> u8
     ensures { result ≡ cond (every_from at n (active cells.now)) byte 2 }
 {
     let mut left = byte;
-    let mut i = 0;
-    while i < n {
-        left = left_by(cells[at + i], left);
-        i += 1;
+    for child in &cells[at..at + n] {
+        left = left_by(*child, left);
     }
     left
 }
 
 // A row of children.
-fn rule_out_row(plan: Plan, cells: &[u8], out: &mut [u8], at: usize, over: usize, width: usize)
-    requires by_index { (k : ℕ) × RowUnder plan k at over width }
+fn rule_out_row(plan: Plan, cells: &[u8], out: &mut [u8], row: Row)
+    requires by_index { (k : ℕ) × RowUnder plan k row.at row.over row.width }
     requires cells_len { (length cells.now ≡ cell_total plan) × (length out.old ≡ cell_total plan) }
-    ensures { out.new ≡ mapped (ruled_out plan cells.now at (width * ratio plan)) out.old }
+    ensures { out.new ≡ mapped (ruled_out plan cells.now row.at (row.width * ratio plan)) out.old }
 {
-    let mut here = at;
-    let mut column = 0;
-    while column < width {
-        let ratio = plan.ratio() as usize;
-        let parent = over + column;
-        out[parent] = left_by_all(cells, here, ratio, out[parent]);
-        here += ratio;
-        column += 1;
+    let ratio = plan.ratio() as usize;
+    for column in 0..row.width {
+        let parent = row.over + column;
+        out[parent] = left_by_all(cells, row.at + column * ratio, ratio, out[parent]);
     }
 }
 
@@ -187,18 +206,9 @@ fn rule_out_level(plan: Plan, cells: &[u8], out: &mut [u8], level: u32)
     requires level_bound { level + 1 < plan.levels }
     ensures { out.new ≡ mapped (ruled_out plan cells.now (cell_offset plan (level + 1)) (rows_at plan (level + 1) * columns_at plan (level + 1))) out.old }
 {
-    let next = level + 1;
-    let rows = plan.rows_at(next);
-    let columns = plan.columns_at(next);
-    let width = plan.columns_at(level);
-    let first = plan.cell_offset(level);
-    let mut at = plan.cell_offset(next);
-    let mut row = 0;
-    while row < rows {
-        let over = first + plan.coarser(row, 1) * width;
-        rule_out_row(plan, cells, out, at as usize, over as usize, width as usize);
-        at += columns;
-        row += 1;
+    let below = Below::of(plan, level);
+    for row in 0..below.rows {
+        rule_out_row(plan, cells, out, below.row(plan, row));
     }
 }
 
@@ -212,10 +222,8 @@ pub fn reactivable_cells(plan: Plan, cells: &[u8], out: &mut [u8])
     let end = plan.cell_offset(last) as usize;
     refined_cells(cells, out, 0, end, 1);
     refined_cells(cells, out, end, cells.len(), 2);
-    let mut level = 0;
-    while level < last {
+    for level in 0..last {
         rule_out_level(plan, cells, out, level);
-        level += 1;
     }
 }
 
@@ -223,7 +231,7 @@ pub fn reactivable_cells(plan: Plan, cells: &[u8], out: &mut [u8])
 fn completed_byte(byte: u8, present: bool) -> u8
     ensures { result ≡ cond (eqb byte 2) 2 (cond present 1 0) }
 {
-    if byte == 2 { 2 } else { present as u8 }
+    if byte == 2 { 2 } else { u8::from(present) }
 }
 
 // The same of the n cells from `at` on.
@@ -231,28 +239,21 @@ fn complete_cells(cells: &mut [u8], at: usize, n: usize, present: bool)
     requires { at + n ≤ length cells.old }
     ensures { cells.new ≡ filled at n (byte_in (refined cells.old) present) cells.old }
 {
-    let mut i = 0;
-    while i < n {
-        let cell = at + i;
-        cells[cell] = completed_byte(cells[cell], present);
-        i += 1;
+    for i in at..at + n {
+        cells[i] = completed_byte(cells[i], present);
     }
 }
 
 // A row of the next level: the children of a cell are present just where it is refined.
-fn complete_row(plan: Plan, cells: &mut [u8], at: usize, over: usize, width: usize)
-    requires by_index { (k : ℕ) × RowUnder plan k at over width }
+fn complete_row(plan: Plan, cells: &mut [u8], row: Row)
+    requires by_index { (k : ℕ) × RowUnder plan k row.at row.over row.width }
     requires cells_len { length cells.old ≡ cell_total plan }
-    ensures { cells.new ≡ filled at (width * ratio plan) (completed plan (refined cells.old)) cells.old }
+    ensures { cells.new ≡ filled row.at (row.width * ratio plan) (completed plan (refined cells.old)) cells.old }
 {
-    let mut here = at;
-    let mut column = 0;
-    while column < width {
-        let ratio = plan.ratio() as usize;
-        let present = cells[over + column] == 2;
-        complete_cells(cells, here, ratio, present);
-        here += ratio;
-        column += 1;
+    let ratio = plan.ratio() as usize;
+    for column in 0..row.width {
+        let present = cells[row.over + column] == 2;
+        complete_cells(cells, row.at + column * ratio, ratio, present);
     }
 }
 
@@ -262,18 +263,9 @@ fn complete_level(plan: Plan, cells: &mut [u8], level: u32)
     requires level_bound { level + 1 < plan.levels }
     ensures { cells.new ≡ filled (cell_offset plan (level + 1)) (rows_at plan (level + 1) * columns_at plan (level + 1)) (completed plan (refined cells.old)) cells.old }
 {
-    let next = level + 1;
-    let rows = plan.rows_at(next);
-    let columns = plan.columns_at(next);
-    let width = plan.columns_at(level);
-    let first = plan.cell_offset(level);
-    let mut at = plan.cell_offset(next);
-    let mut row = 0;
-    while row < rows {
-        let over = first + plan.coarser(row, 1) * width;
-        complete_row(plan, cells, at as usize, over as usize, width as usize);
-        at += columns;
-        row += 1;
+    let below = Below::of(plan, level);
+    for row in 0..below.rows {
+        complete_row(plan, cells, below.row(plan, row));
     }
 }
 
@@ -283,12 +275,9 @@ pub fn complete(plan: Plan, cells: &mut [u8])
     requires { CellTable plan cells.old }
     ensures { cells.new ≡ table_of plan (refined cells.old) }
 {
-    let last = plan.levels - 1;
     let end = plan.cell_offset(1) as usize;
     complete_cells(cells, 0, end, true);
-    let mut level = 0;
-    while level < last {
+    for level in 0..plan.levels - 1 {
         complete_level(plan, cells, level);
-        level += 1;
     }
 }

@@ -2,5 +2,5 @@
 use Rattle.windows.proofs.Rooms.{near_room}
 use Rattle.admissible.proofs.mesh_admissible.Goals as goal
 
-pub levels_admissible-requires : goal.levels_admissible-requires
-levels_admissible-requires c = let s = c in let r = near_room s.args.plan s.requires.0.sized.range s.requires.1 in record { mesh_table = s.requires.0; near_room = (r, r) }
+pub levels_admissible-requires-clause-near_room : goal.levels_admissible-requires-clause-near_room
+levels_admissible-requires-clause-near_room c = let r = near_room c.args.plan c.requires.0.sized.range c.requires.1 in (r, r)

@@ -1,13 +1,8 @@
 -- `admissible::row_admissible` meets its contract. The invariant: whether the cells so far pass. Assumes nothing.
 use mathlib.Core.Path.{◌≡◌}
-use Prim.Native.Nat.{◌-◌, ◌≤◌}
 use Rattle.facts.specs.Ranges.{every_from}
-use Rattle.grid.specs.Plan.{columns_at}
 use Rattle.admissible.specs.Admissible.{cell_admissible}
 use Rattle.admissible.proofs.row_admissible.Given as goal
 
 abbrev pub invariant-loop-column : goal.invariant-loop-column
-invariant-loop-column l = (l.column ≤ l.columns) × (l.columns ≡ columns_at l.plan l.level) × (l.ok ≡ every_from l.at l.column (cell_admissible l.plan l.cells))
-
-abbrev pub decreases-loop-column : goal.decreases-loop-column
-decreases-loop-column l = l.columns - l.column
+invariant-loop-column l = l.ok ≡ every_from l.at l.column (cell_admissible l.plan l.cells)

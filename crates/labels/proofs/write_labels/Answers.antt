@@ -13,5 +13,6 @@ slice_bounds-scratch-end c = let s = c in omega (arith, functions_bound _ s.requ
 pub slice_bounds-write_levels-end : goal.slice_bounds-write_levels-end
 slice_bounds-write_levels-end c = let s = c in zeros most_functions c.function_total-count.result (omega (arith, functions_bound _ s.requires.mesh_table.sized.range s.requires.out_len.1))
 
-pub write_levels-requires : goal.write_levels-requires
-write_levels-requires c = let s = c in record { mesh_table = s.requires.mesh_table; out_len = (s.requires.out_len.0, le_of_eq (sym (part_length most_functions _ c.function_total-count.ensures (functions_bound _ s.requires.mesh_table.sized.range s.requires.out_len.1)))) }
+pub write_levels-requires-clause-out_len : goal.write_levels-requires-clause-out_len
+write_levels-requires-clause-out_len c = let r = c.requires in
+    (r.out_len.0, le_of_eq (sym (part_length most_functions _ c.function_total-count.ensures (functions_bound _ r.mesh_table.sized.range r.out_len.1))))

@@ -9,17 +9,11 @@ use Rattle.grid.proofs.Levels.{levels_join}
 use Rattle.nesting.proofs.Nested.{mesh_is}
 use Rattle.nesting.proofs.is_mesh.Goals as goal
 
-pub loop-level-init : goal.loop-level-init
-loop-level-init c = (omega arith, c.first_level_fits-ok.ensures)
-
-pub next_level_fits-ok-requires : goal.next_level_fits-ok-requires
-next_level_fits-ok-requires c = record { cell_table = c.requires; level_bound = omega arith }
-
 pub loop-level-preserved : goal.loop-level-preserved
 loop-level-preserved c = let a = c.args in
-    (omega arith, levels_join (columns_at a.plan) (rows_at a.plan) (nested a.plan a.cells.now) _ c.loop-level.invariant.1 c.next_level_fits-ok.ensures)
+    levels_join (columns_at a.plan) (rows_at a.plan) (nested a.plan a.cells.now) _ c.loop-level.invariant c.next_level_fits-ok.ensures
 
 pub returns : goal.returns
-returns c = let s = c in
-    let q : c.loop-level.level + 1 ≡ s.args.plan.levels = omega (arith, s.requires.range.levels≥) in
-    (rw q at c.loop-level.invariant.1) ∙ (every_from_lem _ _ ∙ mesh_is s.args.plan s.requires.range s.args.cells.now)
+returns c = let a = c.args in
+    let q : c.loop-level.level + 1 ≡ a.plan.levels = omega (arith, c.requires.range.levels≥) in
+    (rw q at c.loop-level.invariant) ∙ (every_from_lem _ _ ∙ mesh_is a.plan c.requires.range a.cells.now)

@@ -1,47 +1,38 @@
--- `nesting::row_fits` meets its contract. The invariant: the children of the cells so far fit, and where the next begin. Assumes nothing.
-use mathlib.Core.Path.{◌≡◌}
-use Prim.Native.Nat.{◌+◌, ◌≤◌, ◌<◌}
+-- `nesting::row_fits` meets its contract. The invariant: the children of the cells so far fit. Assumes nothing.
+use Prim.Native.Nat.{◌+◌, ◌*◌, ◌≤◌, ◌<◌}
 use native.Mathlib.Omega.{arith}
 use lib.ListN.{length}
 use Rattle.facts.proofs.Rows.{from_zero}
 use Rattle.nesting.proofs.Rows.{parent_in, children_in, row_more}
 use Rattle.nesting.proofs.row_fits.Goals as goal
-use Rattle.nesting.proofs.row_fits.Goals.{After-ratio-ratio}
+use Rattle.nesting.proofs.row_fits.Goals.{In-loop-column}
 
 pub loop-column-init : goal.loop-column-init
-loop-column-init c = (c.most_at-most.ensures, omega arith, omega arith, from_zero _ _ _ (omega arith))
+loop-column-init c = from_zero _ _ _ (omega arith)
 
 -- the cell and its children lie in the table
-parent : (c : After-ratio-ratio) → let s = c in s.args.over + c.loop-column.column < length s.args.cells.now
-parent c = let s = c in rw s.requires.cells_len (parent_in _ _ _ _ _ s.requires.row_under c.loop-column.column c.loop-column-test.true)
+parent : (c : In-loop-column) → c.args.row.over + c.loop-column.column < length c.args.cells.now
+parent c = rw c.requires.cells_len (parent_in _ _ _ _ _ c.requires.row_under c.loop-column.column c.loop-column-test.true)
 
-children : (c : After-ratio-ratio) → let s = c in c.loop-column.here + c.ratio-ratio.result ≤ length s.args.cells.now
-children c = let s = c in
-    let l = c.loop-column in
-    omega (arith, children_in _ _ _ _ _ s.requires.row_under l.column c.loop-column-test.true, c.ratio-ratio.ensures, l.invariant.1, s.requires.cells_len)
+children : (c : In-loop-column) → c.args.row.at + c.loop-column.column * c.ratio-ratio.result + c.ratio-ratio.result ≤ length c.args.cells.now
+children c = rw (c.ratio-ratio.ensures, c.requires.cells_len) (children_in _ _ _ _ _ c.requires.row_under c.loop-column.column c.loop-column-test.true)
 
-pub overflow_add-over : goal.overflow_add-over
-overflow_add-over c = omega (arith, parent (goal.at.overflow_add-over c).After-ratio-ratio)
+pub overflow_add-present : goal.overflow_add-present
+overflow_add-present c = omega (arith, parent (goal.at.overflow_add-present c).In-loop-column)
 
-pub bounds-cells-over : goal.bounds-cells-over
-bounds-cells-over c = parent (goal.at.bounds-cells-over c).After-ratio-ratio
+pub bounds-cells-row : goal.bounds-cells-row
+bounds-cells-row c = parent (goal.at.bounds-cells-row c).In-loop-column
+
+pub overflow_mul-column : goal.overflow_mul-column
+overflow_mul-column c = omega (arith, children (goal.at.overflow_mul-column c).In-loop-column)
+
+pub overflow_add-row : goal.overflow_add-row
+overflow_add-row c = omega (arith, children (goal.at.overflow_add-row c).In-loop-column)
 
 pub all_fit-ok-requires : goal.all_fit-ok-requires
-all_fit-ok-requires c = omega (arith, children (goal.at.all_fit-ok-requires c).After-ratio-ratio, c.loop-column.invariant.1)
-
-pub overflow_add-here : goal.overflow_add-here
-overflow_add-here c = omega (arith, children (goal.at.overflow_add-here c).After-ratio-ratio)
+all_fit-ok-requires c = children (goal.at.all_fit-ok-requires c).In-loop-column
 
 pub loop-column-preserved : goal.loop-column-preserved
-loop-column-preserved c = let r = c in
-    let l = r.loop-column in
-    let s = r in
-    let e = r.ratio-ratio.ensures in (
-      l.invariant.0,
-      omega (arith, e),
-      omega arith,
-      row_more _ _ _ _ _ s.requires.row_under l.column r.loop-column-test.true s.args.cells.now l.invariant.1 e l.invariant.0 l.invariant.3 c.all_fit-ok.ensures,
-    )
-
-pub returns : goal.returns
-returns c = let q : c.loop-column.column ≡ c.args.width = omega arith in rw q at c.loop-column.invariant.3
+loop-column-preserved c = let l = c.loop-column in
+    let e = c.ratio-ratio.ensures in
+    row_more _ _ _ _ _ c.requires.row_under l.column c.loop-column-test.true c.args.cells.now (λ j. c.args.row.at + l.column * e j) e c.most_at-most.ensures l.invariant c.all_fit-ok.ensures

@@ -1,57 +1,12 @@
--- `nesting::rule_out_level` meets its contract. The invariant: the rows so far have ruled out their parents, and where the next begins.
--- Assumes nothing.
-use mathlib.Core.Path.{◌≡◌, refl, ◌∙◌}
-use Prim.Native.Nat.{◌+◌, ◌*◌}
+-- `nesting::rule_out_level` meets its contract. The invariant: the rows so far have ruled out their parents. Assumes nothing.
 use native.Mathlib.Omega.{arith}
-use Rattle.grid.specs.Plan.{ratio, rows_at}
-use Rattle.nesting.specs.Table.{RowUnder}
-use Rattle.nesting.proofs.Rows.{columns_are, row_under, row_in, over_in}
-use Rattle.nesting.proofs.Reactivable.{ruled_none, ruled_rows, ruled_length}
+use Rattle.nesting.proofs.Rows.{row_width}
+use Rattle.nesting.proofs.Reactivable.{ruled_none, ruled_rows}
 use Rattle.nesting.proofs.rule_out_level.Goals as goal
-use Rattle.nesting.proofs.rule_out_level.Goals.{After-coarser}
 
 pub loop-row-init : goal.loop-row-init
-loop-row-init c = (c.cell_offset-at.ensures ∙ omega arith, omega arith, refl, ruled_none _ _ _ _ _ (omega arith))
-
--- the row and the one above it
-under : (c : After-coarser) → let l = c in let s = l in
-    RowUnder s.args.plan s.args.level l.loop-row.at (l.cell_offset-first.result + c.coarser.result * l.columns_at-width.result) l.columns_at-width.result
-under c = let l = c in let s = l in
-    row_under s.args.plan s.args.level l.loop-row.row s.requires.cell_table.range s.requires.level_bound c.loop-row-test.true l.rows_at-rows.ensures l.loop-row.invariant.0
-    l.cell_offset-first.ensures l.columns_at-width.ensures c.coarser.ensures refl
-
-pub overflow_mul-over : goal.overflow_mul-over
-overflow_mul-over c = omega (arith, over_in _ _ _ _ _ (under (goal.at.overflow_mul-over c).After-coarser))
-
-pub overflow_add-over : goal.overflow_add-over
-overflow_add-over c = omega (arith, over_in _ _ _ _ _ (under (goal.at.overflow_add-over c).After-coarser))
-
-pub overflow_cast-at : goal.overflow_cast-at
-overflow_cast-at c = omega (arith, row_in _ _ _ _ _ (under (goal.at.overflow_cast-at c).After-coarser))
-
-pub overflow_cast-over : goal.overflow_cast-over
-overflow_cast-over c = omega (arith, over_in _ _ _ _ _ (under (goal.at.overflow_cast-over c).After-coarser))
-
-pub rule_out_row-requires : goal.rule_out_row-requires
-rule_out_row-requires c = let l = c in
-    let s = l in
-    record { by_index = (s.args.level, under (goal.at.rule_out_row-requires c).After-coarser); cells_len = (s.requires.cell_table.size, l.loop-row.invariant.2 ∙ s.requires.out_len) }
-
-pub overflow_add-at : goal.overflow_add-at
-overflow_add-at c = omega (arith, row_in _ _ _ _ _ (under (goal.at.overflow_add-at c).After-coarser), c.columns_at-columns.ensures)
+loop-row-init c = ruled_none _ _ _ _ _ (omega arith)
 
 pub loop-row-preserved : goal.loop-row-preserved
-loop-row-preserved c = let l = c in
-    let s = l in
-    let w = (λ j. l.columns_at-width.ensures j * ratio s.args.plan) ∙ columns_are s.args.plan s.args.level in
-    let e = ruled_rows _ _ _ _ l.loop-row.row _ _ l.loop-row.invariant.0 w l.loop-row.invariant.3 c.rule_out_row.ensures in
-    (omega (arith, l.columns_at-columns.ensures), omega arith, ruled_length _ _ _ _ _ e, e)
-
-pub shape_of-out : goal.shape_of-out
-shape_of-out c = c.loop-row.invariant.2
-
-pub returns : goal.returns
-returns c = let l = c.loop-row in
-    let s = c in
-    let q : l.row ≡ rows_at s.args.plan (s.args.level + 1) = omega (arith, c.rows_at-rows.ensures) in
-    rw q at l.invariant.3
+loop-row-preserved c = let below = c.of-below.ensures in
+    ruled_rows _ _ _ _ c.loop-row.row _ _ (rw below.1 at c.row.ensures.at_value) (rw below.1 at (row_width _ _ _ _ _ c.row.ensures.under)) c.loop-row.invariant c.rule_out_row.ensures

@@ -1,16 +1,11 @@
 -- `nesting::rule_out_level` meets its contract. The invariant: the rows so far have ruled out their parents, and where the next begins.
 -- Assumes nothing.
 use mathlib.Core.Path.{◌≡◌}
-use Prim.Native.Nat.{◌+◌, ◌-◌, ◌*◌, ◌≤◌}
-use lib.ListN.{length}
+use Prim.Native.Nat.{◌+◌, ◌*◌}
 use Rattle.facts.specs.Mapped.{mapped}
 use Rattle.grid.specs.Plan.{columns_at, cell_offset}
 use Rattle.nesting.specs.Reactivable.{ruled_out}
 use Rattle.nesting.proofs.rule_out_level.Given as goal
 
 abbrev pub invariant-loop-row : goal.invariant-loop-row
-invariant-loop-row l = (l.at ≡ cell_offset l.plan (l.level + 1) + l.row * columns_at l.plan (l.level + 1)) × (l.row ≤ l.rows) × (length l.out ≡ length l.initial.out)
-    × (l.out ≡ mapped (ruled_out l.plan l.cells (cell_offset l.plan (l.level + 1)) (l.row * columns_at l.plan (l.level + 1))) l.initial.out)
-
-abbrev pub decreases-loop-row : goal.decreases-loop-row
-decreases-loop-row l = l.rows - l.row
+invariant-loop-row l = l.out ≡ mapped (ruled_out l.plan l.cells (cell_offset l.plan (l.level + 1)) (l.row * columns_at l.plan (l.level + 1))) l.initial.out
