@@ -18,7 +18,7 @@ pub const MOST_NEAR: usize = 13806;
 
 // Document 01, "The plan": six numbers handed over by value. Document 02, Req 05: two more.
 #[repr(C)]
-#[derive(Clone, Copy)]
+#[derive(Clone, Copy, Default)]
 pub struct Plan {
     // cells across and up of level 0
     pub columns: u32,
