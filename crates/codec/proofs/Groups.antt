@@ -1,12 +1,14 @@
 -- A number read group by group at a place of the bytes, and the bytes of one written. Assumes nothing.
 use mathlib.Core.Path.{◌≡◌, refl, ap, ◌∙◌}
+use mathlib.Core.Bool.{Bool, true, false}
 use mathlib.Core.List.{List, [], ◌∷◌}
 use Prim.Native.Nat.{ℕ, zero, suc, ◌+◌, ◌-◌, ◌*◌, ◌/◌, ◌%◌, ◌<◌, ◌≤◌}
 use native.Mathlib.Numerals.{add-one}
 use native.Mathlib.Omega.{arith}
+use lib.Dec.{eqb}
 use lib.ListN.{length, drop, drop_of_length-le}
 use lib.Seq.{drop-cons}
-use borrow.Author.Tests.{lt-ltb, le-ltb, ne_eqb, eq-eqb}
+use borrow.Author.Tests.{lt-ltb, le-ltb, ne_eqb, eq-eqb, eqb-true, eqb-false}
 use Rattle.codec.specs.Fitting.{number_limit}
 use Rattle.codec.specs.Numbers.{Decoded, bad, got, above, decode_groups, decode_number, encode_groups, encode_number}
 use Rattle.codec.specs.Steps.{ByteAt, Found}
@@ -22,15 +24,15 @@ cut_none : (s : List ℕ) (at : ℕ) → decode_groups 0 (drop at s) ≡ bad
 unfolding decode_groups
 cut_none s at = refl
 
-module _ (k : ℕ) {s : List ℕ} {at x : ℕ} (b : ByteAt s at x) where
-  here : drop at s ≡ x ∷ drop (at + 1) s
-  here = rw (b.is, add-one) (drop-cons s at 0 b.inside)
+module _ (k : ℕ) {s : List ℕ} {at to x : ℕ} (b : ByteAt s at x) (n : to ≡ at + 1) where
+  here : drop at s ≡ x ∷ drop to s
+  here = rw (n, b.is, add-one) (drop-cons s at 0 b.inside)
 
-  group_last : x < 128 → decode_groups (suc k) (drop at s) ≡ got x (drop (at + 1) s)
+  group_last : x < 128 → decode_groups (suc k) (drop at s) ≡ got x (drop to s)
   unfolding decode_groups
   group_last l = ap (decode_groups (suc k)) here ∙ rw (lt-ltb x 128 l) refl
 
-  group_more : 128 ≤ x → decode_groups (suc k) (drop at s) ≡ above (x - 128) (decode_groups k (drop (at + 1) s))
+  group_more : 128 ≤ x → decode_groups (suc k) (drop at s) ≡ above (x - 128) (decode_groups k (drop to s))
   unfolding decode_groups
   group_more l = ap (decode_groups (suc k)) here ∙ rw (le-ltb x 128 l, lt-ltb x 256 b.small) refl
 
@@ -55,50 +57,57 @@ read_none s at h = cut 3 s at h
 module _ {s : List ℕ} {at x : ℕ} (b : ByteAt s at x) where
   pub read_one : x < 128 → Found s at x (at + 1)
   unfolding decode_number
-  read_one l = record { reads = group_last 2 b l; inside = omega (arith, b.inside); small = omega arith }
+  read_one l = record { reads = group_last 2 b refl l; inside = omega (arith, b.inside); small = omega arith }
 
   module _ (l : 128 ≤ x) where
     pub read_cut : length s ≤ at + 1 → decode_number (drop at s) ≡ bad
     unfolding decode_number
-    read_cut g = group_more 2 b l ∙ above_bad (x - 128) _ (cut 2 s (at + 1) g)
+    read_cut g = group_more 2 b refl l ∙ above_bad (x - 128) _ (cut 2 s (at + 1) g)
 
     module _ {y : ℕ} (b₂ : ByteAt s (at + 1) y) where
       pub read_long : y ≡ 0 → decode_number (drop at s) ≡ bad
       unfolding decode_number
-      read_long z = group_more 2 b l ∙ above_zero (x - 128) y _ _ (group_last 1 b₂ (omega arith)) z
+      read_long z = group_more 2 b refl l ∙ above_zero (x - 128) y _ _ (group_last 1 {to = at + 2} b₂ (omega arith) (omega arith)) z
 
-      pub read_two : (y ≡ 0 → ⊥) → y < 128 → Found s at ((x - 128) + 128 * y) (at + 1 + 1)
+      pub read_two : (y ≡ 0 → ⊥) → y < 128 → Found s at ((x - 128) + 128 * y) (at + 2)
       unfolding decode_number
       read_two z g = record {
-        reads = group_more 2 b l ∙ above_got (x - 128) y _ _ (group_last 1 b₂ g) z;
+        reads = group_more 2 b refl l ∙ above_got (x - 128) y _ _ (group_last 1 {to = at + 2} b₂ (omega arith) g) z;
         inside = omega (arith, b₂.inside);
         small = omega (arith, b.small);
       }
 
       module _ (l₂ : 128 ≤ y) where
-        pub read_cut_2 : length s ≤ at + 1 + 1 → decode_number (drop at s) ≡ bad
+        pub read_cut_2 : length s ≤ at + 2 → decode_number (drop at s) ≡ bad
         unfolding decode_number
-        read_cut_2 g = group_more 2 b l ∙ above_bad (x - 128) _ (group_more 1 b₂ l₂ ∙ above_bad (y - 128) _ (cut 1 s (at + 1 + 1) g))
+        read_cut_2 g = group_more 2 b refl l ∙ above_bad (x - 128) _ (group_more 1 {to = at + 2} b₂ (omega arith) l₂ ∙ above_bad (y - 128) _ (cut 1 s (at + 2) g))
 
-        module _ {w : ℕ} (b₃ : ByteAt s (at + 1 + 1) w) where
-          pub read_long_2 : w ≡ 0 → decode_number (drop at s) ≡ bad
+        module _ {w : ℕ} (b₃ : ByteAt s (at + 2) w) where
+          read_long_2 : w ≡ 0 → decode_number (drop at s) ≡ bad
           unfolding decode_number
-          read_long_2 z = group_more 2 b l ∙ above_bad (x - 128) _ (group_more 1 b₂ l₂ ∙ above_zero (y - 128) w _ _ (group_last 0 b₃ (omega arith)) z)
+          read_long_2 z = group_more 2 b refl l ∙ above_bad (x - 128) _ (group_more 1 {to = at + 2} b₂ (omega arith) l₂ ∙ above_zero (y - 128) w _ _ (group_last 0 {to = at + 3} b₃ (omega arith) (omega arith)) z)
 
-          pub read_three : (w ≡ 0 → ⊥) → w < 128 → Found s at ((x - 128) + 128 * ((y - 128) + 128 * w)) (at + 1 + 1 + 1)
+          pub read_three : (w ≡ 0 → ⊥) → w < 128 → Found s at ((x - 128) + 128 * ((y - 128) + 128 * w)) (at + 3)
           unfolding decode_number
           read_three z g =
               let p : ((y - 128) + 128 * w ≡ 0 → ⊥) = λ q. omega arith in
               record {
-                reads = group_more 2 b l ∙ above_got (x - 128) ((y - 128) + 128 * w) _ _ (group_more 1 b₂ l₂ ∙ above_got (y - 128) w _ _ (group_last 0 b₃ g) z) p;
+                reads = group_more 2 b refl l ∙ above_got (x - 128) ((y - 128) + 128 * w) _ _ (group_more 1 {to = at + 2} b₂ (omega arith) l₂ ∙ above_got (y - 128) w _ _ (group_last 0 {to = at + 3} b₃ (omega arith) g) z) p;
                 inside = omega (arith, b₃.inside);
                 small = omega (arith, b.small, b₂.small);
               }
 
-          pub read_four : 128 ≤ w → decode_number (drop at s) ≡ bad
+          read_four : 128 ≤ w → decode_number (drop at s) ≡ bad
           unfolding decode_number
-          read_four g = group_more 2 b l ∙ above_bad (x - 128) _ (group_more 1 b₂ l₂
-              ∙ above_bad (y - 128) _ (group_more 0 b₃ g ∙ above_bad (w - 128) _ (cut_none s (at + 1 + 1 + 1))))
+          read_four g = group_more 2 b refl l ∙ above_bad (x - 128) _ (group_more 1 {to = at + 2} b₂ (omega arith) l₂
+              ∙ above_bad (y - 128) _ (group_more 0 {to = at + 3} b₃ (omega arith) g ∙ above_bad (w - 128) _ (cut_none s (at + 3))))
+
+          pub read_other : (1 ≤ w → 128 ≤ w) → decode_number (drop at s) ≡ bad
+          read_other out = go (eqb w 0) refl
+            where
+              go : (z : Bool) → eqb w 0 ≡ z → decode_number (drop at s) ≡ bad
+              go true e = read_long_2 (eqb-true w 0 e)
+              go false e = let n = eqb-false w 0 e in read_four (out (omega arith))
 
 -- ---- the bytes of a number
 

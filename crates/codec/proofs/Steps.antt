@@ -1,4 +1,4 @@
--- What an answer of `read` and of `read_all` says, and numbers read one by one. Assumes nothing.
+-- Numbers read one by one. Assumes nothing.
 use mathlib.Core.Path.{◌≡◌, refl, sym, ap, ◌∙◌}
 use mathlib.Core.List.{List, [], ◌∷◌, ◌++◌, append_assoc, append-nil}
 use Prim.Native.Nat.{ℕ, suc, ◌+◌, ◌-◌, ◌≤◌, ◌<◌}
@@ -8,26 +8,7 @@ use native.Mathlib.Omega.{arith}
 use lib.ListN.{length, take, drop, set, length-set}
 use lib.Seq.{take_all, take-suc, take-set-le, get_or-set_same}
 use Rattle.codec.specs.Numbers.{bad, decode_number, bad_many, got_many, front, onward, decode_numbers}
-use Rattle.codec.specs.declared.Cursor.{Cursor}
-use Rattle.codec.specs.declared.Step.{Step}
-use Rattle.codec.specs.declared.Step.TheVariants.{Number, Bad}
-use Rattle.codec.specs.declared.Reached.{Reached}
-use Rattle.codec.specs.declared.Reached.TheVariants.{Place, Nowhere}
-use Rattle.codec.specs.Steps.{Found, ReadsAt, AllFound, ReadsAll}
-
-pub found : (s : List ℕ) (at : ℕ) (r : Step) (n : ℕ) (c : Cursor) → ReadsAt s at r → r ≡ Number n c → Found s at n c.at
-found s at r n c e q = rw q at e
-
-pub missing : (s : List ℕ) (at : ℕ) (r : Step) → ReadsAt s at r → r ≡ Bad → decode_number (drop at s) ≡ bad
-missing s at r e q = rw q at e
-
-pub all_found : (s : List ℕ) (at : ℕ) (ns : List ℕ) (r : Reached) (c : Cursor) → ReadsAll s at ns r → r ≡ Place c → AllFound s at ns c.at
-all_found s at ns r c e q = rw q at e
-
-pub all_missing : (s : List ℕ) (at : ℕ) (ns : List ℕ) (r : Reached) → ReadsAll s at ns r → r ≡ Nowhere → decode_numbers (length ns) (drop at s) ≡ bad_many
-all_missing s at ns r e q = rw q at e
-
--- ---- numbers one by one
+use Rattle.codec.specs.Steps.{Found}
 
 -- what is left of k numbers when i stand in the list xs: whoever reads it has read all of them
 pub record Left (s : List ℕ) (from k : ℕ) (xs : List ℕ) (at i : ℕ) : Type 0 where

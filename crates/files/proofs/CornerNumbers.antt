@@ -9,16 +9,13 @@ use lib.Dec.{eqb, eqb→eq}
 use lib.ListN.{length, get_or, drop, length-append, length-drop, drop_of_length-le}
 use Rattle.facts.proofs.Tests.{true_T, and_l, and_r}
 use Rattle.grid.specs.declared.Plan.{Plan}
-use Rattle.codec.specs.declared.Cursor.{Cursor}
 use Rattle.codec.specs.Numbers.{bad, Many, bad_many, got_many, encode_number, encode_numbers, decode_groups, decode_number, front, onward, decode_numbers}
 use Rattle.codec.specs.Fitting.{Small, none, more}
 use Rattle.codec.specs.Steps.{Found}
 use Rattle.codec.proofs.Numbers.{none_many, short}
 use Rattle.codec.proofs.Lists.{numbers_round, numbers_canonical}
-use Rattle.files.specs.declared.Corners.{Corners}
-use Rattle.files.specs.declared.Corners.TheVariants.{Pair, Wrong}
 use Rattle.files.specs.File.{no_corners, encode_corners, not_zeros, decode_corners}
-use Rattle.files.specs.Steps.{CornersFound, ReadsCorners}
+use Rattle.files.specs.Steps.{CornersFound}
 
 -- ---- both are 0, or not
 
@@ -116,12 +113,6 @@ corners_canonical (b ∷ s) ns rest e = on_numbers (decode_numbers 2 (b ∷ s)) 
     on_numbers (got_many ms r) q = on_test ms r q (no_corners (get_or ms 0 0) (get_or ms 1 0)) refl (rw q at e)
 
 -- ---- read at places
-
-pub corners_found : (s : List ℕ) (at : ℕ) (r : Corners) (a b : ℕ) (c : Cursor) → ReadsCorners s at r → r ≡ Pair a b c → CornersFound s at a b c.at
-corners_found s at r a b c h q = rw q at h
-
-pub corners_missing : (s : List ℕ) (at : ℕ) (r : Corners) → ReadsCorners s at r → r ≡ Wrong → decode_corners (drop at s) ≡ bad_many
-corners_missing s at r h q = rw q at h
 
 pub none_left : (s : List ℕ) (at : ℕ) → at ≤ length s → length s ≤ at → CornersFound s at 0 0 at
 unfolding decode_corners

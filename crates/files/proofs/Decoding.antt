@@ -11,12 +11,9 @@ use Rattle.codec.proofs.Lists.{numbers_canonical, small_at_lem}
 use Rattle.listing.specs.declared.End.{End}
 use Rattle.listing.specs.Judged.{CellsFound}
 use Rattle.listing.proofs.Judging.{ends_good}
-use Rattle.files.specs.declared.Outline.{Outline}
-use Rattle.files.specs.declared.Judged.{Judged}
-use Rattle.files.specs.declared.Judged.TheVariants.{Good, Refused}
 use Rattle.grid.specs.declared.Plan.{Plan}
 use Rattle.files.specs.File.{bad_file, decode_corners, with_corners, with_cells, with_head, decode_file}
-use Rattle.files.specs.Steps.{CornersFound, plan_with, numbers_of, cells_of, GoodFile, JudgesFile}
+use Rattle.files.specs.Steps.{CornersFound, plan_with, numbers_of, cells_of, GoodFile}
 
 pub file_no_head : (s : List ℕ) → decode_numbers 7 s ≡ bad_many → decode_file s ≡ bad_file
 unfolding decode_file with_head
@@ -48,11 +45,3 @@ module _ {s ns : List ℕ} {to : ℕ} (seven : length ns ≡ 7) (f : AllFound s 
     unfolding with_cells with_corners cells_of numbers_of
     file_good f p = rw p (ends_good 0 e.last (decode_rising (get_or ns 6 0) (drop to s)) (drop e.at s) k.reads (λ cs m l.
         record { file = file_cells ∙ rw (m, f.reads) refl; behind = drop e.at s; cells = k.reads; inside = f.inside }))
-
--- ---- what an answer of `judge` says
-
-pub judged_good : (s : List ℕ) (r : Judged) (h : Outline) → JudgesFile s r → r ≡ Good h → GoodFile s h
-judged_good s r h e q = rw q at e
-
-pub judged_bad : (s : List ℕ) (r : Judged) → JudgesFile s r → r ≡ Refused → decode_file s ≡ bad_file
-judged_bad s r e q = rw q at e

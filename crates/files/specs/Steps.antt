@@ -1,5 +1,5 @@
 -- What the contracts of the parts cite. Definitions only.
-use Rattle.std.specs.Prelude.{◌≡◌, Bool, not, cond, List, [], ◌∷◌, ◌++◌, ℕ, ◌≤◌, length, take, drop}
+use Rattle.std.specs.Prelude.{◌≡◌, Bool, not, cond, List, [], ◌∷◌, ◌++◌, ℕ, ◌≤◌, length, take, drop, Option, None, Some}
 use Rattle.grid.specs.declared.Plan.{Plan}
 use Rattle.grid.specs.Plan.{plan_of}
 use Rattle.mesh.specs.Mesh.{is_mesh, is_admissible}
@@ -7,10 +7,7 @@ use Rattle.outcomes.specs.Meets.{Lent}
 use Rattle.codec.specs.Numbers.{Many, bad_many, got_many, decode_rising}
 use Rattle.listing.specs.Judged.{ends, ends_of}
 use Rattle.files.specs.declared.Outline.{Outline}
-use Rattle.files.specs.declared.Judged.{Judged}
-use Rattle.files.specs.declared.Judged.TheVariants.{Good, Refused}
 use Rattle.files.specs.declared.Corners.{Corners}
-use Rattle.files.specs.declared.Corners.TheVariants.{Pair, Wrong}
 use Rattle.files.specs.declared.ReadAnswer.{ReadAnswer}
 use Rattle.files.specs.declared.WriteAnswer.{WriteAnswer}
 use Rattle.files.specs.File.{bad_file, got_file, decode_corners, decode_file, ReadOutcome, WriteOutcome}
@@ -30,9 +27,9 @@ pub record CornersFound (s : List ℕ) (at across up to : ℕ) : Type 0 where
   pub reads : decode_corners (drop at s) ≡ got_many (across ∷ up ∷ []) (drop to s)
   pub inside : to ≤ length s
 
-abbrev pub ReadsCorners : List ℕ → ℕ → Corners → Type 0
-ReadsCorners s at Wrong = decode_corners (drop at s) ≡ bad_many
-ReadsCorners s at (Pair across up c) = CornersFound s at across up c.at
+abbrev pub ReadsCorners : List ℕ → ℕ → Option Corners → Type 0
+ReadsCorners s at None = decode_corners (drop at s) ≡ bad_many
+ReadsCorners s at (Some c) = CornersFound s at c.across c.up c.end
 
 -- the plan of a head and corners
 abbrev pub plan_with : List ℕ → ℕ → ℕ → Plan
@@ -54,9 +51,9 @@ pub record GoodFile (s : List ℕ) (h : Outline) : Type 0 where
   -- the bytes from `end` on are left
   pub inside : h.end ≤ length s
 
-abbrev pub JudgesFile : List ℕ → Judged → Type 0
-JudgesFile s Refused = decode_file s ≡ bad_file
-JudgesFile s (Good h) = GoodFile s h
+abbrev pub JudgesFile : List ℕ → Option Outline → Type 0
+JudgesFile s None = decode_file s ≡ bad_file
+JudgesFile s (Some h) = GoodFile s h
 
 -- ---- rebuilding
 

@@ -9,13 +9,11 @@ ghost use Rattle.grid.specs.Bounds.{most_cells};
 ghost use Rattle.grid.specs.Plan.{cell_total};
 ghost use Rattle.mesh.specs.Mesh.{refusal3};
 ghost use Rattle.nesting.specs.Table.{CellTable, MeshTable};
-ghost use Rattle.files.specs.File.{no_corners, encode_corners, file_of, rebuilt, no_plan, answered_plan, read_mesh, write_text, write_mesh};
+ghost use Rattle.files.specs.File.{no_corners, encode_corners, file_of, rebuilt, answered_plan, read_mesh, write_text, write_mesh};
 ghost use Rattle.facts.specs.Numbers.{Clear};
 ghost use Rattle.files.specs.Steps.{left_by_read, left_by_write, ReadsCorners, plan_with, cells_of, GoodFile, JudgesFile, table_refusal};
 
-use codec::{Cursor, Reached, Step};
 use grid::{MOST_CELLS, Plan};
-use listing::Listed;
 
 // What reading answers: a refusal or 0, and the plan, all zeros with refusals 1, 2 and 12.
 #[repr(C)]
@@ -43,18 +41,12 @@ struct Outline {
     last: u64,
 }
 
-// Bytes that can be read, or refusal 12.
+// The corner numbers that a file ends with, both 0 where it has none, and the place behind them.
 #[derive(Clone, Copy)]
-enum Judged {
-    Good(Outline),
-    Refused,
-}
-
-// The corner numbers that a file ends with, both 0 where it has none, and the place behind them; or refusal 12.
-#[derive(Clone, Copy)]
-enum Corners {
-    Pair(u32, u32, Cursor),
-    Wrong,
+struct Corners {
+    across: u32,
+    up: u32,
+    end: usize,
 }
 
 // Neither direction has a corner.
@@ -65,84 +57,61 @@ fn no_corners(across: u32, up: u32) -> bool
 }
 
 // The corner numbers behind the last cell. A lone number and two zeros are refused.
-fn read_corners(s: &[u8], from: usize) -> Corners
+fn read_corners(s: &[u8], from: usize) -> Option<Corners>
     requires { from ≤ length s.now }
     ensures { ReadsCorners s.now from result }
 {
     if s.len() <= from {
-        return Corners::Pair(0, 0, Cursor { at: from });
+        return Some(Corners {
+            across: 0,
+            up: 0,
+            end: from,
+        });
     }
-    let Step::Number(across, c) = codec::read(s, Cursor { at: from }) else {
-        return Corners::Wrong;
-    };
-    let Step::Number(up, end) = codec::read(s, c) else {
-        return Corners::Wrong;
-    };
+    let (across, middle) = codec::read(s, from)?;
+    let (up, end) = codec::read(s, middle)?;
     let zeros = no_corners(across, up);
     if zeros {
-        return Corners::Wrong;
+        return None;
     }
-    Corners::Pair(across, up, end)
+    Some(Corners { across, up, end })
 }
 
 // The plan of a head, without its last number, which is the count, and of corners.
-fn plan_with(head: &[u32], across: u32, up: u32) -> Plan
-    requires { length head.now ≡ 7 }
+fn plan_with(head: &[u32; 7], across: u32, up: u32) -> Plan
     ensures { result ≡ plan_with head.now across up }
 {
+    let [columns, rows, levels, degree_across, degree_up, class, _] = *head;
     Plan {
-        columns: head[0],
-        rows: head[1],
-        levels: head[2],
-        degree_across: head[3],
-        degree_up: head[4],
-        class: head[5],
+        columns,
+        rows,
+        levels,
+        degree_across,
+        degree_up,
+        class,
         corners_across: across,
         corners_up: up,
     }
 }
 
-// Refusal 12, in one pass over the bytes: the head, as many cells as it counts, and the corners. What stands behind the last number is left
-// for later.
-fn judge(s: &[u8]) -> Judged
+// The head, as many cells as it counts, and the corners, in one pass over the bytes; none is refusal 12. What stands behind the last number
+// is left for later.
+fn judge(s: &[u8]) -> Option<Outline>
     ensures { JudgesFile s.now result }
 {
     let mut head = [0u32; 7];
-    let Reached::Place(c) = codec::read_all(s, Cursor { at: 0 }, &mut head) else {
-        return Judged::Refused;
-    };
-    let first = c.at;
+    let first = codec::read_all(s, 0, &mut head)?;
     let count = head[6];
-    let Listed::Cells(e) = listing::read_cells(s, first, count) else {
-        return Judged::Refused;
-    };
-    let Corners::Pair(across, up, end) = read_corners(s, e.at) else {
-        return Judged::Refused;
-    };
-    let plan = plan_with(&head, across, up);
-    Judged::Good(Outline {
+    let cells = listing::read_cells(s, first, count)?;
+    let corners = read_corners(s, cells.at)?;
+    let plan = plan_with(&head, corners.across, corners.up);
+    Some(Outline {
         plan,
         count,
         first,
-        end: end.at,
-        last: e.last,
+        end: corners.end,
+        last: cells.last,
     })
-}
-
-// A plan of zeros, which no mesh has.
-fn no_plan() -> Plan
-    ensures { result ≡ no_plan }
-{
-    Plan {
-        columns: 0,
-        rows: 0,
-        levels: 0,
-        degree_across: 0,
-        degree_up: 0,
-        class: 0,
-        corners_across: 0,
-        corners_up: 0,
-    }
 }
 
 // Refusals 1 to 3: the plan is answered with 3 alone.
@@ -152,7 +121,7 @@ fn refuse(number: u32, plan: Plan) -> ReadAnswer
     if (number == 1) | (number == 2) {
         return ReadAnswer {
             number,
-            plan: no_plan(),
+            plan: Plan::default(),
         };
     }
     ReadAnswer { number, plan }
@@ -213,10 +182,10 @@ fn restore(file: &[u8], outline: Outline, cells: &mut [u8], functions: &mut [u8]
 pub fn read(file: &[u8], cells: &mut [u8], functions: &mut [u8]) -> ReadAnswer
     ensures { left_by_read result cells functions ≡ read_mesh file.now cells.old functions.old }
 {
-    let Judged::Good(outline) = judge(file) else {
+    let Some(outline) = judge(file) else {
         return ReadAnswer {
             number: 12,
-            plan: no_plan(),
+            plan: Plan::default(),
         };
     };
     let plan = outline.plan;

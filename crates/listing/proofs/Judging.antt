@@ -2,7 +2,7 @@
 use mathlib.Core.Path.{◌≡◌, refl, ◌∙◌}
 use mathlib.Core.Bool.{Bool, true, false, cond}
 use mathlib.Core.List.{List, [], ◌∷◌}
-use Prim.Native.Nat.{ℕ, zero, suc, ◌+◌, ◌-◌, ◌<◌, ◌≤◌}
+use Prim.Native.Nat.{ℕ, zero, suc, ◌+◌, ◌<◌, ◌≤◌}
 use native.Mathlib.Omega.{arith}
 use lib.Dec.{T, eqb, ltb, ltb→lt, lt→ltb}
 use Rattle.facts.specs.Numbers.{all}
@@ -11,19 +11,9 @@ use lib.ListN.{length, drop}
 use borrow.Author.Tests.{ne_eqb, eq-eqb}
 use Rattle.codec.specs.Numbers.{Decoded, bad, got, Many, bad_many, got_many, decode_number, decode_behind, decode_rising, front, onward}
 use Rattle.codec.specs.Fitting.{Behind, last, next, Rising, empty, first}
-use Rattle.listing.specs.declared.Listed.{Listed}
-use Rattle.listing.specs.declared.Listed.TheVariants.{Cells, NoCells}
 use Rattle.listing.specs.declared.End.{End}
 use Rattle.codec.specs.Steps.{Found}
-use Rattle.listing.specs.Judged.{bad_ends, ends, last_of, ends_of, onward_ends, judge_behind, CellsFound, ReadsCells}
-
--- ---- what an answer of `read_cells` says
-
-pub cells_found : (s : List ℕ) (at n : ℕ) (r : Listed) (e : End) → ReadsCells s at n r → r ≡ Cells e → CellsFound s at n e
-cells_found s at n r e h q = rw q at h
-
-pub cells_missing : (s : List ℕ) (at n : ℕ) (r : Listed) → ReadsCells s at n r → r ≡ NoCells → decode_rising n (drop at s) ≡ bad_many
-cells_missing s at n r h q = rw q at h
+use Rattle.listing.specs.Judged.{bad_ends, ends, last_of, ends_of, onward_ends, judge_behind, CellsFound}
 
 -- ---- cells without memory
 
@@ -51,7 +41,7 @@ ends_behind (suc k) p s = on_number (decode_number s) (λ d r. ends_behind k (p 
 ends_bad : (p : ℕ) (m : Many) → ends_of p m ≡ bad_ends → m ≡ bad_many
 unfolding ends_of
 ends_bad p bad_many e = refl
-ends_bad p (got_many cs s) e = absurd (let z : ◌≡◌ {A = ℕ} 0 1 = cc in let w : ⊥ = omega arith in w)
+ends_bad p (got_many cs s) e = cc
 
 -- the first cell was read
 module _ {s : List ℕ} {at c to : ℕ} (count left : ℕ) (h : count ≡ suc left) (f : Found s at c to) where
@@ -82,12 +72,9 @@ module _ {s : List ℕ} {at d to : ℕ} (f : Found s at d to) where
   judge_zero zero p h z = absurd (let w : ⊥ = omega arith in w)
   judge_zero (suc k) p h z = rw (f.reads, eq-eqb d 0 z) refl
 
-  pub judge_more : (left p : ℕ) → 0 < left → (d ≡ 0 → ⊥) → judge_behind left p (drop at s) ≡ judge_behind (left - 1) (p + d) (drop to s)
+  pub judge_more : (left less p : ℕ) → left ≡ suc less → (d ≡ 0 → ⊥) → judge_behind left p (drop at s) ≡ judge_behind less (p + d) (drop to s)
   unfolding judge_behind onward_ends
-  judge_more zero p h z = absurd (let w : ⊥ = omega arith in w)
-  judge_more (suc k) p h z =
-      let e : suc k - 1 ≡ k = omega arith in
-      rw (e, f.reads, ne_eqb d 0 z) refl
+  judge_more left less p h z = rw (h, f.reads, ne_eqb d 0 z) refl
 
 pub judge_end : (left p : ℕ) (s : List ℕ) → left ≤ 0 → judge_behind left p s ≡ ends p s
 unfolding judge_behind
@@ -96,7 +83,7 @@ judge_end left p s h = let e : left ≡ 0 = omega arith in rw e refl
 -- what was judged good is good
 pub ends_good : {C : Type 0} (p l : ℕ) (m : Many) (s : List ℕ) → ends_of p m ≡ ends l s → ((cs : List ℕ) → m ≡ got_many cs s → last_of p cs ≡ l → C) → C
 unfolding ends_of
-ends_good p l bad_many s e f = absurd (let z : ◌≡◌ {A = ℕ} 0 1 = cc in let w : ⊥ = omega arith in w)
+ends_good p l bad_many s e f = cc
 ends_good p l (got_many cs t) s e f = let q : t ≡ s = cc in f cs (rw q refl) (cc)
 
 -- ---- all cells are below t just where the last is

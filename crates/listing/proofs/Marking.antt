@@ -2,7 +2,7 @@
 use mathlib.Core.Path.{◌≡◌, refl, sym, ◌∙◌}
 use mathlib.Core.Bool.{Bool, true, false, cond}
 use mathlib.Core.List.{List}
-use Prim.Native.Nat.{ℕ, zero, suc, ◌+◌, ◌-◌, ◌<◌, ◌≤◌}
+use Prim.Native.Nat.{ℕ, zero, suc, ◌+◌, ◌<◌, ◌≤◌}
 use native.Mathlib.Omega.{arith}
 use lib.Dec.{eqb}
 use lib.ListN.{drop, set}
@@ -14,7 +14,7 @@ use Rattle.listing.proofs.Judging.{judge_zero, judge_more}
 use Rattle.listing.specs.Cells.{marked, marked_by}
 
 pub bad_ends_lem : {C : Type 0} {l : ℕ} {s : List ℕ} → bad_ends ≡ ends l s → C
-bad_ends_lem e = absurd (let z : ◌≡◌ {A = ℕ} 0 1 = cc in let w : ⊥ = omega arith in w)
+bad_ends_lem e = cc
 
 marked_front : (c : ℕ) (m : Many) (t : List ℕ) → marked_by (front c m) t ≡ marked_by m (set t c 2)
 unfolding marked_by marked front
@@ -38,19 +38,16 @@ module _ {s : List ℕ} {at c to : ℕ} (f : Found s at c to) where
   unfolding decode_rising onward
   mark_first count left t h = rw (h, f.reads) (marked_front c (decode_behind left c (drop to s)) t)
 
-  pub mark_more : (left p : ℕ) (t : List ℕ) → 0 < left → (c ≡ 0 → ⊥)
-      → marked_by (decode_behind left p (drop at s)) t ≡ marked_by (decode_behind (left - 1) (p + c) (drop to s)) (set t (p + c) 2)
+  pub mark_more : (left less p : ℕ) (t : List ℕ) → left ≡ suc less → (c ≡ 0 → ⊥)
+      → marked_by (decode_behind left p (drop at s)) t ≡ marked_by (decode_behind less (p + c) (drop to s)) (set t (p + c) 2)
   unfolding decode_behind onward
-  mark_more zero p t h z = absurd (let w : ⊥ = omega arith in w)
-  mark_more (suc k) p t h z =
-      let e : suc k - 1 ≡ k = omega arith in
-      rw (e, f.reads, ne_eqb c 0 z) (marked_front (p + c) (decode_behind k (p + c) (drop to s)) t)
+  mark_more left less p t h z = rw (h, f.reads, ne_eqb c 0 z) (marked_front (p + c) (decode_behind less (p + c) (drop to s)) t)
 
   pub not_zero : (left p l : ℕ) (r : List ℕ) → 0 < left → judge_behind left p (drop at s) ≡ ends l r → c ≡ 0 → ⊥
   not_zero left p l r h e z = bad_ends_lem (sym (judge_zero f left p h z) ∙ e)
 
-  pub next_judged : (left p l : ℕ) (r : List ℕ) → 0 < left → judge_behind left p (drop at s) ≡ ends l r → judge_behind (left - 1) (p + c) (drop to s) ≡ ends l r
-  next_judged left p l r h e = sym (judge_more f left p h (not_zero left p l r h e)) ∙ e
+  next_judged : (left less p l : ℕ) (r : List ℕ) → left ≡ suc less → judge_behind left p (drop at s) ≡ ends l r → judge_behind less (p + c) (drop to s) ≡ ends l r
+  next_judged left less p l r h e = sym (judge_more f left less p h (not_zero left p l r (omega arith) e)) ∙ e
 
 -- a number that is at most the last
 pub judge_le : (k p : ℕ) (s : List ℕ) (f : ℕ) (r : List ℕ) → judge_behind k p s ≡ ends f r → p ≤ f
@@ -66,3 +63,7 @@ judge_le (suc k) p s f r e = on_number (decode_number s) e (λ d t. judge_le k (
         → ((d : ℕ) (t : List ℕ) → judge_behind k (p + d) t ≡ ends f r → p + d ≤ f) → p ≤ f
     on_number bad q i = bad_ends_lem q
     on_number (got d t) q i = on_test d t (eqb d 0) q (i d t)
+
+-- the next cell is at most the last
+pub next_le : {s : List ℕ} {at c to : ℕ} (f : Found s at c to) (left less p l : ℕ) (r : List ℕ) → left ≡ suc less → judge_behind left p (drop at s) ≡ ends l r → p + c ≤ l
+next_le {s} {at} {c} {to} f left less p l r h e = judge_le less (p + c) (drop to s) l r (next_judged f left less p l r h e)

@@ -1,9 +1,7 @@
 -- Listed cells judged without memory: the last one and the bytes behind it. Definitions only.
-use Rattle.std.specs.Prelude.{◌≡◌, cond, List, [], ◌∷◌, ℕ, zero, suc, ◌+◌, ◌≤◌, ◌<◌, eqb, length, drop}
+use Rattle.std.specs.Prelude.{◌≡◌, cond, List, [], ◌∷◌, ℕ, zero, suc, ◌+◌, ◌≤◌, ◌<◌, eqb, length, drop, Option, None, Some}
 use Rattle.codec.specs.Numbers.{Decoded, bad, got, Many, bad_many, got_many, decode_number, decode_rising}
 use Rattle.listing.specs.declared.End.{End}
-use Rattle.listing.specs.declared.Listed.{Listed}
-use Rattle.listing.specs.declared.Listed.TheVariants.{Cells, NoCells}
 
 pub data Ends : Type 0 where
   bad_ends : Ends
@@ -32,9 +30,9 @@ pub record CellsFound (s : List ℕ) (at count : ℕ) (e : End) : Type 0 where
   pub reads : ends_of 0 (decode_rising count (drop at s)) ≡ ends e.last (drop e.at s)
   pub inside : e.at ≤ length s
 
-abbrev pub ReadsCells : List ℕ → ℕ → ℕ → Listed → Type 0
-ReadsCells s at count NoCells = decode_rising count (drop at s) ≡ bad_many
-ReadsCells s at count (Cells e) = CellsFound s at count e
+abbrev pub ReadsCells : List ℕ → ℕ → ℕ → Option End → Type 0
+ReadsCells s at count None = decode_rising count (drop at s) ≡ bad_many
+ReadsCells s at count (Some e) = CellsFound s at count e
 
 -- cells that stand in the bytes from a place on, and the last is below a table's length
 pub record Markable (s : List ℕ) (at count size : ℕ) : Type 0 where

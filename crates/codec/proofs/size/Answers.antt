@@ -4,11 +4,11 @@ use native.Mathlib.Omega.{arith}
 use Rattle.codec.proofs.Groups.{bytes_one, bytes_two, bytes_three}
 use Rattle.codec.proofs.size.Goals as goal
 
-pub returns-then-n-lt128 : goal.returns-then-n-lt128
-returns-then-n-lt128 c = rw (bytes_one c.args.n c.if-n-lt128.true) refl
+pub returns-in-0-to-127 : goal.returns-in-0-to-127
+returns-in-0-to-127 c = rw (bytes_one c.args.n (omega arith)) refl
 
-pub returns-then-n-lt16384 : goal.returns-then-n-lt16384
-returns-then-n-lt16384 c = rw (bytes_two c.args.n (omega arith) (omega arith)) refl
+pub returns-in-128-to-16383 : goal.returns-in-128-to-16383
+returns-in-128-to-16383 c = rw (bytes_two c.args.n (omega arith) (omega arith)) refl
 
-pub returns-else-n-lt16384 : goal.returns-else-n-lt16384
-returns-else-n-lt16384 c = rw (bytes_three c.args.n (omega arith) (omega arith)) refl
+pub returns-in_default : goal.returns-in_default
+returns-in_default c = rw (bytes_three c.args.n (omega arith) (omega arith)) refl
