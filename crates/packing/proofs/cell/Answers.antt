@@ -3,4 +3,4 @@ use native.Mathlib.Omega.{arith}
 use Rattle.packing.proofs.cell.Goals as goal
 
 pub returns : goal.returns
-returns c = let s = c in (c.wide.ensures, omega (arith, s.requires.1 s.args.at))
+returns c = (omega arith, omega (arith, c.requires.1 c.args.at))
