@@ -45,7 +45,7 @@ pub fn count_active(present: &[u64], refined: &[u64]) -> u32
 {
     let mut count = 0;
     for (w, held) in present.iter().enumerate() {
-        count += u64::count_ones(*held & !refined[w]);
+        count += (*held & !refined[w]).count_ones();
     }
     count
 }
@@ -57,7 +57,7 @@ pub fn count_set(plane: &[u64]) -> u32
 {
     let mut count = 0;
     for word in plane {
-        count += u64::count_ones(*word);
+        count += word.count_ones();
     }
     count
 }

@@ -11,10 +11,6 @@ pub loop-w-init : goal.loop-w-init
 unfolding sum
 loop-w-init c = (omega arith, refl)
 
-pub overflow_add-count : goal.overflow_add-count
-unfolding active_ones
-overflow_add-count c = omega (arith, active_few c.args.present.now c.args.refined.now c.loop-w.w (c.type_inv.present c.loop-w.w).fits)
-
 pub loop-w-preserved : goal.loop-w-preserved
 unfolding active_ones
 loop-w-preserved c = let l = c.loop-w in

@@ -11,9 +11,6 @@ pub loop-word-init : goal.loop-word-init
 unfolding sum
 loop-word-init c = (omega arith, refl)
 
-pub overflow_add-count : goal.overflow_add-count
-overflow_add-count c = omega (arith, ones_few _ (c.type_inv.plane c.loop-word.word-index).fits)
-
 pub loop-word-preserved : goal.loop-word-preserved
 unfolding ones_at
 loop-word-preserved c = let l = c.loop-word in

