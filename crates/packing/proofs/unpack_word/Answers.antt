@@ -12,9 +12,6 @@ use Rattle.packing.proofs.unpack_word.Goals as goal
 pub loop-four-init : goal.loop-four-init
 loop-four-init c = record { present = sym (div-one _); refined = sym (div-one _); bytes = filled_none 0 _ _ }
 
-pub spread_cells-bytes-requires : goal.spread_cells-bytes-requires
-spread_cells-bytes-requires c = record { present_bound = (omega arith, omega arith); spreads = c.requires.spreads }
-
 pub loop-four-preserved : goal.loop-four-preserved
 loop-four-preserved c = let l = c.loop-four in
     let a = c.args in
@@ -31,6 +28,3 @@ loop-four-preserved c = let l = c.loop-four in
           (c.byte_of-in-loop-four-2.ensures ∙ (byte_2 l.p l.r _ z ∙ w 2))
           (c.byte_of-in-loop-four-3.ensures ∙ (byte_3 l.p l.r _ z ∙ w 3));
     })
-
-pub returns : goal.returns
-returns c = let q : c.loop-four.four ≡ 16 = omega arith in rw q at c.loop-four.invariant.bytes

@@ -14,12 +14,6 @@ pub loop-c-init : goal.loop-c-init
 loop-c-init c = let a = c.args in
     rw (words_none a.plan a.functions.now a.heights.now a.cells.now) (writes_none a.out.now 0)
 
-pub overflow_cast-c : goal.overflow_cast-c
-overflow_cast-c c = let s = c in omega (arith, s.requires.cells_len, s.requires.ready.small)
-
-pub cell_place-place-requires : goal.cell_place-place-requires
-cell_place-place-requires c = let s = c in record { in_range = s.requires.ready.range; cell_bound = omega (arith, s.requires.cells_len) }
-
 pub put_cell-at-requires : goal.put_cell-at-requires
 put_cell-at-requires c = let s = c in
     let a = s.args in
@@ -37,12 +31,6 @@ loop-c-preserved c = let s = c in
           rw (w.out-is, w.at-is) (turn a.plan a.functions.now a.heights.now a.cells.now l.c {out = a.out.now} {mid = l.out} (omega (arith, s.requires.cells_len)) w.if-cell-eq1.true w.cell_place-place.ensures s.requires.cells_in_bounds l.invariant w.put_cell-at.ensures)
       | else-cell-eq1 w ↦ rw (w.out-is, w.at-is, words_no a.plan a.functions.now a.heights.now a.cells.now l.c w.if-cell-eq1.false) l.invariant
     ]
-
-pub shape_of-out : goal.shape_of-out
-shape_of-out c = let s = c in
-    let a = s.args in
-    let l = c.loop-c in
-    kept a.plan a.functions.now a.heights.now a.cells.now l.c {new = l.out} (omega (arith, s.requires.cells_len)) s.requires.cells_in_bounds l.invariant
 
 pub returns : goal.returns
 returns c = let s = c in
