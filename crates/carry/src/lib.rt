@@ -19,10 +19,8 @@ pub fn only_active(functions: &[u8], heights: &[i32], out: &mut [i32])
     requires { (length functions.now ≡ length heights.now) × (length out.old ≡ length heights.now) }
     ensures { out.new ≡ only_active functions.now heights.now }
 {
-    let mut i = 0;
-    while i < heights.len() {
-        out[i] = if functions[i] == 1 { heights[i] } else { 0 };
-        i += 1;
+    for (i, height) in heights.iter().enumerate() {
+        out[i] = if functions[i] == 1 { *height } else { 0 };
     }
 }
 
@@ -39,13 +37,10 @@ fn pass_row(heights: &mut [i32], begin: usize, children: Children, height: i32)
     requires { RowRoom begin children height heights.old }
     ensures { heights.new ≡ row_passed begin children height heights.old }
 {
-    let last = children.last;
-    let mut j = children.first;
-    while j <= last {
+    for j in children.first..children.last + 1 {
         let at = begin + j as usize;
         let own = heights[at];
         heights[at] = own + part_of(height, children.quarters(j));
-        j += 1;
     }
 }
 
@@ -62,14 +57,10 @@ fn pass_function(
     ensures { heights.new ≡ block_passed f offset width up across heights.old }
 {
     let height = heights[f];
-    let kept = 0;
-    heights[f] = kept;
-    let last = up.last;
-    let mut row = up.first;
-    while row <= last {
+    heights[f] = 0;
+    for row in up.first..up.last + 1 {
         let begin = offset + row as usize * width;
         pass_row(heights, begin, across, part_of(height, up.quarters(row)));
-        row += 1;
     }
 }
 
@@ -84,14 +75,12 @@ fn pass_functions(plan: Plan, functions: &[u8], level: u32, row: u32, heights: &
     let begin = plan.function_offset(level) + row * count;
     let offset = plan.function_offset(level + 1) as usize;
     let width = plan.function_columns_at(level + 1) as usize;
-    let mut column = 0;
-    while column < count {
+    for column in 0..count {
         let f = (begin + column) as usize;
         if (functions[f] == 2) & (heights[f] != 0) {
             let across = twoscale::children_of(plan.across_at(level), column);
             pass_function(f, up, across, offset, width, heights);
         }
-        column += 1;
     }
 }
 
@@ -102,10 +91,8 @@ fn pass_level(plan: Plan, functions: &[u8], level: u32, heights: &mut [i32])
     ensures { heights.new ≡ carried_from plan functions.now (function_offset plan level) (function_rows_at plan level * function_columns_at plan level) heights.old }
 {
     let rows = plan.function_rows_at(level);
-    let mut row = 0;
-    while row < rows {
+    for row in 0..rows {
         pass_functions(plan, functions, level, row, heights);
-        row += 1;
     }
 }
 
@@ -117,10 +104,8 @@ fn carry_on(plan: Plan, functions: &[u8], heights: &mut [i32])
     ensures { heights.new ≡ carried plan functions.now (function_total plan) heights.old }
 {
     let last = plan.levels - 1;
-    let mut level = 0;
-    while level < last {
+    for level in 0..last {
         pass_level(plan, functions, level, heights);
-        level += 1;
     }
 }
 

@@ -1,7 +1,7 @@
 -- Points of a mesh are points of each level's sides; what makes a millimetre. Assumes nothing.
 use mathlib.Core.Path.{◌≡◌, refl, sym, ap, ◌∙◌}
 use Prim.Native.Nat.{ℕ, zero, suc, ◌+◌, ◌-◌, ◌*◌, ◌^◌, ◌≤◌, ◌<◌}
-use native.Mathlib.Nat.{add_assoc, mul-le-mul_left, pow-zero, pow-suc}
+use native.Mathlib.Nat.{add_assoc, mul-le-mul_left, pow-suc}
 use native.Mathlib.Omega.{arith}
 use lib.Dec.{leb, leb→le}
 use lib.Pow.{pow-add, pow_pos, pow_mono}
@@ -30,10 +30,6 @@ module _ (p : Plan) (k : ℕ) where
   eighths_small l = mul-le-mul_left 8 (pow_mono {i = p.levels - 1 - k} {j = 3} (omega arith))
 
   -- from the last level up
-  pub eighths_last : k + 1 ≡ p.levels → eighths p k ≡ 8
-  unfolding eighths
-  eighths_last e = let z : p.levels - 1 - k ≡ 0 = omega arith in rw (z, pow-zero)
-
   pub eighths_up : 1 ≤ k → k < p.levels → eighths p k * ratio p ≡ eighths p (k - 1)
   unfolding eighths
   eighths_up g l = let z : p.levels - 1 - (k - 1) ≡ suc (p.levels - 1 - k) = omega arith in rw (z, pow-suc) (omega arith)

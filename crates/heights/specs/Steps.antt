@@ -1,5 +1,5 @@
--- What the steps of a call have: heights of a level that are low, a row and a level of the functions over a point. Definitions only.
-use Rattle.std.specs.Prelude.{◌≡◌, List, ℕ, ◌+◌, ◌*◌, ◌^◌, ◌≤◌, ◌<◌, T, ℤ, pos, neg_ℤ, nat_abs, Float, length}
+-- What the steps of a call have: a row and a level of the functions over a point. Definitions only.
+use Rattle.std.specs.Prelude.{◌≡◌, List, ℕ, ◌+◌, ◌*◌, ◌≤◌, ◌<◌, T, ℤ, pos, nat_abs, Float, length}
 use Rattle.exact.specs.Dyadic.{dyadic}
 use Rattle.exact.specs.Sums.{sumℤ}
 use Rattle.grid.specs.declared.Plan.{Plan}
@@ -7,16 +7,7 @@ use Rattle.grid.specs.Plan.{function_columns_at, function_rows_at, function_offs
 use Rattle.grid.specs.Range.{InRange}
 use Rattle.splines.specs.declared.LocalValues.{LocalValues}
 use Rattle.splines.specs.Local.{piece_of}
-use Rattle.heights.specs.declared.limits.Limits.{Limits}
 use Rattle.heights.specs.Heights.{on_mesh, product_of, product_at, places, all_low}
-
--- ---- low heights
-
--- what is low on level k
-pub record Limit (k : ℕ) (r : Limits) : Type 0 where
-  pub level< : k < 4
-  pub least : r.least ≡ neg_ℤ (pos (65536 * 16 ^ k))
-  pub most : r.most ≡ pos (65536 * 16 ^ k)
 
 -- ---- what the refusals leave
 

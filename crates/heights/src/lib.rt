@@ -45,13 +45,7 @@ fn eighths(plan: Plan, level: u32) -> u32
     requires { (plan.levels ≤ 4) × (level < plan.levels) }
     ensures { (result ≡ eighths plan level) × (result ≤ 64) }
 {
-    let mut parts = 8;
-    let mut finer = plan.levels - 1;
-    while level < finer {
-        parts = parts * plan.ratio();
-        finer -= 1;
-    }
-    parts
+    plan.grown(8, plan.levels - 1 - level)
 }
 
 // One part of a sum, in millimetres.
@@ -60,10 +54,8 @@ fn unit(levels: u32) -> f64
     ensures { result ≡ dyadic (places levels) (pos 1) }
 {
     let mut unit = 0.0009765625;
-    let mut level = 0;
-    while level < levels {
+    for _level in 0..levels {
         unit = unit * 0.0625;
-        level += 1;
     }
     unit
 }
@@ -112,10 +104,8 @@ pub fn height_at(plan: Plan, functions: &[u8], heights: &[i32], across: u32, up:
     let levels = plan.levels;
     let unit = unit(levels);
     let mut sum = 0.0;
-    let mut level = 0;
-    while level < levels {
+    for level in 0..levels {
         sum = sum + level_height(plan, functions, heights, level, across, up, unit);
-        level += 1;
     }
     sum
 }
@@ -142,12 +132,9 @@ pub fn all_low(plan: Plan, functions: &[u8], heights: &[i32]) -> bool
     requires functions_len { (length functions.now ≡ function_total plan) × (length heights.now ≡ function_total plan) }
     ensures { result ≡ all_low plan functions.now heights.now }
 {
-    let levels = plan.levels;
     let mut ok = true;
-    let mut level = 0;
-    while level < levels {
+    for level in 0..plan.levels {
         ok = ok & limits::level_low(plan, functions, heights, level);
-        level += 1;
     }
     ok
 }

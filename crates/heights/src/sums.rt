@@ -31,15 +31,12 @@ fn row(
     requires unit { Unit levels unit }
     ensures { result ≡ dyadic (places levels) (row_sum functions.now heights.now first across value) }
 {
-    let degree = across.degree;
     let mut sum = 0.0;
-    let mut j = 0;
-    while j <= degree {
+    for j in 0..across.degree + 1 {
         let at = first + j as usize;
         if functions[at] == 1 {
             sum = sum + product(heights[at], across.value(j) * value, levels, unit);
         }
-        j += 1;
     }
     sum
 }
@@ -59,13 +56,10 @@ pub fn rows(
     requires unit { Unit levels unit }
     ensures { result ≡ dyadic (places levels) (level_sum functions.now heights.now first width across up) }
 {
-    let degree = up.degree;
     let mut sum = 0.0;
-    let mut i = 0;
-    while i <= degree {
+    for i in 0..up.degree + 1 {
         let begin = first + i as usize * width;
         sum = sum + row(functions, heights, begin, across, up.value(i), levels, unit);
-        i += 1;
     }
     sum
 }

@@ -29,16 +29,16 @@ word_byte_lem P R i w j l =
 
 -- ---- a word's bits, from the last four cells to the first
 
-module _ (test : ℕ → Bool) (at left x : ℕ) (some : 4 ≤ left) (few : left ≤ 64) (e : x ≡ word_from (64 - left) (at + left) test) where
+module _ (test : ℕ → Bool) (at four x : ℕ) (some : 0 < four) (few : four ≤ 16) (e : x ≡ word_from (64 - 4 * four) (at + 4 * four) test) where
   -- there is room for four bits more
   pub word_room : x < 2 ^ 60
-  word_room = rw e (lt_of_lt_of_le (word_lt test (64 - left) (at + left)) (pow_mono {i = 64 - left} {j = 60} (omega arith)))
+  word_room = rw e (lt_of_lt_of_le (word_lt test (64 - 4 * four) (at + 4 * four)) (pow_mono {i = 64 - 4 * four} {j = 60} (omega arith)))
 
-  pub word_turn : (b : ℕ) → b ≡ word_from 4 (at + (left - 4)) test → b + 16 * x ≡ word_from (64 - (left - 4)) (at + (left - 4)) test
+  pub word_turn : (b : ℕ) → b ≡ word_from 4 (at + 4 * (four - 1)) test → b + 16 * x ≡ word_from (64 - 4 * (four - 1)) (at + 4 * (four - 1)) test
   unfolding word_from
   word_turn b q =
-      let a : at + left ≡ suc (suc (suc (suc (at + (left - 4))))) = omega arith in
-      let n : 64 - (left - 4) ≡ suc (suc (suc (suc (64 - left)))) = omega arith in
+      let a : at + 4 * four ≡ suc (suc (suc (suc (at + 4 * (four - 1))))) = omega arith in
+      let n : 64 - 4 * (four - 1) ≡ suc (suc (suc (suc (64 - 4 * four)))) = omega arith in
       rw (n, e, q, a) (omega arith)
 
 -- the bits of four cells in each plane

@@ -1,8 +1,8 @@
--- Four cells at a time: their number among 81, and the table of their bits. Assumes nothing.
+-- Four cells at a time: the table of their bits, by their number among 81. Assumes nothing.
 use mathlib.Core.Path.{◌≡◌}
 use mathlib.Core.Bool.{Bool}
 use mathlib.Core.List.{List, [], ◌∷◌}
-use Prim.Native.Nat.{ℕ, suc, ◌+◌, ◌*◌, ◌/◌, ◌%◌, ◌≤◌}
+use Prim.Native.Nat.{ℕ, suc, ◌+◌, ◌≤◌}
 use native.Mathlib.Numerals.{add-one}
 use native.Mathlib.Omega.{arith}
 use lib.Dec.{T, eqb, eqb→eq}
@@ -26,21 +26,6 @@ each test t a b c d la lb lc ld =
     let tb = every_e 3 (λ b. every 3 (λ c. every 3 (test a b c))) ta b (omega arith) in
     let tc = every_e 3 (λ c. every 3 (test a b c)) tb c (omega arith) in
     every_e 3 (test a b c) tc d (omega arith)
-
--- ---- their number, from the product
-
-abbrev product : ℕ → ℕ → ℕ → ℕ → ℕ
-product a b c d = (a + 256 * b + 65536 * c + 16777216 * d) * 16976155
-
-abbrev numbered : Test
-numbered a b c d = eqb (product a b c d / 16777216 % 256) (number_of (a ∷ b ∷ c ∷ d ∷ []) 0)
-
-all_numbered : T (passes numbered)
-unfolding every
-all_numbered = tt
-
-pub number_is : (a b c d : ℕ) → a ≤ 2 → b ≤ 2 → c ≤ 2 → d ≤ 2 → product a b c d / 16777216 % 256 ≡ a + (3 * b + (9 * c + 27 * d))
-number_is a b c d la lb lc ld = eqb→eq _ _ (each numbered all_numbered a b c d la lb lc ld)
 
 -- ---- the table
 

@@ -41,8 +41,8 @@ fn unpack_word(table: &[u64; 16], present: u64, refined: u64, part: &mut [u8])
 {
     let mut p = present;
     let mut r = refined;
-    let mut at: usize = 0;
-    while at < 64 {
+    for four in 0..16 {
+        let at = 4 * four;
         let bytes = spread_cells(table, p % 16, r % 16);
         part[at] = byte_of(bytes, 1);
         part[at + 1] = byte_of(bytes, 256);
@@ -50,7 +50,6 @@ fn unpack_word(table: &[u64; 16], present: u64, refined: u64, part: &mut [u8])
         part[at + 3] = byte_of(bytes, 16777216);
         p = p / 16;
         r = r / 16;
-        at += 4;
     }
 }
 
@@ -64,12 +63,8 @@ pub fn unpack(present: &[u64], refined: &[u64], bytes: &mut [u8])
         0u64, 1, 256, 257, 65536, 65537, 65792, 65793, 16777216, 16777217, 16777472, 16777473,
         16842752, 16842753, 16843008, 16843009,
     ];
-    let mut at: usize = 0;
-    let mut w = 0;
-    while w < present.len() {
-        unpack_word(&table, present[w], refined[w], &mut bytes[at..]);
-        at += 64;
-        w += 1;
+    for (w, held) in present.iter().enumerate() {
+        unpack_word(&table, *held, refined[w], &mut bytes[64 * w..]);
     }
 }
 
@@ -80,18 +75,12 @@ pub struct Pair {
     pub refined: u64,
 }
 
-fn wide(byte: u8) -> u64
-    ensures { result ≡ byte }
-{
-    byte as u64
-}
-
 // The byte of a cell, at most 2.
 fn cell(bytes: &[u8], at: usize) -> u64
     requires { (at < length bytes.now) × Small bytes.now }
     ensures { (result ≡ get_or bytes.now at 0) × (result ≤ 2) }
 {
-    wide(bytes[at])
+    u64::from(bytes[at])
 }
 
 // Four bytes as a number of base 3. The compiler loads them at once. The bytes of the factor are 27, 9, 3 and 1, from the lowest on, so the
@@ -114,7 +103,7 @@ fn bits_at(table: &[u8; 81], bytes: &[u8], at: usize) -> u64
     ensures { result ≡ packed_of bytes.now at }
 {
     let i = number_of(bytes, at);
-    wide(table[i])
+    u64::from(table[i])
 }
 
 // The words of the 64 cells from a number on: four at a time, from the last to the first.
@@ -125,10 +114,8 @@ fn pack_word(table: &[u8; 81], bytes: &[u8], at: usize) -> Pair
 {
     let mut present = 0;
     let mut refined = 0;
-    let mut left = 64;
-    while left > 0 {
-        left -= 4;
-        let bits = bits_at(table, bytes, at + left);
+    for four in (0..16).rev() {
+        let bits = bits_at(table, bytes, at + 4 * four);
         present = bits % 16 + 16 * present;
         refined = bits / 16 + 16 * refined;
     }
@@ -144,14 +131,10 @@ pub fn pack(bytes: &[u8], present: &mut [u64], refined: &mut [u64])
     // For each number below 81, in hexadecimal: four bits of `refined`, then four of `present`.
     let table =
         b"\x00\x01\x11\x02\x03\x13\x22\x23\x33\x04\x05\x15\x06\x07\x17\x26\x27\x37\x44\x45\x55\x46\x47\x57\x66\x67\x77\x08\x09\x19\x0a\x0b\x1b\x2a\x2b\x3b\x0c\x0d\x1d\x0e\x0f\x1f\x2e\x2f\x3f\x4c\x4d\x5d\x4e\x4f\x5f\x6e\x6f\x7f\x88\x89\x99\x8a\x8b\x9b\xaa\xab\xbb\x8c\x8d\x9d\x8e\x8f\x9f\xae\xaf\xbf\xcc\xcd\xdd\xce\xcf\xdf\xee\xef\xff";
-    let mut at: usize = 0;
-    let mut w = 0;
-    while w + 1 <= present.len() {
-        let pair = pack_word(table, bytes, at);
+    for w in 0..present.len() {
+        let pair = pack_word(table, bytes, 64 * w);
         present[w] = pair.present;
         refined[w] = pair.refined;
-        at += 64;
-        w += 1;
     }
 }
 
@@ -160,10 +143,8 @@ pub fn are_small(cells: &[u8]) -> bool
     ensures { result ≡ are_small cells.now }
 {
     let mut ok = true;
-    let mut i = 0;
-    while i < cells.len() {
-        ok = (cells[i] <= 2) & ok;
-        i += 1;
+    for cell in cells {
+        ok = (*cell <= 2) & ok;
     }
     ok
 }

@@ -73,10 +73,13 @@ fn put(out: &mut [u64], at: usize, corner: Corner) -> usize
     requires numbers { Numbers corner }
     ensures { Writes out.old at (three_words corner) result out.new }
 {
-    out[at] = f64::to_bits(corner.across);
-    out[at + 1] = f64::to_bits(corner.up);
-    out[at + 2] = f64::to_bits(corner.height);
-    at + 3
+    let end = at + 3;
+    out[at..end].copy_from_slice(&[
+        corner.across.to_bits(),
+        corner.up.to_bits(),
+        corner.height.to_bits(),
+    ]);
+    end
 }
 
 // The corners of a cell: lower left, lower right, upper left, upper right.
@@ -107,13 +110,11 @@ fn put_all(plan: Plan, cells: &[u8], functions: &[u8], heights: &[i32], out: &mu
     ensures { Writes out.old 0 (words_of (corners plan functions.now heights.now cells.now)) result out.new }
 {
     let mut at = 0;
-    let mut c = 0;
-    while c < cells.len() {
-        if cells[c] == 1 {
+    for (c, cell) in cells.iter().enumerate() {
+        if *cell == 1 {
             let place = plan.cell_place(Cell(c as u32));
             at = put_cell(plan, functions, heights, place, out, at);
         }
-        c += 1;
     }
     at
 }

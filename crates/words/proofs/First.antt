@@ -33,20 +33,16 @@ pub shift_some : (m : ℕ) → m < 64 → 1 ≤ (1 * 2 ^ m) % 2 ^ 64
 shift_some m l = rw (shift m l) (pow_pos m)
 
 module _ (first at : ℕ) where
-  shifted : (m k : ℕ) → at + m ≡ first → ltb (at + k) first ≡ ltb k m
-  shifted m k e = same (ltb (at + k) first) (ltb k m) (λ t. lt→ltb k m (omega (arith, ltb→lt (at + k) first t))) (λ t. lt→ltb (at + k) first (omega (arith, ltb→lt k m t)))
-
-  pub word_none : first ≤ at → 0 ≡ word_from 64 at (below first)
-  unfolding below
-  word_none l = sym (word_is (below first) 64 at 0 (omega arith) (λ k i. rw (le-ltb (at + k) first (omega arith)) (sym (bit_of_zero k))))
+  shifted : (k : ℕ) → ltb (at + k) first ≡ ltb k (first - at)
+  shifted k = same (ltb (at + k) first) (ltb k (first - at)) (λ t. lt→ltb k (first - at) (omega (arith, ltb→lt (at + k) first t))) (λ t. lt→ltb (at + k) first (omega (arith, ltb→lt k (first - at) t)))
 
   pub word_full : 64 ≤ first - at → 0xffff_ffff_ffff_ffff ≡ word_from 64 at (below first)
   unfolding below
   word_full l = sym (word_is (below first) 64 at (2 ^ 64 - 1) (omega arith) (λ k i. rw (lt-ltb (at + k) first (omega arith)) (sym (ones_digit 64 k ∙ rw (lt-ltb k 64 i) refl))))
 
-  pub word_part : at < first → first - at < 64 → (1 * 2 ^ (first - at)) % 2 ^ 64 - 1 ≡ word_from 64 at (below first)
+  pub word_part : first - at < 64 → (1 * 2 ^ (first - at)) % 2 ^ 64 - 1 ≡ word_from 64 at (below first)
   unfolding below
-  word_part l m =
+  word_part m =
       let s : 2 ^ (first - at) < 2 ^ 64 = pow-lt m in
       rw (shift (first - at) m) (sym (word_is (below first) 64 at (2 ^ (first - at) - 1) (omega arith) (λ k i.
-      ap (λ (b : Bool). cond b 1 0) (shifted (first - at) k (omega arith)) ∙ sym (ones_digit (first - at) k))))
+      ap (λ (b : Bool). cond b 1 0) (shifted k) ∙ sym (ones_digit (first - at) k))))

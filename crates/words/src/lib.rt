@@ -12,10 +12,8 @@ fn is_within(present: &[u64], refined: &[u64]) -> bool
     ensures { result ≡ every (length present.now) (word_within present.now refined.now) }
 {
     let mut ok = true;
-    let mut w = 0;
-    while w < present.len() {
-        ok = (refined[w] & present[w] == refined[w]) & ok;
-        w += 1;
+    for (w, held) in present.iter().enumerate() {
+        ok = (refined[w] & *held == refined[w]) & ok;
     }
     ok
 }
@@ -46,10 +44,8 @@ pub fn count_active(present: &[u64], refined: &[u64]) -> u32
     ensures { result ≡ sum (length present.now) (active_ones present.now refined.now) }
 {
     let mut count = 0;
-    let mut w = 0;
-    while w < present.len() {
-        count += u64::count_ones(present[w] & !refined[w]);
-        w += 1;
+    for (w, held) in present.iter().enumerate() {
+        count += (*held & !refined[w]).count_ones();
     }
     count
 }
@@ -60,10 +56,8 @@ pub fn count_set(plane: &[u64]) -> u32
     ensures { result ≡ sum (length plane.now) (ones_at plane.now) }
 {
     let mut count = 0;
-    let mut w = 0;
-    while w < plane.len() {
-        count += u64::count_ones(plane[w]);
-        w += 1;
+    for word in plane {
+        count += word.count_ones();
     }
     count
 }
@@ -72,12 +66,9 @@ pub fn count_set(plane: &[u64]) -> u32
 fn fresh_word(first: usize, at: usize) -> u64
     ensures { result ≡ word_from 64 at (below first) }
 {
-    if first <= at {
-        return 0;
-    }
-    let left = first - at;
+    let left = first.saturating_sub(at);
     if 64 <= left {
-        return 0xffff_ffff_ffff_ffff;
+        return u64::MAX;
     }
     (1 << left) - 1
 }
@@ -87,11 +78,7 @@ pub fn fresh(plane: &mut [u64], first: usize)
     requires { length plane.old ≤ 65536 }
     ensures { plane.new ≡ plane_of (length plane.old) (below first) }
 {
-    let mut at: usize = 0;
-    let mut w = 0;
-    while w < plane.len() {
-        plane[w] = fresh_word(first, at);
-        at += 64;
-        w += 1;
+    for (w, word) in plane.iter_mut().enumerate() {
+        *word = fresh_word(first, 64 * w);
     }
 }

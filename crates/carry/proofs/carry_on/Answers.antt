@@ -12,22 +12,19 @@ pub overflow_sub-last : goal.overflow_sub-last
 overflow_sub-last c = c.requires.started.allowed.range.levels≥
 
 pub loop-level-init : goal.loop-level-init
-loop-level-init c = (omega arith, levels_none _ _ _)
+loop-level-init c = levels_none _ _ _
 
 -- the levels below are done
 below : (c : At-loop-level) → Underway c.args.plan c.args.functions.now (function_offset c.args.plan c.loop-level.level) c.loop-level.heights
-below c = let s = c in record { start = s.args.heights.now; started = s.requires.started; sized = s.requires.functions_len.0; is = c.loop-level.invariant.1 }
+below c = let s = c in record { start = s.args.heights.now; started = s.requires.started; sized = s.requires.functions_len.0; is = c.loop-level.invariant }
 
 pub pass_level-requires : goal.pass_level-requires
 pass_level-requires c = record { underway = below (goal.at.pass_level-requires c).At-loop-level; level_bound = omega arith }
 
-pub loop-level-smaller : goal.loop-level-smaller
-loop-level-smaller c = omega arith
-
 pub loop-level-preserved : goal.loop-level-preserved
 loop-level-preserved c = let s = c in
     let l = c.loop-level in
-    (omega arith, levels_more s.args.plan s.args.functions.now l.level s.args.heights.now l.invariant.1 c.pass_level.ensures)
+    levels_more s.args.plan s.args.functions.now l.level s.args.heights.now l.invariant c.pass_level.ensures
 
 pub shape_of-heights : goal.shape_of-heights
 shape_of-heights c = underway_size (below (goal.at.shape_of-heights c).At-loop-level) ∙ sym c.requires.started.sized
@@ -35,4 +32,4 @@ shape_of-heights c = underway_size (below (goal.at.shape_of-heights c).At-loop-l
 pub returns : goal.returns
 returns c = let s = c in
     let k : c.loop-level.level ≡ s.args.plan.levels - 1 = omega arith in
-    (rw k at c.loop-level.invariant.1) ∙ levels_all s.args.plan s.args.functions.now s.args.heights.now s.requires.functions_len.1
+    (rw k at c.loop-level.invariant) ∙ levels_all s.args.plan s.args.functions.now s.args.heights.now s.requires.functions_len.1

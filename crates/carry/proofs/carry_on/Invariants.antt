@@ -1,12 +1,8 @@
 -- `carry_on` meets its contract: level by level. Assumes nothing.
 use mathlib.Core.Path.{◌≡◌}
-use Prim.Native.Nat.{◌-◌, ◌≤◌}
 use Rattle.grid.specs.Plan.{function_offset}
 use Rattle.carry.specs.Carry.{carried}
 use Rattle.carry.proofs.carry_on.Given as goal
 
 abbrev pub invariant-loop-level : goal.invariant-loop-level
-invariant-loop-level l = (l.level ≤ l.last) × (l.heights ≡ carried l.plan l.functions (function_offset l.plan l.level) l.initial.heights)
-
-abbrev pub decreases-loop-level : goal.decreases-loop-level
-decreases-loop-level l = l.last - l.level
+invariant-loop-level l = l.heights ≡ carried l.plan l.functions (function_offset l.plan l.level) l.initial.heights

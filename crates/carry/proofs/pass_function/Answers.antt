@@ -6,7 +6,7 @@ use Rattle.carry.proofs.Blocks.{height_read, row_ends, blocks_none, up_room, par
 use Rattle.carry.proofs.pass_function.Goals as goal
 
 pub loop-row-init : goal.loop-row-init
-loop-row-init c = let r = c.requires in (omega arith, blocks_none r (height_read r) _ refl)
+loop-row-init c = let r = c.requires in blocks_none r (height_read r) _ refl
 
 pub overflow_mul-begin : goal.overflow_mul-begin
 overflow_mul-begin c = let r = c.requires in omega (arith, row_ends r (height_read r) c.loop-row.row (omega arith))
@@ -20,21 +20,15 @@ part_of-requires c = let r = c.requires in rw c.quarters.ensures (up_room r (hei
 pub pass_row-requires : goal.pass_row-requires
 pass_row-requires c = let r = c.requires in
     let l = c.loop-row in
-    rw (part_read r (height_read r) l.row c.quarters.ensures c.part_of.ensures) (block_room r (height_read r) _ refl (omega arith) l.invariant.1)
-
-pub overflow_add-row : goal.overflow_add-row
-overflow_add-row c = let r = c.requires in omega (arith, r.up_few.last≤)
-
-pub loop-row-smaller : goal.loop-row-smaller
-loop-row-smaller c = omega arith
+    rw (part_read r (height_read r) l.row c.quarters.ensures c.part_of.ensures) (block_room r (height_read r) _ refl (omega arith) l.invariant)
 
 pub loop-row-preserved : goal.loop-row-preserved
 loop-row-preserved c = let r = c.requires in
     let l = c.loop-row in
-    (omega arith, block_next r (height_read r) _ refl (omega arith) l.invariant.1 (rw (part_read r (height_read r) l.row c.quarters.ensures c.part_of.ensures) at c.pass_row.ensures))
+    block_next r (height_read r) _ refl (omega arith) l.invariant (rw (part_read r (height_read r) l.row c.quarters.ensures c.part_of.ensures) at c.pass_row.ensures)
 
 pub shape_of-heights : goal.shape_of-heights
-shape_of-heights c = c.loop-row.invariant.1.size ∙ simp length-set
+shape_of-heights c = c.loop-row.invariant.size ∙ simp length-set
 
 pub returns : goal.returns
-returns c = let r = c.requires in blocks_all r (height_read r) _ refl refl (omega arith) c.loop-row.invariant.1
+returns c = let r = c.requires in blocks_all r (height_read r) _ refl refl (omega arith) c.loop-row.invariant

@@ -40,7 +40,7 @@ pub function_columns_at-width-requires : goal.function_columns_at-width-requires
 function_columns_at-width-requires c = let s = c in record { in_range = s.requires.underway.started.allowed.range; level_lt_levels = omega (arith, s.requires.level_bound.0) }
 
 pub loop-column-init : goal.loop-column-init
-loop-column-init c = (omega arith, from_none _ _ _ _)
+loop-column-init c = from_none _ _ _ _
 
 -- the row begins where it should, and its functions are those of the plan
 begins : (c : At-loop-column) → c.function_offset.result + c.args.row * c.function_columns_at-count.result ≡ function_offset c.args.plan c.args.level + c.args.row * function_columns_at c.args.plan c.args.level
@@ -65,7 +65,7 @@ pub offset_bounds-heights-f : goal.offset_bounds-heights-f
 offset_bounds-heights-f c = let s = c in omega (arith, begins (goal.at.offset_bounds-heights-f c).At-loop-column, c.function_columns_at-count.ensures, row_fits s.requires.underway s.requires.level_bound.0 s.requires.level_bound.1)
 
 pub slice_copy_out-t-23 : goal.slice_copy_out-t-23
-slice_copy_out-t-23 c = let s = c in omega (arith, begins (goal.at.slice_copy_out-t-23 c).At-loop-column, c.function_columns_at-count.ensures, row_ends s.requires.underway s.requires.level_bound.0 s.requires.level_bound.1, turn_size s.requires.underway s.requires.level_bound.0 s.requires.level_bound.1 c.loop-column.column c.loop-column.invariant.1)
+slice_copy_out-t-23 c = let s = c in omega (arith, begins (goal.at.slice_copy_out-t-23 c).At-loop-column, c.function_columns_at-count.ensures, row_ends s.requires.underway s.requires.level_bound.0 s.requires.level_bound.1, turn_size s.requires.underway s.requires.level_bound.0 s.requires.level_bound.1 c.loop-column.column c.loop-column.invariant)
 
 pub across_at-requires : goal.across_at-requires
 across_at-requires c = let s = c in record { in_range = s.requires.underway.started.allowed.range; level_lt_levels = omega (arith, s.requires.level_bound.0) }
@@ -75,26 +75,21 @@ children_of-across-requires c = let s = c in rw c.across_at.ensures (record { si
 
 pub pass_function-requires : goal.pass_function-requires
 pass_function-requires c = let s = c in
-    turn_room s.requires.underway s.requires.level_bound.0 s.requires.level_bound.1 c.loop-column.column c.loop-column.invariant.1 (inner (goal.at.pass_function-requires c).In-loop-column) (at_column (goal.at.pass_function-requires c).At-loop-column) c.function_offset-offset.ensures c.function_columns_at-width.ensures (rw c.up_at.ensures at c.children_of-up.ensures) (rw c.across_at.ensures at c.children_of-across.ensures)
-
-pub loop-column-smaller : goal.loop-column-smaller
-loop-column-smaller c = omega arith
+    turn_room s.requires.underway s.requires.level_bound.0 s.requires.level_bound.1 c.loop-column.column c.loop-column.invariant (inner (goal.at.pass_function-requires c).In-loop-column) (at_column (goal.at.pass_function-requires c).At-loop-column) c.function_offset-offset.ensures c.function_columns_at-width.ensures (rw c.up_at.ensures at c.children_of-up.ensures) (rw c.across_at.ensures at c.children_of-across.ensures)
 
 pub loop-column-preserved : goal.loop-column-preserved
 loop-column-preserved c = let s = c in
-    let l = c.loop-column in (
-      omega arith,
-      elim c.if-functions-f.branch [
-        | then-functions-f w ↦
-            w.heights-is ∙ turn_yes s.requires.underway s.requires.level_bound.0 s.requires.level_bound.1 l.column l.invariant.1 (inner (goal.at.loop-column-preserved c).In-loop-column) (at_column (goal.at.loop-column-preserved c).At-loop-column) c.function_offset-offset.ensures c.function_columns_at-width.ensures (rw c.up_at.ensures at c.children_of-up.ensures) (rw w.across_at.ensures at w.children_of-across.ensures) w.if-functions-f.true w.pass_function.ensures
-        | else-functions-f w ↦ w.heights-is ∙ turn_no s.requires.underway s.requires.level_bound.0 s.requires.level_bound.1 l.column l.invariant.1 (at_column (goal.at.loop-column-preserved c).At-loop-column) c.t23-1.given w.if-functions-f.false
-      ],
-    )
+    let l = c.loop-column in
+    elim c.if-functions-f.branch [
+      | then-functions-f w ↦
+          w.heights-is ∙ turn_yes s.requires.underway s.requires.level_bound.0 s.requires.level_bound.1 l.column l.invariant (inner (goal.at.loop-column-preserved c).In-loop-column) (at_column (goal.at.loop-column-preserved c).At-loop-column) c.function_offset-offset.ensures c.function_columns_at-width.ensures (rw c.up_at.ensures at c.children_of-up.ensures) (rw w.across_at.ensures at w.children_of-across.ensures) w.if-functions-f.true w.pass_function.ensures
+      | else-functions-f w ↦ w.heights-is ∙ turn_no s.requires.underway s.requires.level_bound.0 s.requires.level_bound.1 l.column l.invariant (at_column (goal.at.loop-column-preserved c).At-loop-column) c.t23-1.given w.if-functions-f.false
+    ]
 
 pub shape_of-heights : goal.shape_of-heights
-shape_of-heights c = let s = c in turn_same s.requires.underway s.requires.level_bound.0 s.requires.level_bound.1 c.loop-column.column c.loop-column.invariant.1
+shape_of-heights c = let s = c in turn_same s.requires.underway s.requires.level_bound.0 s.requires.level_bound.1 c.loop-column.column c.loop-column.invariant
 
 pub returns : goal.returns
 returns c = let s = c in
     let k : c.loop-column.column ≡ function_columns_at s.args.plan s.args.level = omega (arith, c.function_columns_at-count.ensures) in
-    rw k at c.loop-column.invariant.1
+    rw k at c.loop-column.invariant

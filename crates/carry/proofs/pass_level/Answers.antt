@@ -10,27 +10,24 @@ pub function_rows_at-rows-requires : goal.function_rows_at-rows-requires
 function_rows_at-rows-requires c = let s = c in record { in_range = s.requires.underway.started.allowed.range; level_lt_levels = omega (arith, s.requires.level_bound) }
 
 pub loop-row-init : goal.loop-row-init
-loop-row-init c = (omega arith, rows_none _ _ _ _ _)
+loop-row-init c = rows_none _ _ _ _ _
 
 pub pass_functions-requires : goal.pass_functions-requires
 pass_functions-requires c = let s = c in
     let l = c.loop-row in
-    record { underway = underway_more (l.row * function_columns_at s.args.plan s.args.level) s.requires.underway l.invariant.1; level_bound = (s.requires.level_bound, omega (arith, c.function_rows_at-rows.ensures)) }
-
-pub loop-row-smaller : goal.loop-row-smaller
-loop-row-smaller c = omega arith
+    record { underway = underway_more (l.row * function_columns_at s.args.plan s.args.level) s.requires.underway l.invariant; level_bound = (s.requires.level_bound, omega (arith, c.function_rows_at-rows.ensures)) }
 
 pub loop-row-preserved : goal.loop-row-preserved
 loop-row-preserved c = let s = c in
     let l = c.loop-row in
-    (omega arith, rows_more s.args.plan s.args.functions.now (function_offset s.args.plan s.args.level) (function_columns_at s.args.plan s.args.level) l.row s.args.heights.now l.invariant.1 c.pass_functions.ensures)
+    rows_more s.args.plan s.args.functions.now (function_offset s.args.plan s.args.level) (function_columns_at s.args.plan s.args.level) l.row s.args.heights.now l.invariant c.pass_functions.ensures
 
 pub shape_of-heights : goal.shape_of-heights
 shape_of-heights c = let s = c in
     let l = c.loop-row in
-    underway_size (underway_more (l.row * function_columns_at s.args.plan s.args.level) s.requires.underway l.invariant.1) ∙ sym (underway_size s.requires.underway)
+    underway_size (underway_more (l.row * function_columns_at s.args.plan s.args.level) s.requires.underway l.invariant) ∙ sym (underway_size s.requires.underway)
 
 pub returns : goal.returns
 returns c = let s = c in
     let k : c.loop-row.row ≡ function_rows_at s.args.plan s.args.level = omega (arith, c.function_rows_at-rows.ensures) in
-    rw k at c.loop-row.invariant.1
+    rw k at c.loop-row.invariant

@@ -7,7 +7,7 @@ use Rattle.heights.proofs.Turns.{start_level, turn_level, up_all}
 use Rattle.heights.proofs.height_at.Goals as goal
 
 pub loop-level-init : goal.loop-level-init
-loop-level-init c = (omega arith, start_level c.requires)
+loop-level-init c = start_level c.requires
 
 pub level_height-sum-requires : goal.level_height-sum-requires
 level_height-sum-requires c = let s = c in
@@ -16,9 +16,9 @@ level_height-sum-requires c = let s = c in
 pub loop-level-preserved : goal.loop-level-preserved
 loop-level-preserved c = let s = c in
     let l = c.loop-level in
-    (omega arith, turn_level s.requires (omega arith) l.invariant.1 c.level_height-sum.ensures)
+    turn_level s.requires (omega arith) l.invariant c.level_height-sum.ensures
 
 pub returns : goal.returns
 returns c = let s = c in
     let k : c.loop-level.level ≡ s.args.plan.levels = omega arith in
-    rw k at c.loop-level.invariant.1 ∙ ap (dyadic (places s.args.plan.levels)) (up_all s.requires)
+    rw k at c.loop-level.invariant ∙ ap (dyadic (places s.args.plan.levels)) (up_all s.requires)

@@ -1,6 +1,5 @@
 -- `height_at` meets its contract: level by level. Assumes nothing.
 use mathlib.Core.Path.{◌≡◌}
-use Prim.Native.Nat.{◌-◌, ◌≤◌}
 use Rattle.exact.specs.Dyadic.{dyadic}
 use Rattle.exact.specs.Sums.{sumℤ}
 use Rattle.grid.specs.Plan.{function_offset}
@@ -8,7 +7,4 @@ use Rattle.heights.specs.Heights.{places, product_at}
 use Rattle.heights.proofs.height_at.Given as goal
 
 abbrev pub invariant-loop-level : goal.invariant-loop-level
-invariant-loop-level l = (l.level ≤ l.plan.levels) × (l.sum ≡ dyadic (places l.plan.levels) (sumℤ (function_offset l.plan l.level) (product_at l.plan l.functions l.heights l.across l.up)))
-
-abbrev pub decreases-loop-level : goal.decreases-loop-level
-decreases-loop-level l = l.plan.levels - l.level
+invariant-loop-level l = l.sum ≡ dyadic (places l.plan.levels) (sumℤ (function_offset l.plan l.level) (product_at l.plan l.functions l.heights l.across l.up))

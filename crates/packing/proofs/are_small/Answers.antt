@@ -7,14 +7,14 @@ use Rattle.planes.specs.Bits.{small_at, are_small}
 use Rattle.facts.proofs.Bounded.{every_next}
 use Rattle.packing.proofs.are_small.Goals as goal
 
-pub loop-i-init : goal.loop-i-init
+pub loop-cell-init : goal.loop-cell-init
 unfolding every
-loop-i-init c = (omega arith, refl)
+loop-cell-init c = refl
 
-pub loop-i-preserved : goal.loop-i-preserved
+pub loop-cell-preserved : goal.loop-cell-preserved
 unfolding small_at
-loop-i-preserved c = let l = c.loop-i in (omega arith, every_next l.i _ refl l.invariant.1)
+loop-cell-preserved c = every_next c.loop-cell.cell-index _ refl c.loop-cell.invariant
 
 pub returns : goal.returns
 unfolding are_small
-returns c = let l = c.loop-i in let q : l.i ≡ length c.args.cells.now = omega arith in rw q at l.invariant.1
+returns c = let q : c.loop-cell.cell-index ≡ length c.args.cells.now = omega arith in rw q at c.loop-cell.invariant

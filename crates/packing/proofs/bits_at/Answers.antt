@@ -3,5 +3,4 @@ use mathlib.Core.Path.{◌∙◌}
 use Rattle.packing.proofs.bits_at.Goals as goal
 
 pub returns : goal.returns
-returns c = let s = c in
-    c.wide.ensures ∙ rw c.number_of-i.ensures.1 (s.requires.packs s.args.bytes.now s.args.at s.requires.at_in_bounds.1)
+returns c = c.from.ensures ∙ rw c.number_of-i.ensures.1 (c.requires.packs c.args.bytes.now c.args.at c.requires.at_in_bounds.1)

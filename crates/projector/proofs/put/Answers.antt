@@ -1,23 +1,16 @@
--- `put` meets its contract: three stores, one after another. Assumes nothing.
-use mathlib.Core.Path.{refl}
+-- `put` meets its contract: three words in a row. Assumes nothing.
+use mathlib.Core.Path.{◌≡◌, refl, ap}
+use mathlib.Core.List.{◌++◌}
+use Prim.Native.Nat.{◌+◌, ◌-◌}
 use native.Mathlib.Omega.{arith}
-use lib.Ieee.{binary64, to_bits}
-use lib.ListN.{length-set}
-use Rattle.facts.proofs.Writing.{writes, three_stores}
+use lib.ListN.{take}
+use lib.Seq.{drop-drop}
+use Rattle.facts.specs.Writing.{written_at}
+use Rattle.projector.specs.Projector.{three_words}
 use Rattle.projector.proofs.put.Goals as goal
 
-pub bounds-out-at-2 : goal.bounds-out-at-2
-bounds-out-at-2 c = let s = c in
-    rw (length-set s.args.out.now s.args.at (to_bits binary64 s.args.corner.across)) (omega (arith, s.requires.at_in_bounds))
-
-pub bounds-out-at-3 : goal.bounds-out-at-3
-bounds-out-at-3 c = let s = c in
-    let k = s.args.corner in
-    rw (length-set _ _ (to_bits binary64 k.up), length-set s.args.out.now s.args.at (to_bits binary64 k.across)) (omega (arith, s.requires.at_in_bounds))
-
 pub returns : goal.returns
-returns c = let s = c in
-    let a = s.args in
-    let k = a.corner in
-    rw (← three_stores a.out.now a.at (to_bits binary64 k.across) (to_bits binary64 k.up) (to_bits binary64 k.height))
-    (writes a.out.now a.at _ _ _ refl s.requires.at_in_bounds refl)
+unfolding written_at
+returns c = let a = c.args in
+    let three : a.at + 3 - a.at ≡ 3 = omega arith in
+    record { end = refl; bytes = rw (c.copy_from_slice.ensures.after, three) (ap (λ t. take a.at a.out.now ++ (three_words a.corner ++ t)) (drop-drop 3 a.at a.out.now)) }

@@ -12,4 +12,4 @@ unfolding words_for
 bounds-plane-total c = omega arith
 
 pub returns : goal.returns
-returns c = spare_last _ _ c.if-over-eq0.false (c.shared_slice_known-1.given _).fits
+returns c = spare_last _ _ c.if-over-eq0.false (c.type_inv.plane _).fits

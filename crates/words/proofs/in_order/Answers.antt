@@ -5,6 +5,6 @@ use Rattle.words.proofs.Order.{order_words}
 use Rattle.words.proofs.in_order.Goals as goal
 
 pub returns : goal.returns
-returns c = let s = c in
+returns c =
     ap₂ (λ (a b : Bool). a && b) c.is_within.ensures c.has_no_spare.ensures
-    ∙ order_words _ _ s.args.total s.requires.0 s.requires.1 (λ w. (c.shared_slice_known-1.given w).fits) (λ w. (c.shared_slice_known-2-1.given w).fits)
+    ∙ order_words _ _ c.args.total c.requires.0 c.requires.1 (λ w. (c.type_inv.present w).fits) (λ w. (c.type_inv.refined w).fits)

@@ -1,13 +1,8 @@
 -- `words::is_within` meets its contract. The invariant: the words so far. Assumes nothing.
 use mathlib.Core.Path.{◌≡◌}
-use Prim.Native.Nat.{◌-◌, ◌≤◌}
-use lib.ListN.{length}
 use Rattle.facts.specs.Bounded.{every}
 use Rattle.words.specs.Words.{word_within}
 use Rattle.words.proofs.is_within.Given as goal
 
 abbrev pub invariant-loop-w : goal.invariant-loop-w
-invariant-loop-w l = (l.w ≤ length l.present) × (l.ok ≡ every l.w (word_within l.present l.refined))
-
-abbrev pub decreases-loop-w : goal.decreases-loop-w
-decreases-loop-w l = length l.present - l.w
+invariant-loop-w l = l.ok ≡ every l.w (word_within l.present l.refined)

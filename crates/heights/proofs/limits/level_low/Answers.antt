@@ -14,7 +14,7 @@ run_low-requires c = let s = c in
     let b = c.function_offset-to.ensures in
     let m = offset_mono w h s.args.level (s.args.level + 1) (omega arith) in
     let n = offset_mono w h (s.args.level + 1) s.args.plan.levels (omega (arith, s.requires.in_range.2)) in
-    record { limit = c.limits_of.ensures; from_le_to = (omega arith, omega (arith, s.requires.functions_len.0), omega (arith, s.requires.functions_len.1)) }
+    record { level_bound = omega (arith, s.requires.in_range.2, s.requires.in_range.1); from_le_to = (omega arith, omega (arith, s.requires.functions_len.0), omega (arith, s.requires.functions_len.1)) }
 
 pub returns : goal.returns
 returns c = let s = c in level_low s.args.plan s.requires.in_range.0 _ _ s.args.level s.requires.in_range.2 c.function_offset-from.ensures c.function_offset-to.ensures c.run_low.ensures

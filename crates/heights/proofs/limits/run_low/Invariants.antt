@@ -1,12 +1,9 @@
 -- `run_low` meets its contract: function by function. Assumes nothing.
 use mathlib.Core.Path.{◌≡◌}
-use Prim.Native.Nat.{◌-◌, ◌≤◌}
+use Prim.Native.Nat.{◌-◌}
 use Rattle.facts.specs.Ranges.{every_from}
 use Rattle.heights.specs.Heights.{low_on}
 use Rattle.heights.proofs.limits.run_low.Given as goal
 
 abbrev pub invariant-loop-i : goal.invariant-loop-i
-invariant-loop-i l = (l.from ≤ l.i) × (l.i ≤ l.to) × (l.ok ≡ every_from l.from (l.i - l.from) (low_on l.level l.functions l.heights))
-
-abbrev pub decreases-loop-i : goal.decreases-loop-i
-decreases-loop-i l = l.to - l.i
+invariant-loop-i l = l.ok ≡ every_from l.from (l.i - l.from) (low_on l.level l.functions l.heights)

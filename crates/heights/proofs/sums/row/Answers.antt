@@ -30,18 +30,14 @@ pub loop-j-preserved : goal.loop-j-preserved
 loop-j-preserved c = let s = c in
     let l = c.loop-j in
     let at = s.args.first + l.j in
-    let m : l.j ≤ s.args.across.degree = omega arith in (
-      search rules,
-      elim c.if-functions-at-eq1.branch [
-        | then-functions-at-eq1 w ↦
-            w.sum-is ∙ turn_active s.requires.row s.requires.unit.levels≤ m w.if-functions-at-eq1.true l.invariant.1
-            (rw (element (get_or s.args.heights.now at (pos 0)) w.product-arg-1.given, w.value.ensures) at w.product-sum.ensures)
-        | else-functions-at-eq1 w ↦ w.sum-is ∙ turn_idle s.requires.row s.requires.unit.levels≤ m w.if-functions-at-eq1.false l.invariant.1
-      ],
-    )
+    let m : l.j ≤ s.args.across.degree = omega arith in
+    elim c.if-functions-at-eq1.branch [
+      | then-functions-at-eq1 w ↦
+          w.sum-is ∙ turn_active s.requires.row s.requires.unit.levels≤ m w.if-functions-at-eq1.true l.invariant
+          (rw (element (get_or s.args.heights.now at (pos 0)) w.product-arg-1.given, w.value.ensures) at w.product-sum.ensures)
+      | else-functions-at-eq1 w ↦ w.sum-is ∙ turn_idle s.requires.row s.requires.unit.levels≤ m w.if-functions-at-eq1.false l.invariant
+    ]
 
 pub returns : goal.returns
 unfolding row_sum
-returns c = let s = c in
-    let k : c.loop-j.j ≡ s.args.across.degree + 1 = omega arith in
-    rw k at c.loop-j.invariant.1
+returns c = let k : c.loop-j.j ≡ c.args.across.degree + 1 = omega arith in rw k at c.loop-j.invariant

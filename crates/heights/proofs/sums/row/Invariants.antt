@@ -1,6 +1,6 @@
 -- `row` meets its contract: function by function, those that are active. Assumes nothing.
 use mathlib.Core.Path.{◌≡◌}
-use Prim.Native.Nat.{◌+◌, ◌-◌, ◌*◌, ◌≤◌}
+use Prim.Native.Nat.{◌+◌, ◌*◌}
 use Rattle.exact.specs.Dyadic.{dyadic}
 use Rattle.exact.specs.Sums.{sumℤ}
 use Rattle.splines.specs.Local.{piece_of}
@@ -8,7 +8,4 @@ use Rattle.heights.specs.Heights.{places, product_of}
 use Rattle.heights.proofs.sums.row.Given as goal
 
 abbrev pub invariant-loop-j : goal.invariant-loop-j
-invariant-loop-j l = (l.j ≤ l.across.degree + 1) × (l.sum ≡ dyadic (places l.levels) (sumℤ l.j (λ i. product_of l.functions l.heights (l.first + i) (piece_of l.across i * l.value))))
-
-abbrev pub decreases-loop-j : goal.decreases-loop-j
-decreases-loop-j l = l.across.degree + 1 - l.j
+invariant-loop-j l = l.sum ≡ dyadic (places l.levels) (sumℤ l.j (λ i. product_of l.functions l.heights (l.first + i) (piece_of l.across i * l.value)))

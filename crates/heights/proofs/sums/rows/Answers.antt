@@ -24,12 +24,8 @@ pub row-sum-requires : goal.row-sum-requires
 row-sum-requires c = let s = c in record { row = rw c.value.ensures (s.requires.rows.row c.loop-i.i (omega arith)); unit = s.requires.unit }
 
 pub loop-i-preserved : goal.loop-i-preserved
-loop-i-preserved c = let s = c in
-    let l = c.loop-i in
-    (search rules, turn_row s.requires.rows s.requires.unit.levels≤ (omega arith) l.invariant.1 (rw c.value.ensures at c.row-sum.ensures))
+loop-i-preserved c = let s = c in turn_row s.requires.rows s.requires.unit.levels≤ (omega arith) c.loop-i.invariant (rw c.value.ensures at c.row-sum.ensures)
 
 pub returns : goal.returns
 unfolding level_sum
-returns c = let s = c in
-    let k : c.loop-i.i ≡ s.args.up.degree + 1 = omega arith in
-    rw k at c.loop-i.invariant.1
+returns c = let k : c.loop-i.i ≡ c.args.up.degree + 1 = omega arith in rw k at c.loop-i.invariant
