@@ -2,16 +2,15 @@
 use mathlib.Core.Path.{◌≡◌, refl, sym, ap, ◌∙◌}
 use mathlib.Core.Bool.{Bool, true, false, cond}
 use mathlib.Core.List.{List}
-use Prim.Native.Nat.{ℕ, zero, suc, ◌+◌, ◌-◌, ◌*◌, ◌^◌, ◌≤◌, ◌<◌}
+use Prim.Native.Nat.{ℕ, zero, suc, ◌-◌, ◌*◌, ◌^◌, ◌≤◌, ◌<◌}
 use native.Mathlib.Nat.{mul-one, pow-zero, pow-suc}
 use native.Mathlib.Omega.{arith}
 use lib.Dec.{T, eqb, ltb, eqb→eq, ltb→lt, nltb→le}
-use lib.ListN.{length, get_or}
+use lib.ListN.{length}
 use borrow.Author.Tests.{eq-eqb, ne_eqb}
 use Rattle.facts.specs.Ranges.{Written}
 use Rattle.facts.proofs.Tests.{cases, same, eqb_of}
 use Rattle.facts.proofs.Numbers.{tabulate_is}
-use Rattle.facts.proofs.Ranges.{sum_more}
 use Rattle.grid.specs.declared.Plan.{Plan}
 use Rattle.grid.specs.Numbering.{Inside, offset, number, place}
 use Rattle.grid.specs.Plan.{plan_refusal, ratio, grown, columns_at, rows_at, function_columns_at, function_rows_at, cell_offset, function_offset, cell_total, function_total}
@@ -105,17 +104,6 @@ module _ (p : Plan) (cs fs : List ℕ) where
 
   pub short_functions : check p cs fs ≡ 0 → length fs < 2 ^ 32
   short_functions e = let G = (check_good p cs fs e).0 in omega (arith, functions_sized e, functions_bound p G.range G.small)
-
--- ---- tally, one byte more
-
-module _ (table : List ℕ) (byte i : ℕ) where
-  pub tally_yes : get_or table i 0 ≡ byte → tally (i + 1) (byte_is table byte) ≡ tally i (byte_is table byte) + 1
-  unfolding tally byte_is
-  tally_yes e = sum_more i _ ∙ rw (eq-eqb _ _ e)
-
-  pub tally_no : (get_or table i 0 ≡ byte → ⊥) → tally (i + 1) (byte_is table byte) ≡ tally i (byte_is table byte)
-  unfolding tally byte_is
-  tally_no e = sum_more i _ ∙ rw (ne_eqb _ _ e) (omega arith)
 
 -- ---- open
 

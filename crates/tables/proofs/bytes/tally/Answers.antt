@@ -1,26 +1,40 @@
--- `tables::bytes::tally` meets its contract. The invariant: the count so far. Assumes nothing.
-use mathlib.Core.Path.{◌≡◌, refl}
+-- `tables::bytes::tally` meets its contract: the sum of the tests is the tally. Assumes nothing.
+use mathlib.Core.Path.{◌≡◌, refl, ◌∙◌}
+use mathlib.Core.Bool.{cond}
+use mathlib.Core.List.{List}
+use Prim.Native.Nat.{ℕ, zero, suc, ◌≤◌, ◌<◌}
+use native.Mathlib.Numerals.{add-one}
 use native.Mathlib.Omega.{arith}
-use lib.ListN.{length}
+use lib.Dec.{eqb}
+use lib.ListN.{length, take}
+use lib.Seq.{take_all}
+use borrow.Author.Rules.{rules}
+use borrow.Author.Tests.{tests}
+use Rattle.std.specs.List.{sum_by}
+use Rattle.std.proofs.lemmas.List.Sums.{count_by-le-length, sum_by_more}
+use Rattle.std.proofs.lemmas.Iterator.{YieldsList-from_slice, YieldsList-from_map}
+use Rattle.std.proofs.lemmas.Iterator.Consumers.{fits_by_from_yields_list}
 use Rattle.facts.specs.Bounded.{sum}
 use Rattle.mesh.specs.Mesh.{tally}
-use Rattle.tables.proofs.Calls.{tally_yes, tally_no}
+use Rattle.tables.specs.Entries.{byte_is}
 use Rattle.tables.proofs.bytes.tally.Goals as goal
-use Rattle.tables.proofs.bytes.tally.Goals.{then-table-i, else-table-i}
 
-pub loop-i-init : goal.loop-i-init
-unfolding tally sum
-loop-i-init c = (omega arith, omega arith, refl)
+-- 1 for a byte that is counted
+abbrev is : ℕ → ℕ → ℕ
+is byte x = cond (eqb x byte) 1 0
 
-pub overflow_add-count : goal.overflow_add-count
-overflow_add-count c = let v = c.loop-i.invariant in omega (arith, c.requires, v.1)
+so_far : (t : List ℕ) (byte n : ℕ) → n ≤ length t → sum_by (is byte) (take n t) ≡ tally n (byte_is t byte)
+unfolding tally sum byte_is
+so_far t byte zero h = refl
+so_far t byte (suc n) h = let l : n < length t = omega arith in
+    rw (← add-one n) (sum_by_more (is byte) t n 0 l ∙ rw (so_far t byte n (omega arith)) refl)
 
-pub loop-i-preserved : goal.loop-i-preserved
-loop-i-preserved c = let at = c.loop-i in let v = at.invariant in let t = c.args.table.now in
-    elim c.if-table-i.branch [
-      | then-table-i w ↦ (omega arith, omega arith, omega (arith, w.count-is, v.2, tally_yes t _ at.i w.if-table-i.true))
-      | else-table-i w ↦ (omega arith, omega arith, omega (arith, w.count-is, v.2, tally_no t _ at.i w.if-table-i.false))
-    ]
+counted : (t : List ℕ) (byte : ℕ) → sum_by (is byte) t ≡ tally (length t) (byte_is t byte)
+counted t byte = let e : take (length t) t ≡ t = take_all (length t) t (omega arith) in rw e at (so_far t byte (length t) (omega arith))
+
+pub sum-requires-clause-fits : goal.sum-requires-clause-fits
+sum-requires-clause-fits c = fits_by_from_yields_list (is c.args.byte) c.args.table.now _ _ (YieldsList-from_map _ (is c.args.byte) (YieldsList-from_slice c.args.table.now cc) c.map.ensures.closure (λ x r q k. search (rules, tests)))
+    (omega (arith, count_by-le-length (λ x. eqb x c.args.byte) c.args.table.now, c.requires))
 
 pub returns : goal.returns
-returns c = let v = c.loop-i.invariant in let e : c.loop-i.i ≡ length c.args.table.now = omega (arith, v.0) in rw e at v.2
+returns c = let e : c.sum.result ≡ sum_by (is c.args.byte) c.args.table.now = search rules in e ∙ counted c.args.table.now c.args.byte
