@@ -6,6 +6,7 @@ use Prim.Native.Nat.{ℕ, ◌≤◌, ◌<◌}
 use native.Mathlib.Omega.{arith}
 use lib.Dec.{eqb, leb, eqb_refl}
 use Rattle.std.proofs.Common.{Some}
+use Rattle.std.specs.declared.option.Option.{Option}
 use lib.ListN.{length, take, drop, length-append, length-replicate}
 use lib.Seq.{take_at}
 use borrow.Author.Tests.{lt-ltb, le-ltb, le-leb}
@@ -16,7 +17,7 @@ use Rattle.mesh.specs.Mesh.{refusal3, Opened, fresh_cells, fresh_functions, open
 use Rattle.lines.specs.Writing.{digits, items, answer, large, Prints}
 use Rattle.script.specs.Session.{State, wall, Reply, reply, blank, opening}
 use Rattle.script.specs.declared.hand.Hand.{Hand}
-use Rattle.script.specs.declared.Done.{Done}
+use Rattle.script.specs.declared.done.Done.{Done}
 use Rattle.script.specs.Steps.{held, Said, Replied}
 use Rattle.script.specs.Bounds.{wall_cells}
 
@@ -80,21 +81,21 @@ pub held_front : (h : Hand) (cs fs more rest : List ℕ) → length cs ≡ h.cel
 held_front h cs fs more rest a b = wall_same h.plan (take_at cs more h.cells a) (take_at fs rest h.functions b)
 
 -- the tables of a new wall at the start of the lent ones
-pub fresh : (s : State) (h : Hand) (n count : ℕ) (cs fs cs' fs' out : List ℕ) → in_range h.plan ≡ true → too_large h.plan ≡ false
+pub fresh : (s : State) (h : Hand) (n : ℕ) (done : Done) (cs fs cs' fs' out : List ℕ) → done.hand ≡ Some h → in_range h.plan ≡ true → too_large h.plan ≡ false
     → length (take h.cells cs) ≡ h.cells → length (take h.functions fs) ≡ h.functions
     → n ≡ (open_mesh h.plan (take h.cells cs) (take h.functions fs)).number
     → cs' ≡ (open_mesh h.plan (take h.cells cs) (take h.functions fs)).cells
     → fs' ≡ (open_mesh h.plan (take h.cells cs) (take h.functions fs)).functions
     → length cs' ≡ length (take h.cells cs) → length fs' ≡ length (take h.functions fs)
-    → Said (answer n [] []) count out
-    → Replied (opening s h.plan) (record { hand = Some h; count = count }) (cs' ++ drop h.cells cs) (fs' ++ drop h.functions fs) out
-fresh s h n count cs fs cs' fs' out e g tc tf en ec ef kc kf w =
+    → Said (answer n [] []) done.count out
+    → Replied (opening s h.plan) done (cs' ++ drop h.cells cs) (fs' ++ drop h.functions fs) out
+fresh s h n done cs fs cs' fs' out d e g tc tf en ec ef kc kf w =
     let o = opened h.plan e g (take h.cells cs) (take h.functions fs) (tc ∙ h.all_cells) (tf ∙ h.all_functions) in
     rw (opening_fresh h.plan e g s (omega (arith, h.all_cells, h.cells_bound)))
     (record {
-      state = held_front h cs' fs' (drop h.cells cs) (drop h.functions fs) (kc ∙ tc) (kf ∙ tf)
+      state = ap (λ (x : Option Hand). held x (cs' ++ drop h.cells cs) (fs' ++ drop h.functions fs)) d ∙ held_front h cs' fs' (drop h.cells cs) (drop h.functions fs) (kc ∙ tc) (kf ∙ tf)
           ∙ wall_same h.plan (ec ∙ ap (λ (q : Opened). q.cells) o) (ef ∙ ap (λ (q : Opened). q.functions) o);
-      said = subst (λ (x : ℕ). Said (answer x [] []) count out) (en ∙ ap (λ (q : Opened). q.number) o) w;
+      said = subst (λ (x : ℕ). Said (answer x [] []) done.count out) (en ∙ ap (λ (q : Opened). q.number) o) w;
     })
 
 -- a line that leaves what is in hand

@@ -3,7 +3,7 @@ use Rattle.std.specs.Prelude.{◌≡◌, List, ℕ, ◌<◌, Option, None, Some,
 use Rattle.lines.specs.Text.{Counts}
 use Rattle.script.specs.Session.{State, no_wall, wall, Reply}
 use Rattle.script.specs.declared.hand.Hand.{Hand}
-use Rattle.script.specs.declared.Done.{Done}
+use Rattle.script.specs.declared.done.Done.{Done}
 
 -- the state that a hand stands for, with the lent tables; their bytes past the wall's lengths mean nothing
 abbrev pub held : Option Hand → List ℕ → List ℕ → State

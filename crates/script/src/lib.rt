@@ -2,6 +2,7 @@
 // read or written here.
 #![tactic(auto)]
 
+mod done;
 mod hand;
 
 ghost use Rattle.std.specs.Prelude.{◌≡◌, true, ◌≤◌, length};
@@ -12,6 +13,7 @@ ghost use Rattle.script.specs.Session.{opening};
 ghost use Rattle.script.specs.Steps.{held, Said, Replied};
 ghost use Rattle.script.specs.Bounds.{wall_cells, wall_functions};
 
+pub use done::Done;
 use grid::Plan;
 pub use hand::Hand;
 
@@ -23,13 +25,6 @@ pub const WALL_CELLS: usize = 4096;
 pub const WALL_FUNCTIONS: usize = 18001;
 
 pub const ANSWER_BYTES: usize = 11 * (WALL_CELLS + WALL_FUNCTIONS) + 13;
-
-// What a line leaves in hand, and how many bytes it prints.
-#[derive(Clone, Copy)]
-pub struct Done {
-    pub hand: Option<Hand>,
-    pub count: usize,
-}
 
 pub fn say_question(out: &mut [u8; ANSWER_BYTES]) -> usize
     ensures { Said question·line result out.new }

@@ -1,5 +1,5 @@
 -- `open_in_range` meets its contract: a wall is opened, or the one in hand kept. Assumes nothing.
-use mathlib.Core.Path.{sym, ◌∙◌}
+use mathlib.Core.Path.{refl, sym, ◌∙◌}
 use native.Mathlib.Omega.{arith}
 use mathlib.Core.List.{[]}
 use lib.Seq.{length-take-le}
@@ -16,6 +16,6 @@ returns-then-total-gt-WALL_CELLS c = kept _ _ _ _ _ large (opening_large c.args.
 pub returns : goal.returns
 returns c =
     let number = c.open-number in
-    fresh _ _ _ _ c.args.cells.now c.args.functions.now _ _ _ c.requires.plan_value (sym c.too_large.ensures ∙ c.if-too_large.false)
+    fresh _ _ _ _ c.args.cells.now c.args.functions.now _ _ _ refl c.requires.plan_value (sym c.too_large.ensures ∙ c.if-too_large.false)
     (length-take-le _ _ (omega (arith, c.if-total-gt-WALL_CELLS.false))) (length-take-le _ _ (omega (arith, c.function_count-labels.ensures.1)))
     number.ensures.number number.ensures.cells number.ensures.functions number.auto.cells number.auto.functions c.say_answer-count-2.ensures
