@@ -15,34 +15,8 @@ use standard::{Handed, Watched, watch};
 use std::io;
 use std::io::{Read, Write};
 
-// The lines one after the other. At the end all answers are handed over, and the output has grown by them. Only a write that fails ends it
-// before, and the output has then grown by a front of them.
-fn run<W: Write>(
-    output: &mut Watched<W>,
-    input: &[u8],
-    buffers: &mut Buffers,
-) -> io::Result<Handed>
-    requires { length input.now ≤ input_bytes }
-    ensures handed { IfOk result (λ h. AllHanded input.now h.answers) }
-    ensures written { OnOk result (Appends (W.contents output.old.stream) (W.contents output.new.stream) (sessions.session input.now)) }
-    ensures none_failed { OnOk result (output.new.has_failed ≡ output.old.has_failed) }
-    ensures failed { OnErr result (output.new.has_failed ≡ true) }
-    ensures left { OnErr result (AppendsFront (W.contents output.old.stream) (W.contents output.new.stream) (sessions.session input.now)) }
-{
-    let mut hand = None;
-    let mut handed = standard::nothing();
-    let mut at = 0;
-    while at < input.len() {
-        let end = lines::line_end(input, at);
-        let done = replies::step(hand, &input[at..end], buffers);
-        hand = done.hand;
-        handed = standard::say(output, input, handed, &buffers.out[..done.count])?;
-        at = end + 1;
-    }
-    Ok(handed)
-}
-
-// The session of an input of at most 16,384 bytes.
+// The lines of an input of at most 16,384 bytes, one after the other. At the end all answers are handed over, and the output has grown by
+// them. Only a write that fails ends it before, and the output has then grown by a front of them.
 fn session<W: Write>(output: &mut Watched<W>, input: &[u8]) -> io::Result<Handed>
     requires { length input.now ≤ input_bytes }
     ensures handed { IfOk result (λ h. AllHanded input.now h.answers) }
@@ -58,7 +32,18 @@ fn session<W: Write>(output: &mut Watched<W>, input: &[u8]) -> io::Result<Handed
         function_list: [0; WALL_FUNCTIONS],
         out: [0; ANSWER_BYTES],
     };
-    run(output, input, &mut buffers)
+    let mut hand = None;
+    let mut handed = standard::nothing();
+    let mut at = 0;
+    // a while: split gives an empty line after the last line feed, and split_inclusive leaves the line feeds on
+    while at < input.len() {
+        let end = lines::line_end(input, at);
+        let done = replies::step(hand, &input[at..end], &mut buffers);
+        hand = done.hand;
+        handed = standard::say(output, input, handed, &buffers.out[..done.count])?;
+        at = end + 1;
+    }
+    Ok(handed)
 }
 
 // The whole program, on any input and output. The output grows by the session of the first 16,384 bytes of the input, or of all of it. Only a

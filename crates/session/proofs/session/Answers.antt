@@ -1,14 +1,14 @@
--- `run` meets its contract: each turn hands over the answer to its line, and at the end none is left. Assumes nothing.
+-- `session` meets its contract: each turn hands over the answer to its line, and at the end none is left. Assumes nothing.
 use Rattle.std.proofs.Common.{arith, rules, subst, sym, ◌∙◌}
 use Rattle.std.specs.Io.KnownBytes.{Appends}
 use Rattle.std.proofs.KnownBytes.{Appends-trans}
 use Rattle.standard.proofs.Printed.{all_handed, none_written, front_written}
 use Rattle.session.proofs.Turns.{starts, due, turn, ends, on_err}
-use Rattle.session.proofs.run.Goals as goal
+use Rattle.session.proofs.session.Goals as goal
 
 pub loop-at-init : goal.loop-at-init
 loop-at-init g c = record {
-  left = starts _ _ c.args.buffers.now.cells c.args.buffers.now.functions c.requires c.nothing-handed.ensures;
+  left = starts _ _ c.requires c.nothing-handed.ensures;
   few = omega arith;
   written = none_written _ c.args.input.now _ c.nothing-handed.ensures;
   none_failed = search rules;
