@@ -6,21 +6,21 @@ use Prim.Native.Nat.{ℕ, ◌≤◌}
 use lib.Dec.{eqb, ltb}
 use lib.ListN.{length, take, drop, length-replicate}
 use lib.Seq.{take_at}
+use Rattle.std.proofs.Common.{Some, None}
 use borrow.Author.Tests.{le-leb}
 use Rattle.grid.specs.declared.Plan.{Plan}
 use Rattle.grid.specs.Plan.{cell_total, function_total}
-use Rattle.outcomes.specs.Calls.{Direction, coarsen, By, functions, changed, Outcome, refused, settle, refusal, outcome}
+use Rattle.outcomes.specs.Calls.{Direction, By, changed, Outcome, refused, settle, refusal, outcome}
 use Rattle.outcomes.proofs.Results.{written_take}
-use Rattle.lines.specs.declared.Kind.{Kind}
-use Rattle.lines.specs.declared.Kind.TheVariants.{Unreadable, Wall, Split, Join, SplitFunctions, JoinFunctions}
 use Rattle.lines.specs.declared.Line.{Line}
 use Rattle.lines.specs.Reading.{Meaning, meaning, meaning_in, Reads}
 use Rattle.lines.specs.Writing.{question}
-use Rattle.script.specs.Session.{State, blank, shown, calling, obey, step_of}
-use Rattle.script.specs.declared.Done.{Done}
-use Rattle.script.specs.Steps.{held, HandSized, Said, Replied}
-use Rattle.script.proofs.Replies.{said_as, wall_same, held_none, held_wall, held_front}
-use Rattle.replies.specs.Steps.{direction_of, by_of, Answered}
+use Rattle.script.specs.Session.{State, no_wall, blank, shown, calling, obey, step_of}
+use Rattle.script.specs.declared.hand.Hand.{Hand}
+use Rattle.script.specs.declared.done.Done.{Done}
+use Rattle.script.specs.Steps.{held, Said, Replied}
+use Rattle.script.proofs.Replies.{said_as, wall_same, held_front}
+use Rattle.replies.specs.Steps.{Answered}
 
 -- ---- a call: what it makes of the tables and prints does not hang on what the lent lists held
 
@@ -57,65 +57,32 @@ alike d by p cs fs marks cl fl cl' fl' a b =
 -- ---- mark lines
 
 -- a mark line before any wall
-pub called_none : (d : Direction) (by : By) (marks : List ℕ) (done : Done) (cs fs out : List ℕ) → HandSized done.hand → done.hand.cells ≡ 0
-    → Said question done.count out → Replied (calling d by (held done.hand cs fs) marks) done cs fs out
+pub called_none : (d : Direction) (by : By) (marks : List ℕ) (done : Done) (cs fs out : List ℕ)
+    → done.hand ≡ None → Said question done.count out → Replied (calling d by no_wall marks) done cs fs out
 unfolding calling
-called_none d by marks done cs fs out z e s =
-    rw (held_none done.hand cs fs e) (record { state = held_none done.hand cs fs e; said = s; sized = z })
+called_none d by marks done cs fs out e s = record { state = rw e refl; said = s }
 
 -- a mark line on the wall in hand: the call had the parts of the tables and lists that are the wall's
-pub called : (d : Direction) (by : By) (marks : List ℕ) (done : Done) (cs fs cl fl cs' fs' out : List ℕ)
-    → HandSized done.hand → eqb done.hand.cells 0 ≡ false
-    → length (take done.hand.cells cl) ≡ done.hand.cells → length (take done.hand.functions fl) ≡ done.hand.functions
-    → length cs' ≡ done.hand.cells → length fs' ≡ done.hand.functions
-    → Answered (outcome d by done.hand.plan (take done.hand.cells cs) (take done.hand.functions fs) marks (take done.hand.cells cl) (take done.hand.functions fl)) done.count cs' fs' out
-    → Replied (calling d by (held done.hand cs fs) marks) done (cs' ++ drop done.hand.cells cs) (fs' ++ drop done.hand.functions fs) out
+pub called : (d : Direction) (by : By) (marks : List ℕ) (h : Hand) (done : Done) (cs fs cl fl cs' fs' out : List ℕ) → done.hand ≡ Some h
+    → length (take h.cells cl) ≡ h.cells → length (take h.functions fl) ≡ h.functions
+    → length cs' ≡ h.cells → length fs' ≡ h.functions
+    → Answered (outcome d by h.plan (take h.cells cs) (take h.functions fs) marks (take h.cells cl) (take h.functions fl)) done.count cs' fs' out
+    → Replied (calling d by (held (Some h) cs fs) marks) done (cs' ++ drop h.cells cs) (fs' ++ drop h.functions fs) out
 unfolding calling
-called d by marks done cs fs cl fl cs' fs' out z e a b ac af w =
-    let h = done.hand in
+called d by marks h done cs fs cl fl cs' fs' out e a b ac af w =
     let p = h.plan in
-    let t = z.whole e in
     let same = alike d by p (take h.cells cs) (take h.functions fs) marks (take h.cells cl) (take h.functions fl) (blank (cell_total p)) (blank (function_total p))
-    (a ∙ t.0 ∙ sym (length-replicate (cell_total p) 0)) (b ∙ t.1 ∙ sym (length-replicate (function_total p) 0)) in
-    rw (held_wall h cs fs e)
-    (record {
-      state = held_front h cs' fs' (drop h.cells cs) (drop h.functions fs) e ac af ∙ wall_same p (w.cells ∙ same.0) (w.functions ∙ same.1);
+    (a ∙ h.all_cells ∙ sym (length-replicate (cell_total p) 0)) (b ∙ h.all_functions ∙ sym (length-replicate (function_total p) 0)) in
+    record {
+      state = rw e (held_front h cs' fs' (drop h.cells cs) (drop h.functions fs) ac af ∙ wall_same p (w.cells ∙ same.0) (w.functions ∙ same.1));
       said = said_as w.said same.2;
-      sized = z;
-    })
+    }
 
--- ---- kinds
-
-pub marked : (k : Kind) (s : State) (ns : List ℕ) → (k ≡ Unreadable → ⊥) → (k ≡ Wall → ⊥) → obey k s ns ≡ calling (direction_of k) (by_of k) s ns
-marked Unreadable s ns h g = absurd (h refl)
-marked Wall s ns h g = absurd (g refl)
-marked Split s ns h g = refl
-marked Join s ns h g = refl
-marked SplitFunctions s ns h g = refl
-marked JoinFunctions s ns h g = refl
-
-pub obeyed : {k l : Kind} (s : State) (ns : List ℕ) → k ≡ l → obey k s ns ≡ obey l s ns
-obeyed s ns e = ap (λ (x : Kind). obey x s ns) e
+-- ---- which call
 
 pub asked : {d e : Direction} {by way : By} (p : Plan) (cs fs marks cl fl : List ℕ) → d ≡ e → by ≡ way
     → outcome d by p cs fs marks cl fl ≡ outcome e way p cs fs marks cl fl
 asked p cs fs marks cl fl a b = ap₂ (λ (x : Direction) (y : By). outcome x y p cs fs marks cl fl) a b
-
-pub coarsens : (k : Kind) → (k ≡ Split → ⊥) → (k ≡ SplitFunctions → ⊥) → coarsen ≡ direction_of k
-coarsens Unreadable h g = refl
-coarsens Wall h g = refl
-coarsens Split h g = absurd (h refl)
-coarsens Join h g = refl
-coarsens SplitFunctions h g = absurd (g refl)
-coarsens JoinFunctions h g = refl
-
-pub by_functions : (k : Kind) → (k ≡ Split → ⊥) → (k ≡ Join → ⊥) → functions ≡ by_of k
-by_functions Unreadable h g = refl
-by_functions Wall h g = refl
-by_functions Split h g = absurd (h refl)
-by_functions Join h g = absurd (g refl)
-by_functions SplitFunctions h g = refl
-by_functions JoinFunctions h g = refl
 
 -- ---- a line that was read
 

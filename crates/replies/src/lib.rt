@@ -6,24 +6,33 @@ ghost use Rattle.outcomes.specs.Calls.{outcome};
 ghost use Rattle.outcomes.specs.Meets.{Meets};
 ghost use Rattle.calls.specs.Parts as parts;
 ghost use Rattle.script.specs.Session.{calling, obey as obey·kind, step_of};
-ghost use Rattle.script.specs.Steps.{held, HandSized, Replied};
-ghost use Rattle.script.specs.Bounds.{answer_bytes, wall_cells, wall_functions};
+ghost use Rattle.script.specs.Steps.{held, Replied};
+ghost use Rattle.script.specs.Bounds.{wall_cells, wall_functions};
 ghost use Rattle.replies.specs.Steps.{direction_of, by_of, Answered};
 
 use calls::{By, Call, Direction};
 use grid::Plan;
 use lines::Kind;
 use outcomes::Answer;
-use script::{Done, Hand};
+use script::{ANSWER_BYTES, Done, Hand, WALL_CELLS, WALL_FUNCTIONS};
+
+// The tables and lists of the largest wall of a session, and room for its longest answer.
+#[derive(Drop)]
+pub struct Buffers {
+    pub cells: [u8; WALL_CELLS],
+    pub functions: [u8; WALL_FUNCTIONS],
+    pub cell_list: [u32; WALL_CELLS],
+    pub function_list: [u32; WALL_FUNCTIONS],
+    pub out: [u8; ANSWER_BYTES],
+}
 
 // Which way a line's call goes, and what its marks are.
 fn direction_of(kind: Kind) -> Direction
     ensures { parts.direction_of result ≡ direction_of kind }
 {
     match kind {
-        Kind::Split => Direction::Refine,
-        Kind::SplitFunctions => Direction::Refine,
-        _ => Direction::Coarsen,
+        Kind::Split | Kind::SplitFunctions => Direction::Refine,
+        Kind::Unreadable | Kind::Wall | Kind::Join | Kind::JoinFunctions => Direction::Coarsen,
     }
 }
 
@@ -31,9 +40,8 @@ fn by_of(kind: Kind) -> By
     ensures { parts.by_of result ≡ by_of kind }
 {
     match kind {
-        Kind::Split => By::Cells,
-        Kind::Join => By::Cells,
-        _ => By::Functions,
+        Kind::Split | Kind::Join => By::Cells,
+        Kind::Unreadable | Kind::Wall | Kind::SplitFunctions | Kind::JoinFunctions => By::Functions,
     }
 }
 
@@ -72,10 +80,9 @@ fn answer(
     marks: &[u32],
     cell_list: &mut [u32],
     function_list: &mut [u32],
-    out: &mut [u8],
+    out: &mut [u8; ANSWER_BYTES],
 ) -> usize
-    requires cell_list_len_bound { (length cell_list.old ≤ wall_cells) × (length function_list.old ≤ wall_functions) }
-    requires answer_bytes_in_bounds { answer_bytes ≤ length out.old }
+    requires { (length cell_list.old ≤ wall_cells) × (length function_list.old ≤ wall_functions) }
     ensures { Answered (outcome (direction_of kind) (by_of kind) plan cells.old functions.old marks.now cell_list.old function_list.old) result cells.new functions.new out.new }
 {
     let answer = call(
@@ -87,120 +94,81 @@ fn answer(
         cell_list,
         function_list,
     );
-    let cell_count = answer.cells as usize;
-    let function_count = answer.functions as usize;
     script::say_answer(
         out,
         answer.number,
-        &cell_list[..cell_count],
-        &function_list[..function_count],
+        &cell_list[..answer.cells as usize],
+        &function_list[..answer.functions as usize],
     )
 }
 
 // A line with marks, on the wall in hand.
 fn change(
-    hand: Hand,
+    hand: Option<Hand>,
     kind: Kind,
     marks: &[u32],
-    cells: &mut [u8],
-    functions: &mut [u8],
-    cell_list: &mut [u32],
-    function_list: &mut [u32],
-    out: &mut [u8],
+    cells: &mut [u8; WALL_CELLS],
+    functions: &mut [u8; WALL_FUNCTIONS],
+    cell_list: &mut [u32; WALL_CELLS],
+    function_list: &mut [u32; WALL_FUNCTIONS],
+    out: &mut [u8; ANSWER_BYTES],
 ) -> Done
-    requires hand_sized { HandSized hand }
-    requires wall_cells_in_bounds { (wall_cells ≤ length cells.old) × (wall_functions ≤ length functions.old) }
-    requires wall_cells_in_bounds_2 { (wall_cells ≤ length cell_list.old) × (wall_functions ≤ length function_list.old) }
-    requires answer_bytes_in_bounds { answer_bytes ≤ length out.old }
     ensures { Replied (calling (direction_of kind) (by_of kind) (held hand cells.old functions.old) marks.now) result cells.new functions.new out.new }
 {
-    let total = hand.cells;
-    let labels = hand.functions;
-    let plan = hand.plan;
-    if total == 0 {
+    let Some(wall) = hand else {
         let count = script::say_question(out);
         return Done { hand, count };
-    }
+    };
     let count = answer(
         kind,
-        plan,
-        &mut cells[..total],
-        &mut functions[..labels],
+        wall.plan,
+        &mut cells[..wall.cells],
+        &mut functions[..wall.functions],
         marks,
-        &mut cell_list[..total],
-        &mut function_list[..labels],
+        &mut cell_list[..wall.cells],
+        &mut function_list[..wall.functions],
         out,
     );
     Done { hand, count }
 }
 
 // A line that was read.
-fn obey(
-    hand: Hand,
-    kind: Kind,
-    numbers: &[u32],
-    cells: &mut [u8],
-    functions: &mut [u8],
-    cell_list: &mut [u32],
-    function_list: &mut [u32],
-    out: &mut [u8],
-) -> Done
-    requires hand_sized { HandSized hand }
-    requires wall_cells_in_bounds { (wall_cells ≤ length cells.old) × (wall_functions ≤ length functions.old) }
-    requires wall_cells_in_bounds_2 { (wall_cells ≤ length cell_list.old) × (wall_functions ≤ length function_list.old) }
-    requires answer_bytes_in_bounds { answer_bytes ≤ length out.old }
-    ensures { Replied (obey·kind kind (held hand cells.old functions.old) numbers.now) result cells.new functions.new out.new }
+fn obey(hand: Option<Hand>, kind: Kind, numbers: &[u32], buffers: &mut Buffers) -> Done
+    ensures { Replied (obey·kind kind (held hand buffers.old.cells buffers.old.functions) numbers.now) result buffers.new.cells buffers.new.functions buffers.new.out }
 {
     match kind {
         Kind::Unreadable => {
-            let count = script::say_question(out);
+            let count = script::say_question(&mut buffers.out);
             Done { hand, count }
         }
         Kind::Wall => {
             let plan = grid::plan_of(numbers);
-            script::open(hand, plan, cells, functions, &numbers[..0], out)
+            script::open(
+                hand,
+                plan,
+                &mut buffers.cells,
+                &mut buffers.functions,
+                &mut buffers.out,
+            )
         }
-        _ => change(
+        Kind::Split | Kind::Join | Kind::SplitFunctions | Kind::JoinFunctions => change(
             hand,
             kind,
             numbers,
-            cells,
-            functions,
-            cell_list,
-            function_list,
-            out,
+            &mut buffers.cells,
+            &mut buffers.functions,
+            &mut buffers.cell_list,
+            &mut buffers.function_list,
+            &mut buffers.out,
         ),
     }
 }
 
 // A line without its line feed: what it leaves in hand and in the tables, and what it prints, at the start of the buffer.
-pub fn step(
-    hand: Hand,
-    line: &[u8],
-    cells: &mut [u8],
-    functions: &mut [u8],
-    cell_list: &mut [u32],
-    function_list: &mut [u32],
-    out: &mut [u8],
-) -> Done
-    requires hand_sized { HandSized hand }
-    requires wall_cells_in_bounds { (wall_cells ≤ length cells.old) × (wall_functions ≤ length functions.old) }
-    requires wall_cells_in_bounds_2 { (wall_cells ≤ length cell_list.old) × (wall_functions ≤ length function_list.old) }
-    requires answer_bytes_in_bounds { answer_bytes ≤ length out.old }
-    ensures { Replied (step_of (held hand cells.old functions.old) line.now) result cells.new functions.new out.new }
+pub fn step(hand: Option<Hand>, line: &[u8], buffers: &mut Buffers) -> Done
+    ensures { Replied (step_of (held hand buffers.old.cells buffers.old.functions) line.now) result buffers.new.cells buffers.new.functions buffers.new.out }
 {
     let mut numbers = [0u32; 64];
     let read = lines::read_line(line, &mut numbers);
-    let kind = read.kind;
-    let count = read.count;
-    obey(
-        hand,
-        kind,
-        &numbers[..count],
-        cells,
-        functions,
-        cell_list,
-        function_list,
-        out,
-    )
+    obey(hand, read.kind, &numbers[..read.count], buffers)
 }

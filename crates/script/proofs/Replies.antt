@@ -5,21 +5,21 @@ use mathlib.Core.List.{List, [], ◌∷◌, ◌++◌}
 use Prim.Native.Nat.{ℕ, ◌≤◌, ◌<◌}
 use native.Mathlib.Omega.{arith}
 use lib.Dec.{eqb, leb, eqb_refl}
+use Rattle.std.proofs.Common.{Some}
+use Rattle.std.specs.declared.option.Option.{Option}
 use lib.ListN.{length, take, drop, length-append, length-replicate}
-use lib.Seq.{length-take-le, take_at}
-use borrow.Author.Tests.{lt-ltb, le-ltb, le-leb, eqb-false, ne_eqb}
+use lib.Seq.{take_at}
+use borrow.Author.Tests.{lt-ltb, le-ltb, le-leb}
 use Rattle.facts.proofs.Tests.{T_true}
 use Rattle.grid.specs.declared.Plan.{Plan}
-use Rattle.grid.proofs.Laws.{cells_some}
-use Rattle.grid.specs.Range.{InRange}
 use Rattle.grid.specs.Plan.{in_range, too_large, cell_total, function_total}
 use Rattle.mesh.specs.Mesh.{refusal3, Opened, fresh_cells, fresh_functions, open_mesh}
 use Rattle.lines.specs.Writing.{digits, items, answer, large, Prints}
-use Rattle.script.specs.Session.{State, no_wall, wall, Reply, reply, blank, opening}
-use Rattle.script.specs.declared.Hand.{Hand}
-use Rattle.script.specs.declared.Done.{Done}
-use Rattle.script.specs.Steps.{held, HandSized, Said, Replied}
-use Rattle.script.specs.Bounds.{wall_cells, wall_functions}
+use Rattle.script.specs.Session.{State, wall, Reply, reply, blank, opening}
+use Rattle.script.specs.declared.hand.Hand.{Hand}
+use Rattle.script.specs.declared.done.Done.{Done}
+use Rattle.script.specs.Steps.{held, Said, Replied}
+use Rattle.script.specs.Bounds.{wall_cells}
 
 -- ---- printing
 
@@ -33,10 +33,6 @@ said n m {old} {text} {new} {r} p l h =
 
 pub said_as : {text line out : List ℕ} {n : ℕ} → Said text n out → text ≡ line → Said line n out
 said_as {text} {line} {out} {n} s e = subst (λ (x : List ℕ). Said x n out) e s
-
--- an answer whose lists are empty
-pub said_bare : (k : ℕ) {none out : List ℕ} {n : ℕ} → Said (answer k none none) n out → none ≡ [] → Said (answer k [] []) n out
-said_bare k {none} {out} {n} s e = subst (λ (x : List ℕ). Said (answer k x x) n out) e s
 
 pub replied_as : {r q : Reply} {done : Done} {cs fs out : List ℕ} → Replied r done cs fs out → r ≡ q → Replied q done cs fs out
 replied_as {r} {q} {done} {cs} {fs} {out} w e = subst (λ (x : Reply). Replied x done cs fs out) e w
@@ -79,53 +75,29 @@ module _ (p : Plan) (e : in_range p ≡ true) (g : too_large p ≡ false) where
 pub wall_same : (p : Plan) {a b x y : List ℕ} → a ≡ b → x ≡ y → wall p a x ≡ wall p b y
 wall_same p {a} {b} {x} {y} e f = ap (λ (t : List ℕ). wall p t x) e ∙ ap (λ (t : List ℕ). wall p b t) f
 
-module _ (h : Hand) (cs fs : List ℕ) where
-  pub held_none : h.cells ≡ 0 → held h cs fs ≡ no_wall
-  unfolding held
-  held_none e = rw e refl
-
-  pub held_wall : eqb h.cells 0 ≡ false → held h cs fs ≡ wall h.plan (take h.cells cs) (take h.functions fs)
-  unfolding held
-  held_wall e = rw e refl
-
 -- tables at the start of the lent ones
-pub held_front : (h : Hand) (cs fs more rest : List ℕ) → eqb h.cells 0 ≡ false → length cs ≡ h.cells → length fs ≡ h.functions
-    → held h (cs ++ more) (fs ++ rest) ≡ wall h.plan cs fs
-held_front h cs fs more rest e a b =
-    held_wall h (cs ++ more) (fs ++ rest) e ∙ rw (take_at cs more h.cells a, take_at fs rest h.functions b) refl
-
--- what is in hand before the first line
-pub sized_none : (h : Hand) → h.cells ≡ 0 → h.functions ≡ 0 → HandSized h
-sized_none h a b = record {
-  cells≤ = omega arith;
-  functions≤ = omega arith;
-  whole = λ e. absurd (eqb-false h.cells 0 e a);
-}
+pub held_front : (h : Hand) (cs fs more rest : List ℕ) → length cs ≡ h.cells → length fs ≡ h.functions
+    → held (Some h) (cs ++ more) (fs ++ rest) ≡ wall h.plan cs fs
+held_front h cs fs more rest a b = wall_same h.plan (take_at cs more h.cells a) (take_at fs rest h.functions b)
 
 -- the tables of a new wall at the start of the lent ones
-pub fresh : (s : State) (p : Plan) (n : ℕ) (done : Done) (cs fs cs' fs' out : List ℕ) → InRange p → in_range p ≡ true → too_large p ≡ false
-    → done.hand.plan ≡ p → done.hand.cells ≡ cell_total p → done.hand.functions ≡ function_total p
-    → done.hand.cells ≤ wall_cells → done.hand.functions ≤ wall_functions → done.hand.cells ≤ length cs → done.hand.functions ≤ length fs
-    → n ≡ (open_mesh p (take done.hand.cells cs) (take done.hand.functions fs)).number
-    → cs' ≡ (open_mesh p (take done.hand.cells cs) (take done.hand.functions fs)).cells
-    → fs' ≡ (open_mesh p (take done.hand.cells cs) (take done.hand.functions fs)).functions
-    → length cs' ≡ length (take done.hand.cells cs) → length fs' ≡ length (take done.hand.functions fs)
+pub fresh : (s : State) (h : Hand) (n : ℕ) (done : Done) (cs fs cs' fs' out : List ℕ) → done.hand ≡ Some h → in_range h.plan ≡ true → too_large h.plan ≡ false
+    → length (take h.cells cs) ≡ h.cells → length (take h.functions fs) ≡ h.functions
+    → n ≡ (open_mesh h.plan (take h.cells cs) (take h.functions fs)).number
+    → cs' ≡ (open_mesh h.plan (take h.cells cs) (take h.functions fs)).cells
+    → fs' ≡ (open_mesh h.plan (take h.cells cs) (take h.functions fs)).functions
+    → length cs' ≡ length (take h.cells cs) → length fs' ≡ length (take h.functions fs)
     → Said (answer n [] []) done.count out
-    → Replied (opening s p) done (cs' ++ drop done.hand.cells cs) (fs' ++ drop done.hand.functions fs) out
-fresh s p n done cs fs cs' fs' out r e g hp hc hf bc bf lc lf en ec ef kc kf w =
-    let h = done.hand in
-    let tc = length-take-le h.cells cs lc in
-    let tf = length-take-le h.functions fs lf in
-    let o = opened p e g (take h.cells cs) (take h.functions fs) (tc ∙ hc) (tf ∙ hf) in
-    let z : eqb h.cells 0 ≡ false = ne_eqb h.cells 0 (let q = cells_some p r in λ i. let y : ⊥ = omega arith in y) in
-    rw (opening_fresh p e g s (omega (arith, hc)))
+    → Replied (opening s h.plan) done (cs' ++ drop h.cells cs) (fs' ++ drop h.functions fs) out
+fresh s h n done cs fs cs' fs' out d e g tc tf en ec ef kc kf w =
+    let o = opened h.plan e g (take h.cells cs) (take h.functions fs) (tc ∙ h.all_cells) (tf ∙ h.all_functions) in
+    rw (opening_fresh h.plan e g s (omega (arith, h.all_cells, h.cells_bound)))
     (record {
-      state = held_front h cs' fs' (drop h.cells cs) (drop h.functions fs) z (kc ∙ tc) (kf ∙ tf)
-          ∙ ap (λ (x : Plan). wall x cs' fs') hp ∙ wall_same p (ec ∙ ap (λ (q : Opened). q.cells) o) (ef ∙ ap (λ (q : Opened). q.functions) o);
+      state = ap (λ (x : Option Hand). held x (cs' ++ drop h.cells cs) (fs' ++ drop h.functions fs)) d ∙ held_front h cs' fs' (drop h.cells cs) (drop h.functions fs) (kc ∙ tc) (kf ∙ tf)
+          ∙ wall_same h.plan (ec ∙ ap (λ (q : Opened). q.cells) o) (ef ∙ ap (λ (q : Opened). q.functions) o);
       said = subst (λ (x : ℕ). Said (answer x [] []) done.count out) (en ∙ ap (λ (q : Opened). q.number) o) w;
-      sized = record { cells≤ = bc; functions≤ = bf; whole = λ i. (hc ∙ ap cell_total (sym hp), hf ∙ ap function_total (sym hp)) };
     })
 
 -- a line that leaves what is in hand
-pub kept : (r : Reply) (done : Done) (cs fs out text : List ℕ) → HandSized done.hand → r ≡ reply (held done.hand cs fs) text → Said text done.count out → Replied r done cs fs out
-kept r done cs fs out text z e s = rw e (record { state = refl; said = s; sized = z })
+pub kept : (r : Reply) (done : Done) (cs fs out text : List ℕ) → r ≡ reply (held done.hand cs fs) text → Said text done.count out → Replied r done cs fs out
+kept r done cs fs out text e s = rw e (record { state = refl; said = s })

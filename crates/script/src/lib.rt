@@ -2,15 +2,20 @@
 // read or written here.
 #![tactic(auto)]
 
-ghost use Rattle.std.specs.Prelude.{◌≡◌, true, [], ◌≤◌, length};
+mod done;
+mod hand;
+
+ghost use Rattle.std.specs.Prelude.{◌≡◌, true, ◌≤◌, length};
 ghost use Rattle.grid.specs.Range.{InRange};
 ghost use Rattle.grid.specs.Plan.{in_range, cell_total, function_total};
 ghost use Rattle.lines.specs.Writing.{answer as answer·line, question as question·line, large as large·line};
 ghost use Rattle.script.specs.Session.{opening};
-ghost use Rattle.script.specs.Steps.{held, HandSized, Said, Replied};
-ghost use Rattle.script.specs.Bounds.{answer_bytes, wall_cells, wall_functions};
+ghost use Rattle.script.specs.Steps.{held, Said, Replied};
+ghost use Rattle.script.specs.Bounds.{wall_cells, wall_functions};
 
+pub use done::Done;
 use grid::Plan;
+pub use hand::Hand;
 
 // The input that a session reads, the cells and functions of its largest walls, and room for its longest answer, 243,080 bytes.
 pub const INPUT_BYTES: usize = 16384;
@@ -21,39 +26,26 @@ pub const WALL_FUNCTIONS: usize = 18001;
 
 pub const ANSWER_BYTES: usize = 11 * (WALL_CELLS + WALL_FUNCTIONS) + 13;
 
-// The wall in hand and the lengths of its tables. Without cells there is none.
-#[derive(Clone, Copy)]
-pub struct Hand {
-    pub plan: Plan,
-    pub cells: usize,
-    pub functions: usize,
-}
-
-// What a line leaves in hand, and how many bytes it prints.
-#[derive(Clone, Copy)]
-pub struct Done {
-    pub hand: Hand,
-    pub count: usize,
-}
-
-pub fn say_question(out: &mut [u8]) -> usize
-    requires { answer_bytes ≤ length out.old }
+pub fn say_question(out: &mut [u8; ANSWER_BYTES]) -> usize
     ensures { Said question·line result out.new }
 {
     lines::write_question(out)
 }
 
-fn say_large(out: &mut [u8]) -> usize
-    requires { answer_bytes ≤ length out.old }
+fn say_large(out: &mut [u8; ANSWER_BYTES]) -> usize
     ensures { Said large·line result out.new }
 {
     lines::write_large(out)
 }
 
 // The longest answer of a session's wall has room.
-pub fn say_answer(out: &mut [u8], number: u32, cells: &[u32], functions: &[u32]) -> usize
-    requires answer_bytes_in_bounds { answer_bytes ≤ length out.old }
-    requires cells_len_bound { (length cells.now ≤ wall_cells) × (length functions.now ≤ wall_functions) }
+pub fn say_answer(
+    out: &mut [u8; ANSWER_BYTES],
+    number: u32,
+    cells: &[u32],
+    functions: &[u32],
+) -> usize
+    requires { (length cells.now ≤ wall_cells) × (length functions.now ≤ wall_functions) }
     ensures { Said (answer·line number cells.now functions.now) result out.new }
 {
     lines::write_answer(out, number, cells, functions)
@@ -70,23 +62,18 @@ fn function_count(plan: Plan) -> usize
 
 // The new wall, or the earlier one where the plan is refused or too large for a session.
 pub fn open(
-    earlier: Hand,
+    earlier: Option<Hand>,
     plan: Plan,
-    cells: &mut [u8],
-    functions: &mut [u8],
-    none: &[u32],
-    out: &mut [u8],
+    cells: &mut [u8; WALL_CELLS],
+    functions: &mut [u8; WALL_FUNCTIONS],
+    out: &mut [u8; ANSWER_BYTES],
 ) -> Done
-    requires hand_sized { HandSized earlier }
-    requires wall_cells_in_bounds { (wall_cells ≤ length cells.old) × (wall_functions ≤ length functions.old) }
-    requires none_value { none.now ≡ [] }
-    requires answer_bytes_in_bounds { answer_bytes ≤ length out.old }
     ensures { Replied (opening (held earlier cells.old functions.old) plan) result cells.new functions.new out.new }
 {
     if plan.in_range() {
-        return open_in_range(earlier, plan, cells, functions, none, out);
+        return open_in_range(earlier, plan, cells, functions, out);
     }
-    let count = say_answer(out, 1, none, none);
+    let count = say_answer(out, 1, &[], &[]);
     Done {
         hand: earlier,
         count,
@@ -94,23 +81,18 @@ pub fn open(
 }
 
 fn open_in_range(
-    earlier: Hand,
+    earlier: Option<Hand>,
     plan: Plan,
-    cells: &mut [u8],
-    functions: &mut [u8],
-    none: &[u32],
-    out: &mut [u8],
+    cells: &mut [u8; WALL_CELLS],
+    functions: &mut [u8; WALL_FUNCTIONS],
+    out: &mut [u8; ANSWER_BYTES],
 ) -> Done
     requires in_range { InRange plan }
     requires plan_value { in_range plan ≡ true }
-    requires hand_sized { HandSized earlier }
-    requires wall_cells_in_bounds { (wall_cells ≤ length cells.old) × (wall_functions ≤ length functions.old) }
-    requires none_value { none.now ≡ [] }
-    requires answer_bytes_in_bounds { answer_bytes ≤ length out.old }
     ensures { Replied (opening (held earlier cells.old functions.old) plan) result cells.new functions.new out.new }
 {
     if plan.too_large() {
-        let count = say_answer(out, 2, none, none);
+        let count = say_answer(out, 2, &[], &[]);
         return Done {
             hand: earlier,
             count,
@@ -126,32 +108,14 @@ fn open_in_range(
     }
     let labels = function_count(plan);
     let number = tables::open(plan, &mut cells[..total], &mut functions[..labels]);
-    let count = say_answer(out, number, none, none);
+    let count = say_answer(out, number, &[], &[]);
     let hand = Hand {
         plan,
         cells: total,
         functions: labels,
     };
-    Done { hand, count }
-}
-
-// What is in hand before the first line.
-pub fn no_wall() -> Hand
-    ensures { (HandSized result) × (result.cells ≡ 0) }
-{
-    let plan = Plan {
-        columns: 0,
-        rows: 0,
-        levels: 0,
-        degree_across: 0,
-        degree_up: 0,
-        class: 0,
-        corners_across: 0,
-        corners_up: 0,
-    };
-    Hand {
-        plan,
-        cells: 0,
-        functions: 0,
+    Done {
+        hand: Some(hand),
+        count,
     }
 }

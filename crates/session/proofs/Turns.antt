@@ -11,11 +11,9 @@ use lib.Seq.{take_all, drop-cons}
 use borrow.Author.Tests.{ltb-true, ltb-false}
 use Rattle.std.proofs.Common.{Result, Ok, Err, OnErr}
 use Rattle.lines.specs.Reading.{parts, lines_of, EndsLine}
-use Rattle.script.specs.Session.{State, Reply, step_of, replies_from, replies}
-use Rattle.script.specs.declared.Hand.{Hand}
-use Rattle.script.specs.declared.Done.{Done}
+use Rattle.script.specs.Session.{State, no_wall, Reply, step_of, replies_from, replies}
+use Rattle.script.specs.declared.done.Done.{Done}
 use Rattle.script.specs.Steps.{held, Replied}
-use Rattle.script.proofs.Replies.{held_none}
 use Rattle.standard.specs.Answers.{Due}
 use Rattle.session.specs.Program.{Left}
 use Rattle.script.specs.Bounds.{input_bytes}
@@ -39,9 +37,9 @@ module _ (xs : List (List ℕ)) (n : ℕ) (y : List ℕ) (ys : List (List ℕ)) 
   first_rest : drop (n + 1) xs ≡ ys
   first_rest = let f = first_is in cc
 
-pub starts : (input : List ℕ) (n : ℕ) (h : Hand) (cs fs : List ℕ) → length input ≤ input_bytes → h.cells ≡ 0 → n ≡ 0 → Left input n 0 (held h cs fs)
+pub starts : (input : List ℕ) (n : ℕ) → length input ≤ input_bytes → n ≡ 0 → Left input n 0 no_wall
 unfolding replies
-starts input n h cs fs l e z = rw z (record { answered = omega arith; left = rw (take_all input_bytes input l, held_none h cs fs e) refl })
+starts input n l z = rw z (record { answered = omega arith; left = rw (take_all input_bytes input l) refl })
 
 module _ (input : List ℕ) (n at r : ℕ) (s : State) (l : Left input n at s) (i : at < length input) (e : EndsLine input at r) where
   abbrev turned : Reply

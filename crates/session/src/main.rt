@@ -3,61 +3,20 @@
 
 ghost use Rattle.std.specs.Prelude.{◌≡◌, ◌≤◌, ◌⊎◌, true, length, IfOk, IfSome, OnOk, OnErr};
 ghost use Rattle.std.specs.Io.KnownBytes.{Appends};
-ghost use Rattle.script.specs.Bounds.{answer_bytes, input_bytes, wall_cells, wall_functions};
+ghost use Rattle.script.specs.Bounds.{input_bytes};
 ghost use Rattle.script.specs.Session as sessions;
 ghost use Rattle.standard.specs.Answers.{AllHanded};
 ghost use Rattle.standard.specs.Bytes.{AppendsFront};
 ghost use Rattle.session.specs.Program.{printed_of};
 
+use replies::Buffers;
 use script::{ANSWER_BYTES, INPUT_BYTES, WALL_CELLS, WALL_FUNCTIONS};
 use standard::{Handed, Watched, watch};
 use std::io;
 use std::io::{Read, Write};
 
-// The lines one after the other. At the end all answers are handed over, and the output has grown by them. Only a write that fails ends it
-// before, and the output has then grown by a front of them.
-fn run<W: Write>(
-    output: &mut Watched<W>,
-    input: &[u8],
-    cells: &mut [u8],
-    functions: &mut [u8],
-    cell_list: &mut [u32],
-    function_list: &mut [u32],
-    out: &mut [u8],
-) -> io::Result<Handed>
-    requires input_len_bound { length input.now ≤ input_bytes }
-    requires wall_cells_in_bounds { (wall_cells ≤ length cells.old) × (wall_functions ≤ length functions.old) }
-    requires wall_cells_in_bounds_2 { (wall_cells ≤ length cell_list.old) × (wall_functions ≤ length function_list.old) }
-    requires answer_bytes_in_bounds { answer_bytes ≤ length out.old }
-    ensures handed { IfOk result (λ h. AllHanded input.now h.answers) }
-    ensures written { OnOk result (Appends (W.contents output.old.stream) (W.contents output.new.stream) (sessions.session input.now)) }
-    ensures none_failed { OnOk result (output.new.has_failed ≡ output.old.has_failed) }
-    ensures failed { OnErr result (output.new.has_failed ≡ true) }
-    ensures left { OnErr result (AppendsFront (W.contents output.old.stream) (W.contents output.new.stream) (sessions.session input.now)) }
-{
-    let mut hand = script::no_wall();
-    let mut handed = standard::nothing();
-    let mut at = 0;
-    while at < input.len() {
-        let end = lines::line_end(input, at);
-        let done = replies::step(
-            hand,
-            &input[at..end],
-            cells,
-            functions,
-            cell_list,
-            function_list,
-            out,
-        );
-        hand = done.hand;
-        let count = done.count;
-        handed = standard::say(output, input, handed, &out[..count])?;
-        at = end + 1;
-    }
-    Ok(handed)
-}
-
-// The tables and lists of the largest wall of a session, and room for its longest answer.
+// The lines of an input of at most 16,384 bytes, one after the other. At the end all answers are handed over, and the output has grown by
+// them. Only a write that fails ends it before, and the output has then grown by a front of them.
 fn session<W: Write>(output: &mut Watched<W>, input: &[u8]) -> io::Result<Handed>
     requires { length input.now ≤ input_bytes }
     ensures handed { IfOk result (λ h. AllHanded input.now h.answers) }
@@ -66,20 +25,25 @@ fn session<W: Write>(output: &mut Watched<W>, input: &[u8]) -> io::Result<Handed
     ensures failed { OnErr result (output.new.has_failed ≡ true) }
     ensures left { OnErr result (AppendsFront (W.contents output.old.stream) (W.contents output.new.stream) (sessions.session input.now)) }
 {
-    let mut cells = [0u8; WALL_CELLS];
-    let mut functions = [0u8; WALL_FUNCTIONS];
-    let mut cell_list = [0u32; WALL_CELLS];
-    let mut function_list = [0u32; WALL_FUNCTIONS];
-    let mut out = [0u8; ANSWER_BYTES];
-    run(
-        output,
-        input,
-        &mut cells,
-        &mut functions,
-        &mut cell_list,
-        &mut function_list,
-        &mut out,
-    )
+    let mut buffers = Buffers {
+        cells: [0; WALL_CELLS],
+        functions: [0; WALL_FUNCTIONS],
+        cell_list: [0; WALL_CELLS],
+        function_list: [0; WALL_FUNCTIONS],
+        out: [0; ANSWER_BYTES],
+    };
+    let mut hand = None;
+    let mut handed = standard::nothing();
+    let mut at = 0;
+    // a while: split gives an empty line after the last line feed, and split_inclusive leaves the line feeds on
+    while at < input.len() {
+        let end = lines::line_end(input, at);
+        let done = replies::step(hand, &input[at..end], &mut buffers);
+        hand = done.hand;
+        handed = standard::say(output, input, handed, &buffers.out[..done.count])?;
+        at = end + 1;
+    }
+    Ok(handed)
 }
 
 // The whole program, on any input and output. The output grows by the session of the first 16,384 bytes of the input, or of all of it. Only a

@@ -6,4 +6,4 @@ use Rattle.script.proofs.Replies.{said, answer_some}
 use Rattle.script.proofs.say_answer.Goals as goal
 
 pub returns : goal.returns
-returns c = said (answer_room (length c.args.cells.now) (length c.args.functions.now)) (length c.args.out.now) c.write_answer.ensures (omega (arith, c.requires.answer_bytes_in_bounds, c.requires.cells_len_bound)) (answer_some _ _ _)
+returns c = said (answer_room (length c.args.cells.now) (length c.args.functions.now)) _ c.write_answer.ensures (omega (arith, c.requires)) (answer_some _ _ _)

@@ -1,8 +1,7 @@
 -- `say_question` meets its contract: the line has room. Assumes nothing.
 use native.Mathlib.Omega.{arith}
-use lib.ListN.{length}
 use Rattle.script.proofs.Replies.{said}
 use Rattle.script.proofs.say_question.Goals as goal
 
 pub returns : goal.returns
-returns c = said 2 (length c.args.out.now) c.write_question.ensures (omega (arith, c.requires)) (omega arith)
+returns c = said 2 _ c.write_question.ensures (omega arith) (omega arith)

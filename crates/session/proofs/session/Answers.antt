@@ -1,22 +1,16 @@
--- `run` meets its contract: each turn hands over the answer to its line, and at the end none is left. Assumes nothing.
+-- `session` meets its contract: each turn hands over the answer to its line, and at the end none is left. Assumes nothing.
 use Rattle.std.proofs.Common.{arith, rules, subst, sym, ◌∙◌}
 use Rattle.std.specs.Io.KnownBytes.{Appends}
 use Rattle.std.proofs.KnownBytes.{Appends-trans}
 use Rattle.standard.proofs.Printed.{all_handed, none_written, front_written}
 use Rattle.session.proofs.Turns.{starts, due, turn, ends, on_err}
-use Rattle.session.proofs.run.Goals as goal
+use Rattle.session.proofs.session.Goals as goal
 
 pub loop-at-init : goal.loop-at-init
 loop-at-init g c = record {
-  sized = c.no_wall-hand.ensures.0;
-  left = starts _ _ _ _ _ c.requires.input_len_bound c.no_wall-hand.ensures.1 c.nothing-handed.ensures;
+  left = starts _ _ c.requires c.nothing-handed.ensures;
   few = omega arith;
   written = none_written _ c.args.input.now _ c.nothing-handed.ensures;
-  cells = search rules;
-  functions = search rules;
-  cell_list = search rules;
-  function_list = search rules;
-  out = search rules;
   none_failed = search rules;
 }
 
@@ -31,15 +25,9 @@ returns-in_err-handed-clause-left g c =
 
 pub loop-at-preserved : goal.loop-at-preserved
 loop-at-preserved g c = record {
-  sized = c.step-done.ensures.sized;
   left = turn c.args.input.now c.loop-at.handed.answers c.loop-at.at c.line_end-end.result _ c.loop-at.invariant.left c.loop-at-test.true c.line_end-end.ensures _ _ _ _ c.step-done.ensures _ _ c.in_ok-handed.ensures.answers_value (search rules);
   few = omega (arith, c.in_ok-handed.ensures.answers_value);
   written = subst (Appends _ _) (sym c.in_ok-handed.ensures.answers_value_2) (Appends-trans _ _ _ _ _ c.loop-at.invariant.written c.in_ok-handed.ensures.written);
-  cells = search rules;
-  functions = search rules;
-  cell_list = search rules;
-  function_list = search rules;
-  out = search rules;
   none_failed = c.in_ok-handed.ensures.none_failed ∙ c.loop-at.invariant.none_failed;
 }
 

@@ -1,22 +1,16 @@
 -- What is left to be printed is what the lines from the place on print, with the state in hand, and the output has grown by what was printed.
 use Rattle.std.proofs.Common.{◌≡◌, ◌-◌, ◌≤◌, length}
 use Rattle.std.specs.Io.KnownBytes.{Appends}
-use Rattle.script.specs.Steps.{held, HandSized}
+use Rattle.script.specs.Steps.{held}
 use Rattle.standard.specs.Answers.{printed}
 use Rattle.session.specs.Program.{Left}
-use Rattle.session.proofs.run.Given as goal
+use Rattle.session.proofs.session.Given as goal
 
 abbrev pub invariant-loop-at : goal.invariant-loop-at
 invariant-loop-at g l = record {
-  sized : HandSized l.hand;
-  left : Left l.input l.handed.answers l.at (held l.hand l.cells l.functions);
+  left : Left l.input l.handed.answers l.at (held l.hand l.buffers.cells l.buffers.functions);
   few : l.handed.answers ≤ l.at;
   written : Appends (g.W.Write.contents l.initial.output.stream) (g.W.Write.contents l.output.stream) (printed l.input l.handed.answers);
-  cells : length l.cells ≡ length l.initial.cells;
-  functions : length l.functions ≡ length l.initial.functions;
-  cell_list : length l.cell_list ≡ length l.initial.cell_list;
-  function_list : length l.function_list ≡ length l.initial.function_list;
-  out : length l.out ≡ length l.initial.out;
   none_failed : l.output.has_failed ≡ l.initial.output.has_failed;
 }
 
