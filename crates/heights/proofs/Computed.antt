@@ -16,8 +16,8 @@ use Rattle.grid.specs.Knots.{is_set, is_corner, corners_to, times, knot_from, kn
 use Rattle.grid.specs.Plan.{between, numbers_in_range, corners_in_range, in_range, too_large, ratio, grown, above, below, parent, child, last_level, supported_at, supported, ancestor, common_at, near_at, near, plan_of}
 use Rattle.mesh.specs.Mesh.{absent, active, refined, children, cell_fits, is_mesh, is_admissible, table_of, label_of, labels, is_labelled, refusal3, refusal6, check}
 use Rattle.splines.specs.Values.{rise, fall, box, basis, scale, cell_of, value, value_in, value_on}
-use Rattle.heights.specs.declared.Height.{Height}
-use Rattle.heights.specs.declared.Height.TheVariants.{At, Refused}
+use Rattle.heights.specs.Height.{Height}
+use Rattle.heights.specs.Height.{At, Refused}
 use Rattle.heights.specs.Heights.{eighths, on_mesh, value_at, product_of, height_sum, places, inexact, low, all_low, heights_refusal, refusal, answer, low_on}
 use Rattle.heights.specs.Demands.{touches}
 

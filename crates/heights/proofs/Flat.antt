@@ -29,7 +29,7 @@ use Rattle.mesh.specs.Mesh.{active, fresh_cells, fresh_functions}
 use Rattle.mesh.proofs.Fresh.{fresh_checked}
 use Rattle.tables.specs.Entries.{fresh_byte}
 use Rattle.tables.proofs.Calls.{first_level}
-use Rattle.heights.specs.declared.Height.TheVariants.{At}
+use Rattle.heights.specs.Height.{At}
 use Rattle.heights.specs.Heights.{on_mesh, value_at, one_at, product_of, height_sum, places, inexact, low, all_low, answer, number_of, height_of, low_on, product_at}
 use Rattle.heights.specs.Demands.{Flat}
 use Rattle.heights.specs.Steps.{Point}

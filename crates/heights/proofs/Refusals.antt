@@ -15,7 +15,7 @@ use Rattle.grid.specs.Plan.{function_total}
 use Rattle.grid.specs.Range.{InRange}
 use Rattle.mesh.specs.Mesh.{check}
 use Rattle.mesh.proofs.Bridge.{check_passed, pass, stop}
-use Rattle.heights.specs.declared.Height.TheVariants.{At, Refused}
+use Rattle.heights.specs.Height.{At, Refused}
 use Rattle.heights.specs.Heights.{on_mesh, height_sum, places, inexact, all_low, heights_refusal, refusal, answer}
 use Rattle.heights.specs.Steps.{Point, OnSurface}
 

@@ -21,7 +21,7 @@ use Rattle.grid.specs.declared.Plan.{Plan}
 use Rattle.grid.specs.Plan.{function_total, function_place, function_level}
 use Rattle.grid.proofs.Laws.{in_range_lem}
 use Rattle.mesh.specs.Mesh.{active, check}
-use Rattle.heights.specs.declared.Height.TheVariants.{At, Refused}
+use Rattle.heights.specs.Height.{At, Refused}
 use Rattle.heights.specs.Heights.{on_mesh, value_at, product_of, height_sum, places, low, low_on, all_low, heights_refusal, refusal, answer, number_of, height_of}
 use Rattle.heights.specs.Demands.{Answered, Subtracted, Demands}
 use Rattle.heights.specs.Steps.{OnSurface, most}

@@ -10,8 +10,8 @@ use Rattle.grid.specs.declared.Place.{Place}
 use Rattle.grid.specs.Plan.{between, in_range, too_large, across_at, up_at, function_columns_at, function_rows_at, function_offset, cell_total, function_total, cell_place, function_place, cell_level, function_level, supported}
 use Rattle.mesh.specs.Mesh.{active, fresh_cells, fresh_functions}
 use Rattle.splines.specs.Values.{is_inside}
-use Rattle.heights.specs.declared.Height.{Height}
-use Rattle.heights.specs.declared.Height.TheVariants.{At, Refused}
+use Rattle.heights.specs.Height.{Height}
+use Rattle.heights.specs.Height.{At, Refused}
 use Rattle.heights.specs.Heights.{eighths, on_mesh, value_at, one_at, height_sum, places, inexact, refusal, answer, number_of, height_of}
 
 -- ---- the answer

@@ -8,9 +8,9 @@ use Rattle.grid.specs.declared.Place.{Place}
 use Rattle.grid.specs.Plan.{ratio, columns_at, rows_at, across_at, up_at, function_total, function_place, function_level}
 use Rattle.splines.specs.Values.{value_on}
 use Rattle.mesh.specs.Mesh.{active, check}
-use Rattle.heights.specs.declared.Height.{Height}
+use Rattle.heights.specs.Height.{Height}
 use Rattle.heights.specs.declared.HeightAnswer.{HeightAnswer}
-use Rattle.heights.specs.declared.Height.TheVariants.{At, Refused}
+use Rattle.heights.specs.Height.{At, Refused}
 
 -- ---- points: "whole eighths of a last-level cell, from 0 to the far edge inclusive"
 

@@ -1,3 +1,4 @@
+pub mod Height
 pub mod Heights
 pub mod Steps
 pub mod Demands

@@ -2,25 +2,21 @@
 #![tactic(auto)]
 
 ghost use Rattle.std.specs.Prelude.{◌≡◌, ◌+◌, ◌*◌, ◌≤◌, ◌<◌, pos, length};
+ghost use Rattle.refusals.specs.Numbers.{number_of};
 ghost use Rattle.exact.specs.Dyadic.{dyadic};
 ghost use Rattle.grid.specs.Plan.{function_total};
 ghost use Rattle.grid.specs.Range.{InRange};
+ghost use Rattle.heights.specs.Height.{told};
 ghost use Rattle.heights.specs.Heights.{eighths, on_mesh, height_sum, places, inexact, all_low, heights_refusal, answer, flattened};
 ghost use Rattle.heights.specs.Steps.{Unit, OnSurface, level_part};
 
 use grid::{Place, Plan};
+use refusals::Refusal;
 
 mod limits; // how large heights may be
 mod sums; // the functions over a point, row by row
 
-// What a call answers: the height in millimetres, or a refusal.
-#[derive(Clone, Copy)]
-pub enum Height {
-    At(f64),
-    Refused(u32),
-}
-
-// The same for C, which has no enum that holds a value: 0 and the height, or a refusal and 0.
+// The height in millimetres, or a refusal, for C, which has no enum that holds a value: 0 and the height, or a refusal and 0.
 #[repr(C)]
 #[derive(Clone, Copy)]
 pub struct HeightAnswer {
@@ -28,15 +24,17 @@ pub struct HeightAnswer {
     pub height: f64,
 }
 
-pub fn flatten(answer: Height) -> HeightAnswer
-    ensures { result ≡ flattened answer }
-{
-    match answer {
-        Height::At(height) => HeightAnswer { number: 0, height },
-        Height::Refused(number) => HeightAnswer {
-            number,
-            height: 0.0,
-        },
+impl From<Result<f64, Refusal>> for HeightAnswer {
+    ghost from_gives = { λ answer flat. flat ≡ flattened (told answer) };
+
+    fn from(answer: Result<f64, Refusal>) -> HeightAnswer {
+        match answer {
+            Ok(height) => HeightAnswer { number: 0, height },
+            Err(refusal) => HeightAnswer {
+                number: u32::from(refusal),
+                height: 0.0,
+            },
+        }
     }
 }
 
@@ -139,22 +137,21 @@ pub fn all_low(plan: Plan, functions: &[u8], heights: &[i32]) -> bool
     ok
 }
 
-// What is refused of the heights of a mesh, whatever the point: 3, 14 or 15; or 0.
-pub fn refusal(plan: Plan, functions: &[u8], heights: &[i32]) -> u32
+// The first refusal of the heights of a mesh, whatever the point, of 3, 14 and 15, if any.
+pub fn refusal(plan: Plan, functions: &[u8], heights: &[i32]) -> Result<(), Refusal>
     requires { (InRange plan) × (length functions.now ≡ function_total plan) }
-    ensures { result ≡ heights_refusal plan functions.now heights.now }
+    ensures { number_of result ≡ heights_refusal plan functions.now heights.now }
 {
-    let total = plan.function_total() as usize;
-    if heights.len() != total {
-        return 3;
+    if heights.len() != plan.function_total() as usize {
+        return Err(Refusal::TableLength);
     }
     if inexact(plan) {
-        return 14;
+        return Err(Refusal::PlanWithoutHeights);
     }
-    if all_low(plan, functions, heights) {
-        return 0;
+    if !all_low(plan, functions, heights) {
+        return Err(Refusal::PointOrHeightOutOfRange);
     }
-    15
+    Ok(())
 }
 
 // The height at a point, or a refusal.
@@ -165,19 +162,13 @@ pub fn answer(
     heights: &[i32],
     across: u32,
     up: u32,
-) -> Height
-    ensures { result ≡ answer plan cells.now functions.now heights.now across up }
+) -> Result<f64, Refusal>
+    ensures { told result ≡ answer plan cells.now functions.now heights.now across up }
 {
-    let checked = tables::check(plan, cells, functions);
-    if checked != 0 {
-        return Height::Refused(checked);
+    tables::check(plan, cells, functions)?;
+    refusal(plan, functions, heights)?;
+    if !on_mesh(plan, across, up) {
+        return Err(Refusal::PointOrHeightOutOfRange);
     }
-    let number = refusal(plan, functions, heights);
-    if number != 0 {
-        return Height::Refused(number);
-    }
-    if on_mesh(plan, across, up) {
-        return Height::At(height_at(plan, functions, heights, across, up));
-    }
-    Height::Refused(15)
+    Ok(height_at(plan, functions, heights, across, up))
 }

@@ -7,7 +7,7 @@ use Rattle.grid.specs.declared.Plan.{Plan}
 use Rattle.grid.specs.declared.Place.{Place}
 use Rattle.grid.specs.Plan.{in_range, too_large, cell_total, cell_place}
 use Rattle.mesh.specs.Mesh.{active, tally, count}
-use Rattle.heights.specs.declared.Height.{Height}
+use Rattle.heights.specs.Height.{Height}
 use Rattle.heights.specs.Heights.{answer, number_of, height_of}
 use Rattle.projector.specs.declared.Corner.{Corner}
 use Rattle.projector.specs.declared.CornersAnswer.{CornersAnswer}

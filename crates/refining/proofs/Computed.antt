@@ -21,7 +21,7 @@ use Rattle.outcomes.specs.Calls.{coarsen, cells as byCells, functions as byFunct
 use Rattle.outcomes.specs.Runs.{Tables, LentLists, Entry, result}
 use Rattle.outcomes.specs.Runs as runs
 use Rattle.splines.specs.Values.{rise, fall, box, basis, scale, cell_of, value, value_in, value_on}
-use Rattle.heights.specs.declared.Height.TheVariants.{At}
+use Rattle.heights.specs.Height.{At}
 use Rattle.heights.specs.Heights.{eighths, on_mesh, value_at, product_of, height_sum, inexact, low, low_on, all_low, heights_refusal, refusal as pointRefusal, answer}
 use Rattle.twoscale.specs.TwoScale.{coefficient, quarters}
 use Rattle.carry.specs.Carry.{sixteenths, heights_of, pass_on, carried, only_active, carry}

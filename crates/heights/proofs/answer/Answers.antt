@@ -1,37 +1,28 @@
 -- `answer` meets its contract: check, the heights, the point. Assumes nothing.
-use mathlib.Core.Path.{◌≡◌, sym, ◌∙◌}
-use Rattle.mesh.specs.Mesh.{check}
+use mathlib.Core.Path.{sym, ◌∙◌}
+use Rattle.refusals.proofs.Refused.{refused, handed_on}
 use Rattle.mesh.proofs.Bridge.{check_passed}
-use Rattle.heights.specs.Heights.{heights_refusal}
 use Rattle.heights.proofs.Refusals.{refused_check, refused_heights, refused_point, answered, on_surface}
 use Rattle.heights.proofs.answer.Goals as goal
-use Rattle.heights.proofs.answer.Goals.{Else-checked-ne0, Else-number-ne0}
 
-pub returns-then-checked-ne0 : goal.returns-then-checked-ne0
-returns-then-checked-ne0 c = refused_check _ _ _ _ _ _ c.check-checked.ensures c.if-checked-ne0.true
+pub returns-in_err-check : goal.returns-in_err-check
+returns-in_err-check c = rw (handed_on _ c.from_residual.ensures.1) (refused_check _ _ _ _ _ _ c.in_err-check.ensures (refused c.in_err-check.field-0.0))
 
--- check answered 0
-passed : (c : Else-checked-ne0) → check c.args.plan c.args.cells.now c.args.functions.now ≡ 0
-passed c = sym c.check-checked.ensures ∙ c.if-checked-ne0.false
+pub refusal-requires : goal.refusal-requires
+refusal-requires c = let k = check_passed _ _ _ (sym c.in_ok-check.ensures) in (k.range, k.functions)
 
--- and nothing of the heights is refused
-unrefused : (c : Else-number-ne0) → heights_refusal c.args.plan c.args.functions.now c.args.heights.now ≡ 0
-unrefused c = sym c.refusal-number.ensures ∙ c.if-number-ne0.false
-
-pub refusal-number-requires : goal.refusal-number-requires
-refusal-number-requires c = let k = check_passed _ _ _ (passed (goal.at.refusal-number-requires c).Else-checked-ne0) in (k.range, k.functions)
-
-pub returns-then-number-ne0 : goal.returns-then-number-ne0
-returns-then-number-ne0 c = refused_heights _ _ _ _ _ _ (passed (goal.at.returns-then-number-ne0 c).Else-checked-ne0) c.refusal-number.ensures c.if-number-ne0.true
+pub returns-in_err-refusal : goal.returns-in_err-refusal
+returns-in_err-refusal c = rw (handed_on _ c.from_residual-in_err-refusal.ensures.1)
+    (refused_heights _ _ _ _ _ _ (sym c.in_ok-check.ensures) c.in_err-refusal.ensures (refused c.in_err-refusal.field-0.0))
 
 pub on_mesh-requires : goal.on_mesh-requires
-on_mesh-requires c = (check_passed _ _ _ (passed (goal.at.on_mesh-requires c).Else-checked-ne0)).range
+on_mesh-requires c = (check_passed _ _ _ (sym c.in_ok-check.ensures)).range
 
 pub height_at-requires : goal.height_at-requires
-height_at-requires c = on_surface _ _ _ _ _ _ (passed (goal.at.height_at-requires c).Else-checked-ne0) (unrefused (goal.at.height_at-requires c).Else-number-ne0) (sym c.on_mesh.ensures ∙ c.if-on_mesh.true)
+height_at-requires c = on_surface _ _ _ _ _ _ (sym c.in_ok-check.ensures) (sym c.in_ok-refusal.ensures) (sym c.on_mesh.ensures ∙ c.if-not-on_mesh.false)
 
-pub returns-then-on_mesh : goal.returns-then-on_mesh
-returns-then-on_mesh c = answered _ _ _ _ _ _ (passed (goal.at.returns-then-on_mesh c).Else-checked-ne0) (unrefused (goal.at.returns-then-on_mesh c).Else-number-ne0) (sym c.on_mesh.ensures ∙ c.if-on_mesh.true) c.height_at.ensures
+pub returns-then-not-on_mesh : goal.returns-then-not-on_mesh
+returns-then-not-on_mesh c = refused_point _ _ _ _ _ _ (sym c.in_ok-check.ensures) (sym c.in_ok-refusal.ensures) (sym c.on_mesh.ensures ∙ c.if-not-on_mesh.true)
 
 pub returns : goal.returns
-returns c = refused_point _ _ _ _ _ _ (passed (goal.at.returns c).Else-checked-ne0) (unrefused (goal.at.returns c).Else-number-ne0) (sym c.on_mesh.ensures ∙ c.if-on_mesh.false)
+returns c = answered _ _ _ _ _ _ (sym c.in_ok-check.ensures) (sym c.in_ok-refusal.ensures) (sym c.on_mesh.ensures ∙ c.if-not-on_mesh.false) c.height_at.ensures
