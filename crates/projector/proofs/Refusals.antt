@@ -1,20 +1,20 @@
 -- The refusals in their order, and what they leave. Assumes nothing.
 use mathlib.Core.Path.{◌≡◌, refl, sym, ◌∙◌}
 use mathlib.Core.Logic.{◌≢◌}
-use mathlib.Core.Bool.{Bool, true, false, not, ◌&&◌, cond}
+use mathlib.Core.Bool.{Bool, true, false, not, cond}
 use mathlib.Core.List.{List}
 use Prim.Native.Nat.{ℕ, zero, suc, ◌≤◌, ◌<◌}
 use native.Mathlib.Omega.{arith}
-use lib.Dec.{eqb, ltb, eqb-suc-zero, nltb→le}
+use lib.Dec.{ltb, eqb-suc-zero, nltb→le}
 use lib.IntN.{ℤ}
 use lib.ListN.{length}
 use borrow.Author.Tests.{ne_eqb, lt-ltb, le-ltb}
-use Rattle.facts.proofs.Tests.{T_true, true_T}
+use Rattle.facts.proofs.Tests.{T_true}
 use Rattle.grid.specs.declared.Plan.{Plan}
-use Rattle.grid.specs.Plan.{in_range, too_large, cell_total, function_total}
+use Rattle.grid.specs.Plan.{in_range, too_large, cell_total, function_total, plan_refusal as grid_refusal}
 use Rattle.grid.specs.Range.{InRange}
-use Rattle.grid.proofs.Laws.{in_range_lem}
-use Rattle.mesh.specs.Mesh.{refusal3, check}
+use Rattle.grid.proofs.Laws.{taken, refused as plan_refused}
+use Rattle.mesh.specs.Mesh.{check}
 use Rattle.mesh.proofs.Bridge.{chain, check_passed}
 use Rattle.heights.specs.Heights.{on_mesh, heights_refusal}
 use Rattle.heights.proofs.Refusals.{on_surface}
@@ -22,28 +22,9 @@ use Rattle.projector.specs.declared.CornersAnswer.{CornersAnswer}
 use Rattle.projector.specs.Projector.{most_projected, corners, plan_refusal, mesh_refusal, refusal, CornersOutcome, refused, filled, project}
 use Rattle.projector.specs.Steps.{Ready}
 
--- ---- 1 and 2 of refusals 1 to 3
-
 -- refusals 1 to 3, by what they judge
 abbrev pub three : Bool → Bool → Bool → ℕ
 three a b c = cond (not a) 1 (cond b 2 (cond (not c) 3 0))
-
-out_of_range : (a b c : Bool) → three a b c ≡ 1 → a ≡ false
-out_of_range false b c e = refl
-out_of_range true true c e = absurd (omega arith)
-out_of_range true false true e = absurd (omega arith)
-out_of_range true false false e = absurd (omega arith)
-
-large : (a b c : Bool) → three a b c ≡ 2 → (a ≡ true) × (b ≡ true)
-large true true c e = (refl, refl)
-large false b c e = absurd (omega arith)
-large true false true e = absurd (omega arith)
-large true false false e = absurd (omega arith)
-
-neither : (a b c : Bool) → three a b c ≢ 1 → three a b c ≢ 2 → (a ≡ true) × (b ≡ false)
-neither true false c g h = (refl, refl)
-neither false b c g h = absurd (g refl)
-neither true true c g h = absurd (h refl)
 
 -- ---- 16
 
@@ -64,32 +45,18 @@ plan_16 p a b l = rw (a, b, lt-ltb most_projected (cell_total p) l) refl
 -- ---- the order
 
 module _ (p : Plan) (cells functions : List ℕ) where
-  abbrev sized : Bool
-  sized = eqb (length cells) (cell_total p) && eqb (length functions) (function_total p)
-
-  pub refuse_1 : refusal3 p cells functions ≡ 1 → 1 ≡ mesh_refusal p cells functions
-  unfolding refusal3 mesh_refusal plan_refusal
-  refuse_1 e = rw (out_of_range (in_range p) (too_large p) sized e) refl
-
-  pub refuse_2 : refusal3 p cells functions ≡ 2 → 2 ≡ mesh_refusal p cells functions
-  unfolding refusal3 mesh_refusal plan_refusal
-  refuse_2 e = let (a, b) = large (in_range p) (too_large p) sized e in rw (a, b) refl
-
-  -- what neither of them leaves
-  allowed : refusal3 p cells functions ≢ 1 → refusal3 p cells functions ≢ 2 → (in_range p ≡ true) × (too_large p ≡ false)
-  unfolding refusal3
-  allowed g h = neither (in_range p) (too_large p) sized g h
-
-  pub ranged : refusal3 p cells functions ≢ 1 → refusal3 p cells functions ≢ 2 → InRange p
-  ranged g h = in_range_lem p (true_T _ (allowed g h).0)
-
-  pub refuse_16 : refusal3 p cells functions ≢ 1 → refusal3 p cells functions ≢ 2 → most_projected < cell_total p → 16 ≡ mesh_refusal p cells functions
-  unfolding mesh_refusal
-  refuse_16 g h l = let (a, b) = allowed g h in rw (plan_16 p a b l) refl
-
-  pub refuse_later : refusal3 p cells functions ≢ 1 → refusal3 p cells functions ≢ 2 → cell_total p ≤ most_projected → check p cells functions ≡ mesh_refusal p cells functions
+  -- 1 and 2
+  pub refuse_plan : grid_refusal p ≢ 0 → grid_refusal p ≡ mesh_refusal p cells functions
   unfolding mesh_refusal plan_refusal
-  refuse_later g h l = let (a, b) = allowed g h in rw (a, b, le-ltb most_projected (cell_total p) l) refl
+  refuse_plan e = sym (rw (plan_refused p _ e, ne_eqb (grid_refusal p) 0 e) refl)
+
+  pub refuse_16 : grid_refusal p ≡ 0 → most_projected < cell_total p → 16 ≡ mesh_refusal p cells functions
+  unfolding mesh_refusal plan_refusal
+  refuse_16 e l = sym (rw (taken p (cond (ltb most_projected (cell_total p)) 16 0) e, lt-ltb most_projected (cell_total p) l) refl)
+
+  pub refuse_later : grid_refusal p ≡ 0 → cell_total p ≤ most_projected → check p cells functions ≡ mesh_refusal p cells functions
+  unfolding mesh_refusal plan_refusal
+  refuse_later e l = sym (rw (taken p (cond (ltb most_projected (cell_total p)) 16 0) e, le-ltb most_projected (cell_total p) l) refl)
 
   -- ---- what they leave
 

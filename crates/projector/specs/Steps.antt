@@ -1,6 +1,8 @@
 -- What the contracts of the parts cite. Definitions only.
-use Rattle.std.specs.Prelude.{not, List, ℕ, ◌≤◌, T, ℤ}
+use Rattle.std.specs.Prelude.{Result, Ok, Err, not, List, ℕ, ◌≤◌, T, ℤ}
 use Rattle.std.specs.Float.Ieee.{is_nan}
+use Rattle.refusals.specs.declared.Refusal.{Refusal}
+use Rattle.refusals.specs.Numbers.{number}
 use Rattle.grid.specs.declared.Plan.{Plan}
 use Rattle.grid.specs.Plan.{cell_total}
 use Rattle.grid.specs.Range.{InRange}
@@ -11,6 +13,11 @@ use Rattle.projector.specs.declared.CornersAnswer.{CornersAnswer}
 use Rattle.projector.specs.Projector.{most_projected, CornersOutcome}
 use Rattle.std.specs.Borrow.{MutBor}
 use denote.Triple.Both.{Both}
+
+-- what C gets of the call: 0 and how many corners were written, or a refusal and 0
+abbrev pub answered : Result ℕ Refusal → CornersAnswer
+answered (Ok n) = record { number = 0; corners = n }
+answered (Err r) = record { number = number r; corners = 0 }
 
 -- an answer, and what the lent words hold at exit
 abbrev pub left_by_corners : CornersAnswer → Both (MutBor (List ℕ)) (MutBor (List ℕ)) → CornersOutcome

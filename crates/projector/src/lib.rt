@@ -3,12 +3,14 @@
 
 ghost use Rattle.std.specs.Prelude.{◌≡◌, ◌+◌, ◌≤◌, ◌<◌, length};
 ghost use Rattle.facts.specs.Writing.{Writes};
+ghost use Rattle.refusals.specs.Numbers.{number_of};
 ghost use Rattle.grid.specs.Plan.{cell_total, CellInside};
 ghost use Rattle.grid.specs.Range.{InRange};
 ghost use Rattle.projector.specs.Projector.{line_at, corner_of, corners_of, corners, three_words, words_of, mesh_refusal, filled, project};
-ghost use Rattle.projector.specs.Steps.{left_by_corners, Numbers, Ready};
+ghost use Rattle.projector.specs.Steps.{left_by_corners, Numbers, Ready, answered};
 
 use grid::{Cell, Place, Plan};
+use refusals::Refusal;
 
 // The most cells that a mesh may have here, of all levels together.
 const MOST_PROJECTED: u32 = 1024;
@@ -21,12 +23,26 @@ pub struct Corner {
     pub height: f64,
 }
 
-// What the call answers: a refusal or 0, and how many corners were written.
+// How many corners were written, or a refusal, for C, which has no enum that holds a value: 0 and the corners, or a refusal and 0.
 #[repr(C)]
 #[derive(Clone, Copy)]
 pub struct CornersAnswer {
     pub number: u32,
     pub corners: u32,
+}
+
+impl From<Result<u32, Refusal>> for CornersAnswer {
+    ghost from_gives = { λ corners answer. answer ≡ answered corners };
+
+    fn from(corners: Result<u32, Refusal>) -> CornersAnswer {
+        match corners {
+            Ok(corners) => CornersAnswer { number: 0, corners },
+            Err(refusal) => CornersAnswer {
+                number: u32::from(refusal),
+                corners: 0,
+            },
+        }
+    }
 }
 
 // The line before column (or row) x of a level, in cells of the last level.
@@ -119,28 +135,15 @@ fn put_all(plan: Plan, cells: &[u8], functions: &[u8], heights: &[i32], out: &mu
     at
 }
 
-// Refusals 1, 2, 16 and 3 to 6, or 0.
-fn mesh_refusal(plan: Plan, cells: &[u8], functions: &[u8]) -> u32
-    ensures { result ≡ mesh_refusal plan cells.now functions.now }
+// The first of refusals 1, 2, 16 and 3 to 6, if any.
+fn mesh_refusal(plan: Plan, cells: &[u8], functions: &[u8]) -> Result<(), Refusal>
+    ensures { number_of result ≡ mesh_refusal plan cells.now functions.now }
 {
-    let early = tables::refusal(plan, cells, functions);
-    if early == 1 {
-        return 1;
-    }
-    if early == 2 {
-        return 2;
-    }
+    plan.refusal()?;
     if plan.cell_total() > MOST_PROJECTED {
-        return 16;
+        return Err(Refusal::TooManyCellsToProject);
     }
     tables::check(plan, cells, functions)
-}
-
-// A refusal writes nothing.
-fn refused(number: u32) -> CornersAnswer
-    ensures { result ≡ record { number = number; corners = 0 } }
-{
-    CornersAnswer { number, corners: 0 }
 }
 
 // Fills the output, when nothing but its length can be refused.
@@ -150,23 +153,20 @@ fn fill(
     functions: &[u8],
     heights: &[i32],
     out: &mut [u64],
-) -> CornersAnswer
+) -> Result<u32, Refusal>
     requires ready { Ready plan functions.now heights.now }
     requires cells_len { length cells.now ≡ cell_total plan }
-    ensures { left_by_corners result out ≡ filled (corners plan functions.now heights.now cells.now) out.old }
+    ensures { left_by_corners (answered result) out ≡ filled (corners plan functions.now heights.now cells.now) out.old }
 {
     let count = tables::bytes::tally(cells, 1);
     if out.len() < 12 * count as usize {
-        return refused(10);
+        return Err(Refusal::CellListTooShort);
     }
     put_all(plan, cells, functions, heights, out);
-    CornersAnswer {
-        number: 0,
-        corners: 4 * count,
-    }
+    Ok(4 * count)
 }
 
-// Four corners for each active cell, in rising order; nothing with a refusal. The output is lent as words of 64 bits, each the bits of a
+// Four corners for each active cell, in rising order, and how many there are; nothing is written with a refusal. The output is lent as words of 64 bits, each the bits of a
 // float: so what is not written keeps its bits, whatever they are, and not only its value as a float.
 pub fn corners(
     plan: Plan,
@@ -174,16 +174,10 @@ pub fn corners(
     functions: &[u8],
     heights: &[i32],
     out: &mut [u64],
-) -> CornersAnswer
-    ensures { left_by_corners result out ≡ project plan cells.now functions.now heights.now out.old }
+) -> Result<u32, Refusal>
+    ensures { left_by_corners (answered result) out ≡ project plan cells.now functions.now heights.now out.old }
 {
-    let early = mesh_refusal(plan, cells, functions);
-    if early != 0 {
-        return refused(early);
-    }
-    let number = heights::refusal(plan, functions, heights);
-    if number != 0 {
-        return refused(number);
-    }
+    mesh_refusal(plan, cells, functions)?;
+    heights::refusal(plan, functions, heights)?;
     fill(plan, cells, functions, heights, out)
 }

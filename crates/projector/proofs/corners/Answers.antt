@@ -1,35 +1,27 @@
 -- `corners` meets its contract: the plan and the mesh, the heights, the room. Assumes nothing.
-use mathlib.Core.Path.{◌≡◌, sym, ◌∙◌}
-use native.Mathlib.Omega.{arith}
-use Rattle.heights.specs.Heights.{heights_refusal}
-use Rattle.projector.specs.Projector.{mesh_refusal}
+use mathlib.Core.Path.{refl, sym}
+use Rattle.refusals.proofs.Refused.{refused, handed_on}
 use Rattle.projector.proofs.Refusals.{passed, ready, refused_mesh, refused_heights, accepted}
 use Rattle.projector.proofs.corners.Goals as goal
-use Rattle.projector.proofs.corners.Goals.{Else-early-ne0, Else-number-ne0}
 
-pub returns-then-early-ne0 : goal.returns-then-early-ne0
-returns-then-early-ne0 c = let a = c.args in
-    refused_mesh a.plan a.cells.now a.functions.now a.heights.now a.out.now c.mesh_refusal-early.ensures (omega (arith, c.if-early-ne0.true)) c.refused.ensures
+pub returns-in_err-mesh_refusal : goal.returns-in_err-mesh_refusal
+returns-in_err-mesh_refusal c = let a = c.args in
+    let e = c.in_err-mesh_refusal in
+    rw (handed_on _ c.from_residual.ensures.1) (refused_mesh a.plan a.cells.now a.functions.now a.heights.now a.out.now e.ensures (refused e.field-0.0) refl)
 
--- neither the plan nor the mesh is refused
-fine : (c : Else-early-ne0) → let a = c.args in mesh_refusal a.plan a.cells.now a.functions.now ≡ 0
-fine c = sym c.mesh_refusal-early.ensures ∙ omega (arith, c.if-early-ne0.false)
+pub refusal-requires : goal.refusal-requires
+refusal-requires c = let k = passed _ _ _ (sym c.in_ok-mesh_refusal.ensures) in (k.range, k.of_functions)
 
-pub refusal-number-requires : goal.refusal-number-requires
-refusal-number-requires c = let k = passed _ _ _ (fine (goal.at.refusal-number-requires c).Else-early-ne0) in (k.range, k.of_functions)
-
-pub returns-then-number-ne0 : goal.returns-then-number-ne0
-returns-then-number-ne0 c = let a = c.args in
-    refused_heights a.plan a.cells.now a.functions.now a.heights.now a.out.now (fine (goal.at.returns-then-number-ne0 c).Else-early-ne0) c.refusal-number.ensures c.if-number-ne0.true c.refused-then-number-ne0.ensures
-
--- nor are the heights
-low : (c : Else-number-ne0) → let a = c.args in heights_refusal a.plan a.functions.now a.heights.now ≡ 0
-low c = sym c.refusal-number.ensures ∙ c.if-number-ne0.false
+pub returns-in_err-refusal : goal.returns-in_err-refusal
+returns-in_err-refusal c = let a = c.args in
+    let e = c.in_err-refusal in
+    rw (handed_on _ c.from_residual-in_err-refusal.ensures.1)
+    (refused_heights a.plan a.cells.now a.functions.now a.heights.now a.out.now (sym c.in_ok-mesh_refusal.ensures) e.ensures (refused e.field-0.0) refl)
 
 pub fill-requires : goal.fill-requires
 fill-requires c = let a = c.args in
-    record { ready = ready a.plan a.cells.now a.functions.now a.heights.now a.out.now (fine (goal.at.fill-requires c).Else-early-ne0) (low (goal.at.fill-requires c).Else-number-ne0); cells_len = (passed _ _ _ (fine (goal.at.fill-requires c).Else-early-ne0)).of_cells }
+    record { ready = ready a.plan a.cells.now a.functions.now a.heights.now a.out.now (sym c.in_ok-mesh_refusal.ensures) (sym c.in_ok-refusal.ensures); cells_len = (passed _ _ _ (sym c.in_ok-mesh_refusal.ensures)).of_cells }
 
 pub returns : goal.returns
 returns c = let a = c.args in
-    accepted a.plan a.cells.now a.functions.now a.heights.now a.out.now (fine (goal.at.returns c).Else-early-ne0) (low (goal.at.returns c).Else-number-ne0) c.fill.ensures
+    accepted a.plan a.cells.now a.functions.now a.heights.now a.out.now (sym c.in_ok-mesh_refusal.ensures) (sym c.in_ok-refusal.ensures) c.fill.ensures

@@ -1,5 +1,5 @@
 -- `fill` meets its contract: the room is enough for all corners before the first is written. Assumes nothing.
-use mathlib.Core.Path.{◌≡◌}
+use mathlib.Core.Path.{◌≡◌, refl}
 use Prim.Native.Nat.{◌≤◌}
 use native.Mathlib.Omega.{arith}
 use lib.ListN.{length}
@@ -16,7 +16,7 @@ count c = counted c.args.plan c.args.cells.now c.requires.cells_len c.tally-coun
 
 pub returns-then-out-count : goal.returns-then-out-count
 returns-then-out-count c = let a = c.args in
-    too_short _ a.out.now (omega (arith, c.if-out-count.true, count (goal.at.returns-then-out-count c).After-tally-count, words_count a.plan a.functions.now a.heights.now a.cells.now)) c.refused.ensures
+    too_short _ a.out.now (omega (arith, c.if-out-count.true, count (goal.at.returns-then-out-count c).After-tally-count, words_count a.plan a.functions.now a.heights.now a.cells.now)) refl
 
 count_1 : (c : Else-out-count) → c.tally-count.result ≡ tally (cell_total c.args.plan) (active c.args.cells.now)
 count_1 c = counted c.args.plan c.args.cells.now c.requires.cells_len c.tally-count.ensures
