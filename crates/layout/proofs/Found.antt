@@ -1,5 +1,5 @@
 -- What the tests of the layout say of a plan, and that each answer is the one of the definition. Assumes nothing.
-use mathlib.Core.Path.{◌≡◌, refl}
+use mathlib.Core.Path.{◌≡◌, refl, sym, ◌∙◌}
 use mathlib.Core.Bool.{Bool, true, false, ◌&&◌, cond}
 use Prim.Native.Nat.{ℕ, ◌+◌, ◌≤◌, ◌<◌}
 use native.Mathlib.Omega.{arith}
@@ -8,7 +8,6 @@ use borrow.Author.Tests.{ne_eqb, lt-ltb, le-ltb}
 use Rattle.facts.proofs.Tests.{and_i, and_l, and_r, T_true, eqb_of}
 use Rattle.grid.specs.declared.Plan.{Plan}
 use Rattle.grid.specs.declared.Place.{Place}
-use Rattle.grid.specs.declared.Rectangle.{Rectangle}
 use Rattle.grid.specs.Knots.{knot_on}
 use Rattle.grid.specs.Plan.{plan_refusal, columns_at, rows_at, function_columns_at, function_rows_at, cell_offset, function_offset, cell_total, function_total, cell_place, cell_number, function_place, across_at, up_at, CellInside, FunctionInside}
 use Rattle.grid.specs.Range.{InRange}
@@ -16,12 +15,7 @@ use Rattle.grid.specs.Spans.{support_of}
 use Rattle.grid.proofs.Laws.{taken_range, across_sized, up_sized}
 use Rattle.grid.proofs.SideLaws.{support_knots}
 use Rattle.grid.proofs.Spans.{across_functions, up_functions}
-use Rattle.layout.specs.declared.Support.{Support}
-use Rattle.layout.specs.Layout.{is_taken, cells_length, functions_length, has_level, level_at, place_of, has_place, cell_at, support_at, support}
-
--- a rectangle as the answer has it
-abbrev pub answered : Rectangle → Support
-answered r = record { found = 1; level = r.level; first_row = r.rows.first; end_row = r.rows.end; first_column = r.columns.first; end_column = r.columns.end }
+use Rattle.layout.specs.Layout.{answered, is_taken, cells_length, functions_length, has_level, level_at, place_of, has_place, cell_at, support_at, support}
 
 below : (b : Bool) (n t : ℕ) → n < cond b t 0 → T b × (n < t)
 below true n t l = (tt, l)
@@ -71,6 +65,10 @@ module _ (p : Plan) where
   pub level_has : (k : ℕ) → T (has_level p k) → InRange p × (k < p.levels)
   unfolding has_level
   level_has k t = (range_of (and_l (is_taken p) _ t), ltb→lt k p.levels (and_r (is_taken p) _ t))
+
+  -- the same of the test's answer
+  pub level_said : {k : ℕ} {b : Bool} → b ≡ has_level p k → b ≡ true → InRange p × (k < p.levels)
+  level_said e t = level_has _ (rw (sym e ∙ t) tt)
 
   pub level_taken : (k : ℕ) → T (has_level p k) → plan_refusal p ≡ 0
   unfolding has_level

@@ -3,6 +3,7 @@
 use Rattle.std.specs.Prelude.{Bool, ◌&&◌, cond, ℕ, ◌+◌, eqb, ltb}
 use Rattle.grid.specs.declared.Plan.{Plan}
 use Rattle.grid.specs.declared.Place.{Place}
+use Rattle.grid.specs.declared.Rectangle.{Rectangle}
 use Rattle.grid.specs.Knots.{knot_on}
 use Rattle.grid.specs.Plan.{plan_refusal, columns_at, rows_at, function_columns_at, function_rows_at, cell_offset, function_offset, cell_total, function_total, cell_place, cell_number, function_place, across_at, up_at}
 use Rattle.layout.specs.declared.Level.{Level}
@@ -59,6 +60,10 @@ unfoldable pub cell_at : Plan → Place → CellAt
 cell_at p x = cond (has_place p x) (record { found = 1; cell = cell_number p x }) (record { found = 0; cell = 0 })
 
 -- ---- functions
+
+-- a rectangle as an answer
+abbrev pub answered : Rectangle → Support
+answered r = record { found = 1; level = r.level; first_row = r.rows.first; end_row = r.rows.end; first_column = r.columns.first; end_column = r.columns.end }
 
 -- what the function at a place covers. "supports follow from the knots": function i of a direction has the knots i to i + p + 1, and covers
 -- the columns (or rows) from the line of the first up to that of the last

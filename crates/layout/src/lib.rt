@@ -3,13 +3,13 @@
 #![tactic(auto)]
 
 ghost use Rattle.std.specs.Prelude.{◌≡◌};
-ghost use Rattle.layout.specs.Layout.{cells_length, functions_length, has_level, level_at, place_of, has_place, cell_at, support};
+ghost use Rattle.layout.specs.Layout.{answered, cells_length, functions_length, has_level, level_at, place_of, has_place, cell_at, support};
 
-use grid::{Cell, Function, Place, Plan};
+use grid::{Cell, Function, Place, Plan, Rectangle};
 
 // Where a level's cells and functions stand in their tables, and how many there are across and up.
 #[repr(C)]
-#[derive(Clone, Copy)]
+#[derive(Clone, Copy, Default)]
 pub struct Level {
     pub first_cell: u32,
     pub columns: u32,
@@ -19,9 +19,9 @@ pub struct Level {
     pub functions_up: u32,
 }
 
-// Where a cell lies. `found` is 1, or 0 where there is no such cell.
+// Where a cell lies. `found` is 1, or 0 where there is no such cell: a flag and no Option here and below, since C reads these.
 #[repr(C)]
-#[derive(Clone, Copy)]
+#[derive(Clone, Copy, Default)]
 pub struct CellPlace {
     pub found: u32,
     pub level: u32,
@@ -29,17 +29,41 @@ pub struct CellPlace {
     pub column: u32,
 }
 
+impl From<Place> for CellPlace {
+    ghost from_gives = { λ x answer. answer ≡ record { found = 1; level = x.level; row = x.row; column = x.column } };
+
+    fn from(place: Place) -> CellPlace {
+        CellPlace {
+            found: 1,
+            level: place.level,
+            row: place.row,
+            column: place.column,
+        }
+    }
+}
+
 // The cell at a place.
 #[repr(C)]
-#[derive(Clone, Copy)]
+#[derive(Clone, Copy, Default)]
 pub struct CellAt {
     pub found: u32,
     pub cell: u32,
 }
 
+impl From<Cell> for CellAt {
+    ghost from_gives = { λ c answer. answer ≡ record { found = 1; cell = c.0 } };
+
+    fn from(cell: Cell) -> CellAt {
+        CellAt {
+            found: 1,
+            cell: cell.0,
+        }
+    }
+}
+
 // The cells that a function covers: those of its level from the first row and column up to, not including, the end.
 #[repr(C)]
-#[derive(Clone, Copy)]
+#[derive(Clone, Copy, Default)]
 pub struct Support {
     pub found: u32,
     pub level: u32,
@@ -49,14 +73,30 @@ pub struct Support {
     pub end_column: u32,
 }
 
+impl From<Rectangle> for Support {
+    ghost from_gives = { λ r answer. answer ≡ answered r };
+
+    fn from(cover: Rectangle) -> Support {
+        Support {
+            found: 1,
+            level: cover.level,
+            first_row: cover.rows.first,
+            end_row: cover.rows.end,
+            first_column: cover.columns.first,
+            end_column: cover.columns.end,
+        }
+    }
+}
+
 // T, the length of the cell table.
 pub fn cells_len(plan: Plan) -> usize
     ensures { result ≡ cells_length plan }
 {
     if plan.refusal() == 0 {
-        return plan.cell_total() as usize;
+        plan.cell_total() as usize
+    } else {
+        0
     }
-    0
 }
 
 // F, the length of the function table.
@@ -64,9 +104,10 @@ pub fn functions_len(plan: Plan) -> usize
     ensures { result ≡ functions_length plan }
 {
     if plan.refusal() == 0 {
-        return plan.function_total() as usize;
+        plan.function_total() as usize
+    } else {
+        0
     }
-    0
 }
 
 fn has_level(plan: Plan, level: u32) -> bool
@@ -79,22 +120,16 @@ pub fn level_at(plan: Plan, level: u32) -> Level
     ensures { result ≡ level_at plan level }
 {
     if has_level(plan, level) {
-        return Level {
+        Level {
             first_cell: plan.cell_offset(level),
             columns: plan.columns_at(level),
             rows: plan.rows_at(level),
             first_function: plan.function_offset(level),
             functions_across: plan.function_columns_at(level),
             functions_up: plan.function_rows_at(level),
-        };
-    }
-    Level {
-        first_cell: 0,
-        columns: 0,
-        rows: 0,
-        first_function: 0,
-        functions_across: 0,
-        functions_up: 0,
+        }
+    } else {
+        Level::default()
     }
 }
 
@@ -102,19 +137,9 @@ pub fn place_of(plan: Plan, cell: u32) -> CellPlace
     ensures { result ≡ place_of plan cell }
 {
     if (cell as usize) < cells_len(plan) {
-        let place = plan.cell_place(Cell(cell));
-        return CellPlace {
-            found: 1,
-            level: place.level,
-            row: place.row,
-            column: place.column,
-        };
-    }
-    CellPlace {
-        found: 0,
-        level: 0,
-        row: 0,
-        column: 0,
+        plan.cell_place(Cell(cell)).into()
+    } else {
+        CellPlace::default()
     }
 }
 
@@ -122,50 +147,28 @@ pub fn place_of(plan: Plan, cell: u32) -> CellPlace
 fn has_place(plan: Plan, place: Place) -> bool
     ensures { result ≡ has_place plan place }
 {
-    let level = place.level;
-    let row = place.row;
-    let column = place.column;
-    if has_level(plan, level) {
-        return (row < plan.rows_at(level)) & (column < plan.columns_at(level));
-    }
-    false
+    has_level(plan, place.level)
+        && place.row < plan.rows_at(place.level)
+        && place.column < plan.columns_at(place.level)
 }
 
 pub fn cell_at(plan: Plan, place: Place) -> CellAt
     ensures { result ≡ cell_at plan place }
 {
     if has_place(plan, place) {
-        let cell = plan.cell_number(place);
-        return CellAt {
-            found: 1,
-            cell: cell.0,
-        };
+        plan.cell_number(place).into()
+    } else {
+        CellAt::default()
     }
-    CellAt { found: 0, cell: 0 }
 }
 
 pub fn support_of(plan: Plan, function: u32) -> Support
     ensures { result ≡ support plan function }
 {
     if (function as usize) < functions_len(plan) {
-        let cover = plan.support_of(plan.function_place(Function(function)));
-        let rows = cover.rows;
-        let columns = cover.columns;
-        return Support {
-            found: 1,
-            level: cover.level,
-            first_row: rows.first,
-            end_row: rows.end,
-            first_column: columns.first,
-            end_column: columns.end,
-        };
-    }
-    Support {
-        found: 0,
-        level: 0,
-        first_row: 0,
-        end_row: 0,
-        first_column: 0,
-        end_column: 0,
+        plan.support_of(plan.function_place(Function(function)))
+            .into()
+    } else {
+        Support::default()
     }
 }

@@ -1,12 +1,14 @@
 -- Runs of entries that are lowered. Assumes nothing.
 use mathlib.Core.Path.{◌≡◌, refl, sym, ap, ◌∙◌}
 use mathlib.Core.Bool.{true, false, cond}
-use mathlib.Core.List.{List}
+use mathlib.Core.List.{List, ◌++◌}
 use Prim.Native.Nat.{ℕ, zero, suc, min, ◌+◌, ◌-◌, ◌*◌, ◌≤◌, ◌<◌}
 use native.Mathlib.Nat.{le_refl, le_trans, le_antisymm, le_of_eq, min-eq_left, min-le_left, min-le_right, mul-le-mul_right}
 use native.Mathlib.Omega.{arith}
 use lib.Dec.{leb, ltb, leb→le, nleb→lt, ltb→lt, nltb→le}
-use lib.ListN.{length, get_or, set, length-set}
+use lib.ListN.{length, get_or, set, drop, replicate, length-set, length-append, length-drop, get_or-append}
+use Rattle.std.proofs.Common.{get_or-drop}
+use Rattle.std.proofs.lemmas.List.{length-replicate, get_or-replicate, get_or-append_right}
 use Rattle.facts.proofs.Tests.{cases}
 use lib.Seq.{get_or-set_same, get_or-set_other}
 use borrow.Rule.Slice.PartMut.{put_mid, mid_of}
@@ -26,6 +28,15 @@ lowered_length n from xs = mapped_length _ xs
 pub lowered_none : (from xs : List ℕ) → xs ≡ lowered 0 from xs
 unfolding lowered
 lowered_none from xs = mapped_is _ xs xs refl (λ k m. rw (run_after 0 0 k (omega arith)))
+
+-- one value in the first n entries
+pub filled_front : (n v : ℕ) (xs : List ℕ) → n ≤ length xs → replicate n v ++ drop n xs ≡ filled 0 n (always v) xs
+unfolding filled always
+filled_front n v xs l = mapped_is _ xs (replicate n v ++ drop n xs) (rw (length-append, length-replicate, length-drop) (omega arith)) (λ k m. run_e 0 n k
+    (λ u. absurd (omega arith))
+    (λ u w. let s : k < length (replicate n v) = omega (arith, length-replicate n v) in rw (run_in 0 n k u w, get_or-append (replicate n v) (drop n xs) 0 k s) (get_or-replicate n k v 0 (omega arith)))
+    (λ u. let s : n + (k - n) ≡ k = omega arith in
+    rw (run_after 0 n k u, get_or-append_right (replicate n v) (drop n xs) n k 0 (length-replicate n v) (omega arith)) (get_or-drop n xs (k - n) 0 ∙ ap (λ i. get_or xs i 0) s)))
 
 module _ (i v : ℕ) (from xs ys : List ℕ) (e : ys ≡ lowered i from xs) (l : i < length xs) where
   before_at : (k : ℕ) → k < length xs → get_or ys k 0 ≡ cond (in_run 0 i k) (min (get_or xs k 0) (get_or from k 0)) (get_or xs k 0)

@@ -2,7 +2,7 @@
 // bytes, the smaller of two runs of which one begins later.
 #![tactic(auto)]
 
-ghost use Rattle.std.specs.Prelude.{◌≡◌, min, ◌+◌, ◌-◌, ◌*◌, ◌≤◌, ◌<◌, length, get_or};
+ghost use Rattle.std.specs.Prelude.{◌≡◌, ◌+◌, ◌-◌, ◌*◌, ◌≤◌, ◌<◌, length, get_or};
 ghost use Rattle.facts.specs.Mapped.{filled};
 ghost use Rattle.windows.specs.Windows.{always, lowered, least_of, slid, in_rows, row_slid, Windowed, SlideIn, RowsIn, LevelIn};
 ghost use Rattle.windows.specs.Level.{placed_row, placed, Twos, PlaceIn, level_least, wide, high, LevelRoom, ValueRoom, NearRoom, ValueTable};
@@ -13,21 +13,13 @@ ghost use Rattle.grid.specs.Side.{SideIn, firsts};
 
 use grid::{Place, Plan, Side};
 
-fn smaller(a: u8, b: u8) -> u8
-    ensures { result ≡ min a b }
-{
-    if a < b { a } else { b }
-}
-
 // Each of the first n entries becomes the smaller of it and that of `from`.
 fn lower(out: &mut [u8], from: &[u8], n: usize)
     requires { (n ≤ length out.old) × (n ≤ length from.now) }
     ensures { out.new ≡ lowered n from.now out.old }
 {
-    let mut i = 0;
-    while i < n {
-        out[i] = smaller(out[i], from[i]);
-        i += 1;
+    for i in 0..n {
+        out[i] = out[i].min(from[i]);
     }
 }
 
@@ -36,11 +28,7 @@ pub fn fill(out: &mut [u8], n: usize, value: u8)
     requires { n ≤ length out.old }
     ensures { out.new ≡ filled 0 n (always value) out.old }
 {
-    let mut i = 0;
-    while i < n {
-        out[i] = value;
-        i += 1;
-    }
+    out[..n].fill(value);
 }
 
 // Each of the first n entries becomes the least of 2 and those of `a` and `b`.
@@ -48,10 +36,8 @@ fn least_of(out: &mut [u8], a: &[u8], b: &[u8], n: usize)
     requires { (n ≤ length out.old) × (n ≤ length a.now) × (n ≤ length b.now) }
     ensures { out.new ≡ filled 0 n (least_of a.now b.now) out.old }
 {
-    let mut i = 0;
-    while i < n {
-        out[i] = smaller(smaller(2, a[i]), b[i]);
-        i += 1;
+    for i in 0..n {
+        out[i] = 2u8.min(a[i]).min(b[i]);
     }
 }
 
@@ -72,12 +58,8 @@ fn slide(from: &[u8], out: &mut [u8], n: usize, step: usize, times: usize)
     ensures { out.new ≡ filled 0 (n + times * step) (slid from.now n step (times + 1)) out.old }
 {
     pair(from, out, n, step, times);
-    let mut at = step;
-    let mut d = 1;
-    while d < times {
-        at += step;
-        lower(&mut out[at..], from, n);
-        d += 1;
+    for d in 1..times {
+        lower(&mut out[(d + 1) * step..], from, n);
     }
 }
 
@@ -107,14 +89,13 @@ fn spread(from: &[u8], out: &mut [u8], columns: usize, rows: usize, across: usiz
     ensures { out.new ≡ filled 0 (rows * (columns + across)) (row_slid (in_rows from.now columns) columns across 1) out.old }
 {
     let width = columns + across;
-    let mut first = 0;
-    let mut at = 0;
-    let mut row = 0;
-    while row < rows {
-        spread_row(&from[first..], &mut out[at..], columns, across);
-        first += columns;
-        at += width;
-        row += 1;
+    for row in 0..rows {
+        spread_row(
+            &from[row * columns..],
+            &mut out[row * width..],
+            columns,
+            across,
+        );
     }
 }
 
@@ -125,9 +106,9 @@ fn place_row(side: Side, from: &[u8], out: &mut [u8])
     requires twos { Twos (firsts side) out.old }
     ensures { out.new ≡ filled 0 (firsts side) (placed_row side (λ x. get_or from.now x 0)) out.old }
 {
-    let end = side.cells;
     let mut x = 0;
-    while x < end {
+    // a while: each step goes to the end of a run, which only run_end knows
+    while x < side.cells {
         let next = side.run_end(x);
         let at = side.first_over(x) as usize;
         let first = x as usize;
@@ -147,13 +128,10 @@ fn place(across: Side, up: Side, step: u32, rows: u32, from: &[u8], out: &mut [u
     let width = across.firsts() as usize + more;
     let high = up.firsts() as usize;
     fill(out, high * width, 2);
-    let mut first = 0;
-    let mut row = 0;
-    while row < rows {
+    for row in 0..rows {
+        let first = row as usize * columns;
         let at = up.first_over(row * step) as usize * width;
         place_row(across, &from[first..], &mut out[at..]);
-        first += columns;
-        row += 1;
     }
 }
 
@@ -177,6 +155,7 @@ fn windows(
 }
 
 // The same, where both tables are large enough for the windows: those of neighbourhoods are twice as wide as others.
+// Two functions: windows of degree 1 would take twice the passes this way, and to hand over how to slide is no shorter.
 fn wide_windows(
     scratch: &mut [u8],
     out: &mut [u8],
@@ -241,8 +220,7 @@ fn has_near(plan: Plan, level: u32) -> bool
     requires { (InRange plan) × (level < plan.levels) }
     ensures { result ≡ has_near plan level }
 {
-    let class = plan.class;
-    (class != 0) & (class <= level + 1)
+    (plan.class != 0) & (plan.class <= level + 1)
 }
 
 // Each byte as many times as columns stand on one: rows of a level make rows of the columns of the next.
@@ -250,12 +228,8 @@ fn repeat(plan: Plan, from: &[u8], out: &mut [u8], n: u32)
     requires { RepeatIn plan n (length from.now) (length out.old) }
     ensures { out.new ≡ filled 0 n (repeated plan from.now) out.old }
 {
-    let mut x = 0;
-    while x < n {
-        let above = plan.coarser(x, 1) as usize;
-        let here = x as usize;
-        out[here] = from[above];
-        x += 1;
+    for x in 0..n {
+        out[x as usize] = from[plan.coarser(x, 1) as usize];
     }
 }
 
@@ -305,7 +279,8 @@ pub fn least_near(plan: Plan, near: &[u8], place: Place) -> u8
         let row = up.first_over(above.row) as usize + plan.degree_up as usize;
         let column = across.first_over(above.column) as usize + plan.degree_across as usize;
         let width = across.firsts() as usize + (2 * plan.degree_across) as usize;
-        return near[row * width + column];
+        near[row * width + column]
+    } else {
+        2
     }
-    2
 }

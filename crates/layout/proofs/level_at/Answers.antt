@@ -1,45 +1,32 @@
 -- `layout::level_at` meets its contract. Assumes nothing.
-use mathlib.Core.Path.{refl, sym, ◌∙◌}
-use Prim.Native.Nat.{◌<◌, ◌≤◌}
+use mathlib.Core.Path.{sym, ◌∙◌}
 use native.Mathlib.Omega.{arith}
-use lib.Dec.{T}
-use Rattle.facts.proofs.Tests.{true_T}
-use Rattle.grid.specs.Range.{InRange}
-use Rattle.layout.specs.Layout.{has_level, level_at}
-use Rattle.layout.proofs.Found.{level_has, level_found}
+use Rattle.layout.specs.Layout.{level_at}
+use Rattle.layout.proofs.Found.{level_said}
 use Rattle.layout.proofs.level_at.Goals as goal
-use Rattle.layout.proofs.level_at.Goals.{Then-has_level}
-
-told : (c : Then-has_level) → let a = c.args in T (has_level a.plan a.level)
-told c = true_T _ (sym c.has_level.ensures ∙ c.if-has_level.true)
-
-known : (c : Then-has_level) → let a = c.args in InRange a.plan × (a.level < a.plan.levels)
-known c = level_has _ _ (told c)
 
 -- a level's part begins at its number, or ends there
-begins : (c : Then-has_level) → let a = c.args in InRange a.plan × (a.level ≤ a.plan.levels)
-begins c = let (r, l) = known c in (r, omega arith)
-
 pub cell_offset-requires : goal.cell_offset-requires
-cell_offset-requires c = let whole = (begins (goal.at.cell_offset-requires c).Then-has_level) in record { in_range = whole.0; level_le_levels = whole.1 }
+cell_offset-requires c = let (r, l) = level_said c.args.plan c.has_level.ensures c.if-has_level.true in record { in_range = r; level_le_levels = omega arith }
 
 pub columns_at-requires : goal.columns_at-requires
-columns_at-requires c = let whole = (known (goal.at.columns_at-requires c).Then-has_level) in record { in_range = whole.0; level_lt_levels = whole.1 }
+columns_at-requires c = let (r, l) = level_said c.args.plan c.has_level.ensures c.if-has_level.true in record { in_range = r; level_lt_levels = l }
 
 pub rows_at-requires : goal.rows_at-requires
-rows_at-requires c = let whole = (known (goal.at.rows_at-requires c).Then-has_level) in record { in_range = whole.0; level_lt_levels = whole.1 }
+rows_at-requires c = let (r, l) = level_said c.args.plan c.has_level.ensures c.if-has_level.true in record { in_range = r; level_lt_levels = l }
 
 pub function_offset-requires : goal.function_offset-requires
-function_offset-requires c = let whole = (begins (goal.at.function_offset-requires c).Then-has_level) in record { in_range = whole.0; level_le_levels = whole.1 }
+function_offset-requires c = let (r, l) = level_said c.args.plan c.has_level.ensures c.if-has_level.true in record { in_range = r; level_le_levels = omega arith }
 
 pub function_columns_at-requires : goal.function_columns_at-requires
-function_columns_at-requires c = let whole = (known (goal.at.function_columns_at-requires c).Then-has_level) in record { in_range = whole.0; level_lt_levels = whole.1 }
+function_columns_at-requires c = let (r, l) = level_said c.args.plan c.has_level.ensures c.if-has_level.true in record { in_range = r; level_lt_levels = l }
 
 pub function_rows_at-requires : goal.function_rows_at-requires
-function_rows_at-requires c = let whole = (known (goal.at.function_rows_at-requires c).Then-has_level) in record { in_range = whole.0; level_lt_levels = whole.1 }
+function_rows_at-requires c = let (r, l) = level_said c.args.plan c.has_level.ensures c.if-has_level.true in record { in_range = r; level_lt_levels = l }
 
 pub returns-then-has_level : goal.returns-then-has_level
-returns-then-has_level c = rw (level_found _ _ (told (goal.at.returns-then-has_level c).Then-has_level)) (λ j. record {
+unfolding level_at
+returns-then-has_level c = rw (sym c.has_level.ensures ∙ c.if-has_level.true) (λ j. record {
   first_cell = c.cell_offset.ensures j;
   columns = c.columns_at.ensures j;
   rows = c.rows_at.ensures j;
@@ -48,6 +35,13 @@ returns-then-has_level c = rw (level_found _ _ (told (goal.at.returns-then-has_l
   functions_up = c.function_rows_at.ensures j;
 })
 
-pub returns : goal.returns
+pub returns-else-has_level : goal.returns-else-has_level
 unfolding level_at
-returns c = rw (sym c.has_level.ensures ∙ c.if-has_level.false) refl
+returns-else-has_level c = rw (sym c.has_level.ensures ∙ c.if-has_level.false) (λ j. record {
+  first_cell = c.default.ensures.0 j;
+  columns = c.default.ensures.1.0 j;
+  rows = c.default.ensures.1.1.0 j;
+  first_function = c.default.ensures.1.1.1.0 j;
+  functions_across = c.default.ensures.1.1.1.1.0 j;
+  functions_up = c.default.ensures.1.1.1.1.1 j;
+})

@@ -1,20 +1,19 @@
 -- `layout::place_of` meets its contract. Assumes nothing.
-use mathlib.Core.Path.{refl, sym}
-use Prim.Native.Nat.{◌<◌}
+use mathlib.Core.Path.{refl}
 use native.Mathlib.Omega.{arith}
-use Rattle.layout.specs.Layout.{cells_length}
 use Rattle.layout.proofs.Found.{cells_below, place_found, place_none}
 use Rattle.layout.proofs.place_of.Goals as goal
-use Rattle.layout.proofs.place_of.Goals.{Then-cell-cells_len}
 
-below : (c : Then-cell-cells_len) → let a = c.args in a.cell < cells_length a.plan
-below c = omega (arith, c.if-cell-cells_len.true, c.cells_len.ensures)
-
-pub cell_place-place-requires : goal.cell_place-place-requires
-cell_place-place-requires c = let whole = (cells_below _ _ (below (goal.at.cell_place-place-requires c).Then-cell-cells_len)) in record { in_range = whole.0; cell_bound = whole.1 }
+pub cell_place-requires : goal.cell_place-requires
+cell_place-requires c = let (r, l) = cells_below c.args.plan c.args.cell (omega arith) in record { in_range = r; cell_bound = l }
 
 pub returns-then-cell-cells_len : goal.returns-then-cell-cells_len
-returns-then-cell-cells_len c = rw (place_found _ _ (below (goal.at.returns-then-cell-cells_len c).Then-cell-cells_len), c.cell_place-place.ensures) refl
+returns-then-cell-cells_len c = rw (c.into.ensures, c.cell_place.ensures, place_found c.args.plan c.args.cell (omega arith)) refl
 
-pub returns : goal.returns
-returns c = sym (place_none _ _ (omega (arith, c.if-cell-cells_len.false, c.cells_len.ensures)))
+pub returns-else-cell-cells_len : goal.returns-else-cell-cells_len
+returns-else-cell-cells_len c = rw (place_none c.args.plan c.args.cell (omega arith)) (λ j. record {
+  found = c.default.ensures.0 j;
+  level = c.default.ensures.1.0 j;
+  row = c.default.ensures.1.1.0 j;
+  column = c.default.ensures.1.1.1 j;
+})

@@ -99,8 +99,8 @@ unfolding near_byte
 returns-then-has_near c = let s = c in
     rw (test (goal.at.returns-then-has_near c).Then-has_near) (ap (λ (i : ℕ). get_or s.args.near.now i 0) (index (goal.at.returns-then-has_near c).After-struct_known-then-has_near-2-1))
 
-pub returns : goal.returns
+pub returns-else-has_near : goal.returns-else-has_near
 unfolding near_byte
-returns c = let a = c.args in
+returns-else-has_near c = let a = c.args in
     let e : has_near a.plan a.place.level ≡ false = sym c.has_near.ensures ∙ c.if-has_near.false in
     rw e refl

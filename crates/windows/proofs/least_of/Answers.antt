@@ -1,42 +1,12 @@
 -- `windows::least_of` meets its contract. Assumes nothing.
-use mathlib.Core.Path.{◌≡◌, refl}
 use native.Mathlib.Omega.{arith}
-use Rattle.facts.proofs.Mapped.{filled_none, fill_length, fill_next}
+use Rattle.facts.proofs.Mapped.{filled_none, fill_next}
 use Rattle.windows.specs.Windows.{least_of}
 use Rattle.windows.proofs.least_of.Goals as goal
 
 pub loop-i-init : goal.loop-i-init
-loop-i-init c = (omega arith, refl, filled_none 0 _ _)
-
-pub bounds-a-i : goal.bounds-a-i
-bounds-a-i c = omega arith
-
-pub smaller-requires : goal.smaller-requires
-smaller-requires c = tt
-
-pub bounds-b-i : goal.bounds-b-i
-bounds-b-i c = omega arith
-
-pub smaller-requires-in-loop-i : goal.smaller-requires-in-loop-i
-smaller-requires-in-loop-i c = tt
-
-pub bounds-out-i : goal.bounds-out-i
-bounds-out-i c = omega arith
-
-pub overflow_add-i : goal.overflow_add-i
-overflow_add-i c = omega arith
-
-pub loop-i-smaller : goal.loop-i-smaller
-loop-i-smaller c = omega arith
+loop-i-init c = filled_none 0 _ _
 
 pub loop-i-preserved : goal.loop-i-preserved
 unfolding least_of
-loop-i-preserved c = let l = c.loop-i in
-    let e = fill_next _ _ _ _ l.invariant.2 _ (omega arith) (rw c.smaller.ensures at c.smaller-in-loop-i.ensures) in
-    (omega arith, fill_length _ _ _ _ e, e)
-
-pub shape_of-out : goal.shape_of-out
-shape_of-out c = c.loop-i.invariant.1
-
-pub returns : goal.returns
-returns c = let q : c.loop-i.i ≡ c.args.n = omega arith in rw q at c.loop-i.invariant.2
+loop-i-preserved c = fill_next _ _ _ _ c.loop-i.invariant _ (omega arith) (rw c.min.ensures at c.min-in-loop-i.ensures)

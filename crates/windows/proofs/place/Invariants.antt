@@ -1,17 +1,13 @@
--- `windows::place` meets its contract. The invariant: the rows so far are at their places, and where the next begins. Assumes nothing.
+-- `windows::place` meets its contract. The invariant: the rows so far are at their places. Assumes nothing.
 use mathlib.Core.Path.{◌≡◌}
 use mathlib.Core.List.{List}
-use Prim.Native.Nat.{ℕ, ◌+◌, ◌-◌, ◌*◌, ◌≤◌}
-use lib.ListN.{length}
+use Prim.Native.Nat.{ℕ, ◌+◌, ◌*◌}
 use Rattle.facts.specs.Mapped.{filled}
 use Rattle.grid.specs.Side.{firsts}
 use Rattle.windows.proofs.Placed.{table_to}
 use Rattle.windows.proofs.place.Given as goal
 
 abbrev pub invariant-loop-row : goal.invariant-loop-row
-invariant-loop-row l = (l.row ≤ l.rows) × (l.first ≡ l.row * l.across.cells) × (length l.out ≡ length l.initial.out)
-    × ((xs : List ℕ) → l.initial.out ≡ filled 0 (firsts l.up * (firsts l.across + l.more)) (table_to l.across l.up l.step l.from l.more 0) xs
-    → l.out ≡ filled 0 (firsts l.up * (firsts l.across + l.more)) (table_to l.across l.up l.step l.from l.more l.row) xs)
-
-abbrev pub decreases-loop-row : goal.decreases-loop-row
-decreases-loop-row l = l.rows - l.row
+invariant-loop-row l =
+    (xs : List ℕ) → l.initial.out ≡ filled 0 (firsts l.up * (firsts l.across + l.more)) (table_to l.across l.up l.step l.from l.more 0) xs
+    → l.out ≡ filled 0 (firsts l.up * (firsts l.across + l.more)) (table_to l.across l.up l.step l.from l.more l.row) xs
