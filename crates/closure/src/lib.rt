@@ -10,7 +10,7 @@ ghost use Rattle.closure.specs.Ready.{TableSize, Ready};
 
 use grid::{Cell, MOST_NEAR, Place, Plan, Rectangle};
 
-// What a pass does at each cell.
+// What a pass does at each cell. An enum and no closure: the definitions of specs/Walk.antt are by cases on it.
 #[derive(Clone, Copy)]
 enum Pass {
     // a flagged cell is refined with all that it needs
@@ -26,16 +26,11 @@ fn fill_cells(part: &mut [u8], width: usize, r: Rectangle, value: u8)
     requires { Block r width (length part.old) }
     ensures { part.new ≡ fill_block r.rows r.columns width value part.old }
 {
-    let rows = r.rows;
-    let columns = r.columns;
-    let first = columns.first as usize;
-    let count = columns.end as usize - first;
-    let end = rows.end;
-    let mut row = rows.first;
-    while row < end {
+    let first = r.columns.first as usize;
+    let count = r.columns.end as usize - first;
+    for row in r.rows.first..r.rows.end {
         let at = row as usize * width + first;
         windows::fill(&mut part[at..], count, value);
-        row += 1;
     }
 }
 
@@ -92,17 +87,10 @@ fn refine_neighbourhood(plan: Plan, cells: &mut [u8], place: Place)
     }
     let near = plan.neighbourhood(place);
     let coarse = near.level;
-    let rows = near.rows;
-    let columns = near.columns;
     let offset = plan.cell_offset(coarse);
     let width = plan.columns_at(coarse);
-    let north = rows.end;
-    let west = columns.first;
-    let east = columns.end;
-    let mut row = rows.first;
-    while row < north {
-        let mut column = west;
-        while column < east {
+    for row in near.rows.first..near.rows.end {
+        for column in near.columns.first..near.columns.end {
             let number = offset + (row * width + column);
             refine_cell(
                 plan,
@@ -114,9 +102,7 @@ fn refine_neighbourhood(plan: Plan, cells: &mut [u8], place: Place)
                     column,
                 },
             );
-            column += 1;
         }
-        row += 1;
     }
 }
 
@@ -191,9 +177,7 @@ fn run_row(
     requires first_value { first ≡ cell_offset plan level + row * columns_at plan level }
     ensures { cells.new ≡ over_row (visit step plan flags.now (told plan near.now)) level row (level_cells plan level).columns cells.old }
 {
-    let columns = plan.columns_at(level);
-    let mut column = 0;
-    while column < columns {
+    for column in 0..plan.columns_at(level) {
         visit(
             plan,
             cells,
@@ -203,7 +187,6 @@ fn run_row(
             Cell(first + column),
             Place { level, row, column },
         );
-        column += 1;
     }
 }
 
@@ -217,11 +200,9 @@ fn run_level(plan: Plan, cells: &mut [u8], flags: &[u8], near: &[u8], step: Pass
     let columns = plan.columns_at(level);
     let rows = plan.rows_at(level);
     let mut first = plan.cell_offset(level);
-    let mut row = 0;
-    while row < rows {
+    for row in 0..rows {
         run_row(plan, cells, flags, near, step, level, row, first);
         first += columns;
-        row += 1;
     }
 }
 
@@ -239,12 +220,9 @@ fn run_levels(
     requires near_room { (NearRoom plan (length near.old)) × (NearRoom plan (length scratch.old)) }
     ensures { cells.new ≡ pass step plan flags.now cells.old }
 {
-    let last = plan.levels - 1;
-    let mut level = 0;
-    while level < last {
+    for level in 0..plan.levels - 1 {
         windows::neighbourhoods(plan, cells, level, scratch, near);
         run_level(plan, cells, flags, near, step, level);
-        level += 1;
     }
 }
 

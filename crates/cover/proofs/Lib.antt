@@ -1,3 +1,4 @@
 pub mod Levels
 pub mod Meaning
 pub mod Passes
+pub mod Runs

@@ -20,20 +20,15 @@ fn pick(functions: &[u8], least: &[u8], out: &mut [u8], n: usize)
     requires { (n ≤ length functions.now) × (n ≤ length least.now) × (n ≤ length out.old) }
     ensures { out.new ≡ filled 0 n (picked functions.now least.now) out.old }
 {
-    let mut i = 0;
-    while i < n {
+    for i in 0..n {
         out[i] = pick_one(functions[i], least[i]);
-        i += 1;
     }
 }
 
 fn pick_one(byte: u8, least: u8) -> u8
     ensures { result ≡ cond (eqb byte 2 && eqb least 1) 1 0 }
 {
-    if (byte == 2) & (least == 1) {
-        return 1;
-    }
-    0
+    u8::from((byte == 2) & (least == 1))
 }
 
 // The functions of a level.
@@ -74,11 +69,8 @@ fn coarsenable_levels(
     requires plan_in_bounds { (function_total plan ≤ length scratch.old) × (function_total plan ≤ length least.old) }
     ensures { out.new ≡ tabulate (function_total plan) (coarsenable_byte plan functions.now reactivables.now) }
 {
-    let levels = plan.levels;
-    let mut level = 0;
-    while level < levels {
+    for level in 0..plan.levels {
         coarsenable_on(plan, functions, reactivables, out, scratch, least, level);
-        level += 1;
     }
 }
 
@@ -101,32 +93,19 @@ pub fn coarsenable_functions(plan: Plan, functions: &[u8], reactivables: &[u8], 
     );
 }
 
-// The first n bytes.
-fn copy_run(from: &[u8], out: &mut [u8], n: usize)
-    requires { (n ≤ length from.now) × (n ≤ length out.old) }
-    ensures { out.new ≡ filled 0 n (λ i. get_or from.now i 0) out.old }
-{
-    let mut i = 0;
-    while i < n {
-        out[i] = from[i];
-        i += 1;
-    }
-}
-
 // A row of cells: the value of each is read at its first function. Columns with no corner between them are one run of bytes.
 fn read_row(table: &[u8], out: &mut [u8], across: Side)
     requires side_in { SideIn across }
     requires across_in_bounds { (firsts across ≤ length table.now) × (across.cells ≤ length out.old) }
     ensures { out.new ≡ filled 0 across.cells (row_read across table.now) out.old }
 {
-    let end = across.cells;
     let mut column = 0;
-    while column < end {
+    // a while: each step goes to the end of a run, which only run_end knows
+    while column < across.cells {
         let next = across.run_end(column);
         let at = across.first_over(column) as usize;
-        let to = column as usize;
-        let n = (next - column) as usize;
-        copy_run(&table[at..], &mut out[to..], n);
+        let run = &table[at..at + (next - column) as usize];
+        out[column as usize..next as usize].copy_from_slice(run);
         column = next;
     }
 }
@@ -140,14 +119,11 @@ fn read_level(table: &[u8], out: &mut [u8], across: Side, up: Side)
     let left = across.degree as usize;
     let width = across.firsts() as usize + 2 * left;
     let below = up.degree as usize;
-    let end = up.cells;
     let mut to = 0;
-    let mut row = 0;
-    while row < end {
+    for row in 0..up.cells {
         let at = (up.first_over(row) as usize + below) * width + left;
         read_row(&table[at..], &mut out[to..], across);
         to += columns;
-        row += 1;
     }
 }
 
@@ -179,11 +155,8 @@ fn cover_levels(plan: Plan, values: &[u8], out: &mut [u8], scratch: &mut [u8], t
     requires value_room { (ValueRoom plan (length scratch.old)) × (ValueRoom plan (length table.old)) }
     ensures { out.new ≡ tabulate (cell_total plan) (least_value plan values.now) }
 {
-    let levels = plan.levels;
-    let mut level = 0;
-    while level < levels {
+    for level in 0..plan.levels {
         cover_on(plan, values, out, scratch, table, level);
-        level += 1;
     }
 }
 

@@ -1,9 +1,8 @@
 -- `refine_cell` and `refine_neighbourhood` meet their contracts, at every fuel above the level. The measure is twice the level, and one
 -- more for the cell itself. The loops' invariants: the table is the model's after the rows, or the columns, passed. Assumes nothing.
-use mathlib.Core.Path.{◌≡◌, refl, sym, ap, ◌∙◌}
+use mathlib.Core.Path.{◌≡◌, sym, ap, ◌∙◌}
 use mathlib.Core.List.{List}
 use Prim.Native.Nat.{ℕ, ◌+◌, ◌-◌, ◌≤◌}
-use native.Mathlib.Nat.{le_refl}
 use native.Mathlib.Omega.{arith}
 use lib.ListN.{get_or}
 use Rattle.grid.specs.declared.Plan.{Plan}
@@ -69,12 +68,12 @@ refine_neighbourhood-columns_at-width-requires-clause-level_lt_levels t c =
 pub refine_neighbourhood-loop-row-init : goal.refine_neighbourhood-loop-row-init
 refine_neighbourhood-loop-row-init t c =
     let k = walked c.neighbourhood-near.ensures c.requires.table_size c.requires.cell_inside c.if-class-eq0.false c.if-level-class.false in
-    (refl, le_refl _, k.rows≤, λ n l. sweep_none _ _ _)
+    λ n l. sweep_none _ _ _
 
 pub refine_neighbourhood-loop-column-init : goal.refine_neighbourhood-loop-column-init
 refine_neighbourhood-loop-column-init t c =
     let k = walked c.neighbourhood-near.ensures c.requires.table_size c.requires.cell_inside c.if-class-eq0.false c.if-level-class.false in
-    (refl, le_refl _, k.columns≤, λ n l. sweep_none _ _ _)
+    λ n l. sweep_none _ _ _
 
 -- the cell that is reached
 reached : (t : ℕ) (c : refine_neighbourhood-In-loop-column t) → CellInside c.args.plan (at c.neighbourhood-near.result.level c.loop-row.row c.loop-column.column)
@@ -101,7 +100,7 @@ refine_neighbourhood-refine_cell-requires t c =
     let i = (goal.at.refine_neighbourhood-refine_cell-requires t c).In-loop-column in
     let down = (walked c.neighbourhood-near.ensures c.requires.table_size c.requires.cell_inside c.if-class-eq0.false c.if-level-class.false).level< in (
       omega (arith, c.decreases),
-      (rw (c.loop-column.invariant.0 ∙ c.loop-row.invariant.0) c.requires.table_size, (reached t i, ((site t i).same, omega arith))),
+      (rw (c.loop-column.auto.cells ∙ c.loop-row.auto.cells) c.requires.table_size, (reached t i, ((site t i).same, omega arith))),
     )
 
 pub refine_neighbourhood-loop-column-preserved : goal.refine_neighbourhood-loop-column-preserved
@@ -109,15 +108,11 @@ refine_neighbourhood-loop-column-preserved t c =
     let a = c.args in
     let l = c.loop-column in
     let k = walked c.neighbourhood-near.ensures c.requires.table_size c.requires.cell_inside c.if-class-eq0.false c.if-level-class.false in
-    let x : ℕ → Place = at c.neighbourhood-near.result.level c.loop-row.row in (
-      c.refine_cell.auto.cells ∙ l.invariant.0,
-      omega arith,
-      omega arith,
-      λ n m.
-          c.refine_cell.ensures n (omega (arith, k.level<))
-          ∙ ap (refine_cell n a.plan (x l.column)) (l.invariant.3 n m)
-          ∙ sweep_more (λ j. refine_cell n a.plan (x j)) _ l.column _ l.invariant.1,
-    )
+    let x : ℕ → Place = at c.neighbourhood-near.result.level c.loop-row.row in
+    λ n m.
+    c.refine_cell.ensures n (omega (arith, k.level<))
+    ∙ ap (refine_cell n a.plan (x l.column)) (l.invariant n m)
+    ∙ sweep_more (λ j. refine_cell n a.plan (x j)) _ l.column _ l.auto.column
 
 pub refine_neighbourhood-loop-row-preserved : goal.refine_neighbourhood-loop-row-preserved
 refine_neighbourhood-loop-row-preserved t c =
@@ -125,17 +120,14 @@ refine_neighbourhood-loop-row-preserved t c =
     let l = c.loop-row in
     let r = c.neighbourhood-near.result in
     let w : ℕ = r.columns.first in
-    let e : c.loop-column.column ≡ r.columns.end = omega arith in
-    let f : ℕ → ℕ → ℕ → List ℕ → List ℕ = λ n y x. refine_cell n a.plan (at r.level y x) in (
-      c.loop-column.invariant.0 ∙ l.invariant.0,
-      omega arith,
-      omega arith,
-      λ n m.
-          c.loop-column.invariant.3 n m
-          ∙ ap (λ (j : ℕ). sweep (f n l.row) w (j - w) l.cells) e
-          ∙ ap (sweep (f n l.row) w (r.columns.end - w)) (l.invariant.3 n m)
-          ∙ sweep_more (λ y. sweep (f n y) w (r.columns.end - w)) _ l.row _ l.invariant.1,
-    )
+    let k = walked c.neighbourhood-near.ensures c.requires.table_size c.requires.cell_inside c.if-class-eq0.false c.if-level-class.false in
+    let e : c.loop-column.column ≡ r.columns.end = omega (arith, k.columns≤) in
+    let f : ℕ → ℕ → ℕ → List ℕ → List ℕ = λ n y x. refine_cell n a.plan (at r.level y x) in
+    λ n m.
+    c.loop-column.invariant n m
+    ∙ ap (λ (j : ℕ). sweep (f n l.row) w (j - w) l.cells) e
+    ∙ ap (sweep (f n l.row) w (r.columns.end - w)) (l.invariant n m)
+    ∙ sweep_more (λ y. sweep (f n y) w (r.columns.end - w)) _ l.row _ l.auto.row
 
 pub refine_neighbourhood-returns : goal.refine_neighbourhood-returns
 refine_neighbourhood-returns t c = λ n l.
@@ -143,7 +135,8 @@ refine_neighbourhood-returns t c = λ n l.
     let r = c.neighbourhood-near.result in
     let w : ℕ = r.columns.first in
     let s : ℕ = r.rows.first in
-    let e : c.loop-row.row ≡ r.rows.end = omega arith in
-    c.loop-row.invariant.3 n l
+    let k = walked c.neighbourhood-near.ensures c.requires.table_size c.requires.cell_inside c.if-class-eq0.false c.if-level-class.false in
+    let e : c.loop-row.row ≡ r.rows.end = omega (arith, k.rows≤) in
+    c.loop-row.invariant n l
     ∙ ap (λ (j : ℕ). sweep (λ y. sweep (λ x. refine_cell n a.plan (at r.level y x)) w (r.columns.end - w)) s (j - s) a.cells.now) e
     ∙ near_over a.plan a.place a.cells.now (refine_cell n a.plan) c.neighbourhood-near.ensures c.if-class-eq0.false c.if-level-class.false

@@ -2,7 +2,6 @@
 -- more for the cell itself. The loops' invariants: the table is the model's after the rows, or the columns, passed. Assumes nothing.
 use mathlib.Core.Path.{◌≡◌}
 use Prim.Native.Nat.{ℕ, ◌+◌, ◌*◌, ◌-◌, ◌≤◌}
-use lib.ListN.{length}
 use Rattle.closure.specs.Walk.{sweep, at, refine_cell}
 use Rattle.closure.proofs.+refine_cell_refine_neighbourhood.Given as goal
 
@@ -13,15 +12,8 @@ abbrev pub decreases-refine_neighbourhood : goal.decreases-refine_neighbourhood
 decreases-refine_neighbourhood l = 2 * l.place.level
 
 abbrev pub invariant-refine_neighbourhood-loop-column : goal.invariant-refine_neighbourhood-loop-column
-invariant-refine_neighbourhood-loop-column l = (length l.cells ≡ length l.initial.cells) × (l.west ≤ l.column) × (l.column ≤ l.east)
-    × ((n : ℕ) → l.level ≤ n → l.cells ≡ sweep (λ x. refine_cell n l.plan (at l.coarse l.row x)) l.west (l.column - l.west) l.initial.cells)
-
-abbrev pub decreases-refine_neighbourhood-loop-column : goal.decreases-refine_neighbourhood-loop-column
-decreases-refine_neighbourhood-loop-column l = l.east - l.column
+invariant-refine_neighbourhood-loop-column l = (n : ℕ) → l.fn.place.level ≤ n → l.cells ≡ sweep (λ x. refine_cell n l.plan (at l.coarse l.row x)) l.near.columns.first (l.column - l.near.columns.first) l.initial.cells
 
 abbrev pub invariant-refine_neighbourhood-loop-row : goal.invariant-refine_neighbourhood-loop-row
-invariant-refine_neighbourhood-loop-row l = (length l.cells ≡ length l.initial.cells) × (l.initial.row ≤ l.row) × (l.row ≤ l.north)
-    × ((n : ℕ) → l.level ≤ n → l.cells ≡ sweep (λ y. sweep (λ x. refine_cell n l.plan (at l.coarse y x)) l.west (l.east - l.west)) l.initial.row (l.row - l.initial.row) l.initial.cells)
-
-abbrev pub decreases-refine_neighbourhood-loop-row : goal.decreases-refine_neighbourhood-loop-row
-decreases-refine_neighbourhood-loop-row l = l.north - l.row
+invariant-refine_neighbourhood-loop-row l = let w = l.near.columns.first in
+    (n : ℕ) → l.fn.place.level ≤ n → l.cells ≡ sweep (λ y. sweep (λ x. refine_cell n l.plan (at l.coarse y x)) w (l.near.columns.end - w)) l.near.rows.first (l.row - l.near.rows.first) l.initial.cells

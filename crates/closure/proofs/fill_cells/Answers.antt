@@ -1,17 +1,16 @@
 -- `fill_cells` meets its contract. The invariant: the rows passed have the byte. Assumes nothing.
-use mathlib.Core.Path.{◌≡◌, refl, ap, ◌∙◌}
+use mathlib.Core.Path.{◌≡◌, ◌∙◌}
 use Prim.Native.Nat.{◌+◌, ◌-◌, ◌*◌, ◌≤◌}
-use native.Mathlib.Nat.{le_refl}
 use native.Mathlib.Omega.{arith}
 use lib.ListN.{length}
 use Rattle.facts.proofs.Rows.{row_ends}
 use Rattle.closure.specs.Walk.{fill_block}
-use Rattle.closure.proofs.Writing.{span, block_length, block_none, block_more}
+use Rattle.closure.proofs.Writing.{span, block_none, block_more}
 use Rattle.closure.proofs.fill_cells.Goals as goal
 use Rattle.closure.proofs.fill_cells.Goals.{In-loop-row}
 
 pub loop-row-init : goal.loop-row-init
-loop-row-init c = (refl, le_refl _, c.requires.rows≤, block_none _ _ _ _ _)
+loop-row-init c = block_none _ _ _ _ _
 
 -- the row lies in the part, and its columns in the row
 record Fits (c : In-loop-row) : Type 0 where
@@ -20,7 +19,7 @@ record Fits (c : In-loop-row) : Type 0 where
 
 fits : (c : In-loop-row) → Fits c
 fits c = record {
-  row = omega (arith, row_ends c.loop-row.row c.args.r.rows.end c.args.width c.loop-row-test.true, c.requires.tall, c.loop-row.invariant.0);
+  row = omega (arith, row_ends c.loop-row.row c.args.r.rows.end c.args.width c.loop-row-test.true, c.requires.tall);
   columns = omega (arith, c.requires.columns≤, c.requires.wide);
 }
 
@@ -30,14 +29,13 @@ loop-row-preserved c =
     let r = a.r in
     let l = c.loop-row in
     let f = fits (goal.at.loop-row-preserved c).In-loop-row in
-    let e = block_more r.rows.first l.row r.columns.first (r.columns.end - r.columns.first) a.width l.invariant.1 f.columns a.value a.part.now l.part _ l.invariant.3 (omega (arith, f.row, f.columns)) c.fill.ensures in
-    (ap length e ∙ block_length _ _ _ _ _, omega arith, omega arith, e)
+    block_more r.rows.first l.row r.columns.first (r.columns.end - r.columns.first) a.width l.auto.row f.columns a.value a.part.now l.part _ l.invariant (omega (arith, f.row, f.columns)) c.fill.ensures
 
 pub returns : goal.returns
 returns c =
     let a = c.args in
     let r = a.r in
     let l = c.loop-row in
-    let e : l.row ≡ r.rows.end = omega arith in
+    let e : l.row ≡ r.rows.end = omega (arith, c.requires.rows≤) in
     let q : r.columns.first + (r.columns.end - r.columns.first) ≡ r.columns.end = omega (arith, c.requires.columns≤) in
-    l.invariant.3 ∙ (λ i. fill_block (span r.rows.first (e i)) (span r.columns.first (q i)) a.width a.value a.part.now)
+    l.invariant ∙ (λ i. fill_block (span r.rows.first (e i)) (span r.columns.first (q i)) a.width a.value a.part.now)

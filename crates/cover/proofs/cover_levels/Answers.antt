@@ -1,38 +1,16 @@
 -- `cover::cover_levels` meets its contract. The invariant: the levels so far are written. Assumes nothing.
-use mathlib.Core.Path.{◌≡◌, refl, ◌∙◌}
+use mathlib.Core.Path.{◌≡◌, ◌∙◌}
 use native.Mathlib.Omega.{arith}
-use Rattle.facts.proofs.Mapped.{fill_length, filled_all}
+use Rattle.facts.proofs.Mapped.{filled_all}
 use Rattle.cover.proofs.Passes.{levels_none, levels_more}
 use Rattle.cover.proofs.cover_levels.Goals as goal
 
 pub loop-level-init : goal.loop-level-init
-loop-level-init c = (omega arith, refl, refl, refl, levels_none _ _ _ _)
-
-pub cover_on-requires : goal.cover_on-requires
-cover_on-requires c = let s = c in
-    let v = c.loop-level.invariant in
-    record { in_range = s.requires.in_range; values_len = (s.requires.values_len.0, v.1 ∙ s.requires.values_len.1); value_room = (rw v.2 s.requires.value_room.0, rw v.3 s.requires.value_room.1); level_lt_levels = omega arith }
-
-pub overflow_add-level : goal.overflow_add-level
-overflow_add-level c = omega arith
-
-pub loop-level-smaller : goal.loop-level-smaller
-loop-level-smaller c = omega arith
+loop-level-init c = levels_none _ _ _ _
 
 pub loop-level-preserved : goal.loop-level-preserved
-loop-level-preserved c = let e = levels_more _ _ _ _ _ _ _ c.loop-level.invariant.4 c.cover_on.ensures in
-    (omega arith, fill_length _ _ _ _ e, omega arith, omega arith, e)
-
-pub shape_of-out : goal.shape_of-out
-shape_of-out c = c.loop-level.invariant.1
-
-pub shape_of-scratch : goal.shape_of-scratch
-shape_of-scratch c = c.loop-level.invariant.2
-
-pub shape_of-table : goal.shape_of-table
-shape_of-table c = c.loop-level.invariant.3
+loop-level-preserved c = levels_more _ _ _ _ _ _ _ c.loop-level.invariant c.cover_on.ensures
 
 pub returns : goal.returns
-returns c = let s = c in
-    let q : c.loop-level.level ≡ s.args.plan.levels = omega arith in
-    (rw q at c.loop-level.invariant.4) ∙ filled_all _ _ _ s.requires.values_len.1
+returns c = let q : c.loop-level.level ≡ c.args.plan.levels = omega arith in
+    (rw q at c.loop-level.invariant) ∙ filled_all _ _ _ c.requires.values_len.1

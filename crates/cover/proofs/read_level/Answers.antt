@@ -1,10 +1,10 @@
 -- `cover::read_level` meets its contract. The invariant: the rows so far, and where the next begins. Assumes nothing.
-use mathlib.Core.Path.{◌≡◌, refl, ap, ◌∙◌}
+use mathlib.Core.Path.{◌≡◌, ap, ◌∙◌}
 use Prim.Native.Nat.{ℕ, ◌+◌, ◌*◌, ◌≤◌, ◌<◌}
 use native.Mathlib.Nat.{mul-le-mul_right}
 use native.Mathlib.Omega.{arith}
 use lib.ListN.{length}
-use Rattle.facts.proofs.Mapped.{filled_none, fill_length, fill_part}
+use Rattle.facts.proofs.Mapped.{filled_none, fill_part}
 use Rattle.facts.proofs.Ranges.{mid_len}
 use Rattle.grid.specs.Side.{firsts}
 use Rattle.grid.proofs.Sides.{first_lt}
@@ -14,10 +14,7 @@ use Rattle.cover.proofs.read_level.Goals as goal
 use Rattle.cover.proofs.read_level.Goals.{After-first_over}
 
 pub loop-row-init : goal.loop-row-init
-loop-row-init c = (omega arith, refl, refl, refl, refl, ap (λ z. z + 2 * c.args.across.degree) c.firsts.ensures, omega arith, refl, filled_none 0 _ _)
-
-pub first_over-requires : goal.first_over-requires
-first_over-requires c = let s = c in record { side_in = s.requires.rows; x_lt_cells = omega (arith, c.loop-row.invariant.1) }
+loop-row-init c = (omega arith, filled_none 0 _ _)
 
 -- the row lies in the tables
 at_fits : (x d w g f left size : ℕ) → x < g → w ≡ f + 2 * left → (g + 2 * d) * w ≤ size → (x + d) * w + left + f ≤ size
@@ -29,7 +26,7 @@ fits : (c : After-first_over) → let s = c in let a = s.args in
 fits c = let s = c in
     let a = s.args in
     let l = c.loop-row in
-    let r : l.row < a.up.cells = omega (arith, l.invariant.1, c.loop-row-test.true) in (
+    let r : l.row < a.up.cells = c.loop-row-test.true in (
       at_fits c.first_over.result a.up.degree _ (firsts a.up) (firsts a.across) a.across.degree _ (rw c.first_over.ensures (first_lt a.up s.requires.rows l.row r))
           (ap (λ z. z + 2 * a.across.degree) c.firsts.ensures) (rw c.firsts.ensures s.requires.table≤),
       row_ends _ _ _ r,
@@ -51,25 +48,19 @@ pub slice_bounds-read_row-start : goal.slice_bounds-read_row-start
 slice_bounds-read_row-start c = omega (arith, fits (goal.at.slice_bounds-read_row-start c).After-first_over)
 
 pub slice_bounds-read_row-count-in-loop-row : goal.slice_bounds-read_row-count-in-loop-row
-slice_bounds-read_row-count-in-loop-row c = let l = c.loop-row in omega (arith, fits (goal.at.slice_bounds-read_row-count-in-loop-row c).After-first_over, l.invariant.6, l.invariant.7, c.requires.out≤)
+slice_bounds-read_row-count-in-loop-row c = let l = c.loop-row in omega (arith, fits (goal.at.slice_bounds-read_row-count-in-loop-row c).After-first_over, l.invariant.0, c.requires.out≤)
 
 pub slice_bounds-read_row-start-in-loop-row : goal.slice_bounds-read_row-start-in-loop-row
-slice_bounds-read_row-start-in-loop-row c = let l = c.loop-row in omega (arith, fits (goal.at.slice_bounds-read_row-start-in-loop-row c).After-first_over, l.invariant.6, l.invariant.7, c.requires.out≤)
+slice_bounds-read_row-start-in-loop-row c = let l = c.loop-row in omega (arith, fits (goal.at.slice_bounds-read_row-start-in-loop-row c).After-first_over, l.invariant.0, c.requires.out≤)
 
 pub read_row-requires : goal.read_row-requires
 read_row-requires c = let s = c in
     let l = c.loop-row in
     let b = fits (goal.at.read_row-requires c).After-first_over in
-    record { side_in = s.requires.columns; across_in_bounds = (omega (arith, b, mid_len ((c.first_over.result + s.args.up.degree) * (c.firsts.result + 2 * s.args.across.degree) + s.args.across.degree) s.args.table.now), omega (arith, b, l.invariant.6, l.invariant.7, s.requires.out≤, mid_len l.to l.out)) }
+    record { side_in = s.requires.columns; across_in_bounds = (omega (arith, b, mid_len ((c.first_over.result + s.args.up.degree) * (c.firsts.result + 2 * s.args.across.degree) + s.args.across.degree) s.args.table.now), omega (arith, b, l.invariant.0, s.requires.out≤, mid_len l.to l.out)) }
 
 pub overflow_add-to : goal.overflow_add-to
-overflow_add-to c = let l = c.loop-row in omega (arith, fits (goal.at.overflow_add-to c).After-first_over, l.invariant.6, l.invariant.7, c.requires.out≤)
-
-pub overflow_add-row : goal.overflow_add-row
-overflow_add-row c = let l = c.loop-row in omega (arith, l.invariant.0, l.invariant.1)
-
-pub loop-row-smaller : goal.loop-row-smaller
-loop-row-smaller c = let l = c.loop-row in omega (arith, l.invariant.1)
+overflow_add-to c = let l = c.loop-row in omega (arith, fits (goal.at.overflow_add-to c).After-first_over, l.invariant.0, c.requires.out≤)
 
 pub loop-row-preserved : goal.loop-row-preserved
 loop-row-preserved c = let o = c in
@@ -77,15 +68,12 @@ loop-row-preserved c = let o = c in
     let s = o in
     let a = s.args in
     let b = fits (goal.at.loop-row-preserved c).After-first_over in
-    let e = fill_part _ _ _ _ l.invariant.8 a.across.cells _ _ (omega (arith, l.invariant.6, s.requires.out≤)) c.read_row.ensures
-    (read_row a.across a.up a.table.now l.row _ l.to l.invariant.6 (λ i. (o.first_over.ensures i + a.up.degree) * (o.firsts.ensures i + 2 * a.across.degree) + a.across.degree)) in
-    (omega (arith, l.invariant.1), l.invariant.1, refl, refl, refl, l.invariant.5, omega (arith, l.invariant.6), fill_length _ _ _ _ e, e)
-
-pub shape_of-out : goal.shape_of-out
-shape_of-out c = c.loop-row.invariant.7
+    let e = fill_part _ _ _ _ l.invariant.1 a.across.cells _ _ (omega (arith, l.invariant.0, s.requires.out≤)) c.read_row.ensures
+    (read_row a.across a.up a.table.now l.row _ l.to l.invariant.0 (λ i. (o.first_over.ensures i + a.up.degree) * (o.firsts.ensures i + 2 * a.across.degree) + a.across.degree)) in
+    (omega (arith, l.invariant.0), e)
 
 pub returns : goal.returns
 returns c = let a = c.args in
     let l = c.loop-row in
-    let q : l.row ≡ a.up.cells = omega (arith, l.invariant.1) in
-    rw (l.invariant.6 ∙ ap (λ r. r * a.across.cells) q) at l.invariant.8
+    let q : l.row ≡ a.up.cells = omega arith in
+    rw (l.invariant.0 ∙ ap (λ r. r * a.across.cells) q) at l.invariant.1
