@@ -62,6 +62,7 @@ pub fn size(n: u32) -> usize
 }
 
 // A number put at a place; the place behind it.
+// The buffer is lent whole, and not what is left of it: callers cite what stands in all of it.
 pub fn write(out: &mut [u8], at: usize, n: u32) -> usize
     requires n_lt_number_limit { n < number_limit }
     requires n_in_bounds { at + length (encode_number n) ≤ length out.old }

@@ -13,12 +13,11 @@ use Rattle.codec.specs.Fitting.{number_limit, Small, none, more, Rising}
 use Rattle.codec.proofs.Lists.{numbers_round, rising_round, numbers_canonical, rising_canonical}
 use Rattle.grid.specs.Plan.{plan_of}
 use Rattle.files.specs.File.{head_numbers, encode_corners, encode_file, bad_file, got_file, decode_corners, with_corners, with_cells, with_head, decode_file}
-use Rattle.files.specs.Steps.{plan_with}
 use Rattle.files.proofs.CornerNumbers.{corner_bytes, corners_round, corners_canonical}
 
 -- bytes that are not read give nothing
 pub no_file : {C : Type 0} {p : Plan} {cells rest : List ℕ} → bad_file ≡ got_file p cells rest → C
-no_file e = absurd (let z : ◌≡◌ {A = ℕ} 0 1 = cc in let w : ⊥ = omega arith in w)
+no_file e = cc
 
 -- ---- a head, corners and a plan
 
@@ -32,13 +31,6 @@ of_seven P k (a ∷ b ∷ c ∷ d ∷ f ∷ []) e = absurd (omega arith)
 of_seven P k (a ∷ b ∷ c ∷ d ∷ f ∷ g ∷ []) e = absurd (omega arith)
 of_seven P k (a ∷ b ∷ c ∷ d ∷ f ∷ g ∷ h ∷ []) e = k a b c d f g h
 of_seven P k (a ∷ b ∷ c ∷ d ∷ f ∷ g ∷ h ∷ i ∷ t) e = absurd (omega arith)
-
--- the plan of a head and corners, number by number
-abbrev number_by_number : List ℕ → ℕ → ℕ → Plan
-number_by_number ns across up = plan_of (get_or ns 0 0 ∷ get_or ns 1 0 ∷ get_or ns 2 0 ∷ get_or ns 3 0 ∷ get_or ns 4 0 ∷ get_or ns 5 0 ∷ across ∷ up ∷ [])
-
-pub plan_numbers : (ns : List ℕ) (across up : ℕ) → length ns ≡ 7 → number_by_number ns across up ≡ plan_with ns across up
-plan_numbers ns across up e = of_seven (λ ns. number_by_number ns across up ≡ plan_with ns across up) (λ a b c d f g h. refl) ns e
 
 -- it has their numbers
 record Has (ns cs : List ℕ) (p : Plan) : Type 0 where

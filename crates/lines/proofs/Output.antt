@@ -2,14 +2,14 @@
 use mathlib.Core.Path.{◌≡◌, refl, sym, ap, ◌∙◌}
 use mathlib.Core.Bool.{Bool, true, false, cond}
 use mathlib.Core.List.{List, [], ◌∷◌, ◌++◌, append_assoc}
-use Prim.Native.Nat.{ℕ, zero, suc, ◌+◌, ◌*◌, ◌/◌, ◌%◌, ◌^◌, ◌≤◌, ◌<◌}
+use Prim.Native.Nat.{ℕ, zero, suc, ◌+◌, ◌-◌, ◌*◌, ◌/◌, ◌%◌, ◌^◌, ◌≤◌, ◌<◌}
 use native.Mathlib.Nat.{zero-add, pow-suc}
 use native.Mathlib.Numerals.{add-one}
 use native.Mathlib.Omega.{arith}
-use lib.ListN.{length, get_or, drop, length-append, drop_of_length-le}
-use lib.Seq.{length-take-le, drop-cons}
-use lib.Dec.{leb, ltb}
-use borrow.Author.Tests.{lt-ltb, le-ltb, leb-true, leb-false}
+use lib.ListN.{length, get_or, take, drop, length-append, length-drop, drop_of_length-le}
+use lib.Seq.{length-take-le, take_all, drop-cons}
+use lib.Dec.{ltb}
+use borrow.Author.Tests.{lt-ltb, le-ltb}
 use Rattle.lines.specs.Text.{Counts}
 use Rattle.lines.specs.Writing.{last_digits, digits, spaced, items, answer, answer_room, Prints}
 use Rattle.facts.specs.Writing.{written_at, Writes}
@@ -17,11 +17,6 @@ use Rattle.facts.proofs.Writing.{writes_length}
 
 pub counts : (n : ℕ) (xs : List ℕ) → n ≤ length xs → Counts n xs
 counts n xs h = (h, sym (length-take-le n xs h))
-
--- ---- a given text
-
-pub text_next : (l : List ℕ) (i : ℕ) → i < length l → drop i l ≡ (get_or l i 0 ∷ []) ++ drop (i + 1) l
-text_next l i h = rw add-one (drop-cons l i 0 h)
 
 -- ---- digits
 
@@ -90,6 +85,10 @@ unfolding items
 items_short [] = omega arith
 items_short (n ∷ ns) = omega (arith, spaced_short ns, length_digits n, length-append (digits n) (spaced ns))
 
+-- all items but the first, as a slice pattern takes them
+pub rest_is : (l : List ℕ) → take (length l - 1) (drop 1 l) ≡ drop 1 l
+rest_is l = take_all (length l - 1) (drop 1 l) (omega (arith, length-drop 1 l))
+
 -- a list and the byte after it
 module _ (l : List ℕ) (b : ℕ) where
   pub list_none : length l ≡ 0 → items l ++ (b ∷ []) ≡ b ∷ []
@@ -128,13 +127,3 @@ prints {room} {out} {text} {r} {new} e h w =
 
 pub prints_none : {room : Bool} {out text : List ℕ} → room ≡ false → Prints room out text 0 out
 prints_none {room} {out} e = rw e (record { count = refl; bytes = refl; inside = counts 0 out (omega arith) })
-
--- two tests that follow from each other
-pub same_test : (a b c d : ℕ) → (a ≤ b → c ≤ d) → (c ≤ d → a ≤ b) → leb a b ≡ leb c d
-same_test a b c d f g = go (leb a b) (leb c d) refl refl
-  where
-    go : (s t : Bool) → leb a b ≡ s → leb c d ≡ t → s ≡ t
-    go true true e h = refl
-    go true false e h = absurd (let w : c ≤ d = f (leb-true a b e) in let z : ⊥ = omega (arith, leb-false c d h) in z)
-    go false true e h = absurd (let w : a ≤ b = g (leb-true c d h) in let z : ⊥ = omega (arith, leb-false a b e) in z)
-    go false false e h = refl

@@ -8,7 +8,7 @@ use native.Mathlib.Omega.{arith}
 use lib.ListN.{length}
 use lib.Dec.{ltb}
 use borrow.Author.Tests.{lt-ltb, ltb-true}
-use Rattle.lines.specs.declared.Number.TheVariants.{Value}
+use Rattle.std.specs.Prelude.{Some}
 use Rattle.lines.specs.Reading.{is_digit, all_digits, value_after, value_of, is_number, number_of}
 use Rattle.lines.specs.Writing.{last_digits, digits}
 use Rattle.lines.proofs.Texts.{is_digit_lem}
@@ -61,8 +61,8 @@ unfolding is_number
 number [] n a v = absurd (n refl)
 number (b ∷ s) n a v = rw (a, lt-ltb _ _ v) refl
 
-pub read_back : (n : ℕ) → n < 2 ^ 32 → number_of (digits n) ≡ Value n
+pub read_back : (n : ℕ) → n < 2 ^ 32 → number_of (digits n) ≡ Some n
 unfolding digits
 read_back n h =
     let w = holds 10 n (omega arith) in
-    rw (number (last_digits 10 n) (some_digit 9 n) w.1 (omega (arith, w.0))) (ap Value w.0)
+    rw (number (last_digits 10 n) (some_digit 9 n) w.1 (omega (arith, w.0))) (ap Some w.0)

@@ -2,15 +2,16 @@
 use mathlib.Core.Path.{◌≡◌, refl, sym, ap, ◌∙◌}
 use mathlib.Core.Bool.{Bool, true, false, cond, ◌&&◌}
 use mathlib.Core.List.{List, [], ◌∷◌}
-use Prim.Native.Nat.{ℕ, suc, ◌+◌, ◌-◌, ◌*◌, ◌^◌, ◌≤◌, ◌<◌}
+use Prim.Native.Nat.{ℕ, ◌+◌, ◌-◌, ◌*◌, ◌^◌, ◌≤◌, ◌<◌}
 use native.Mathlib.Numerals.{add-one}
 use native.Mathlib.Omega.{arith}
 use lib.ListN.{length, get_or, take, drop, length-drop, drop_of_length-le}
 use lib.Seq.{drop-cons, drop-drop}
 use lib.Dec.{eqb, ltb}
-use borrow.Author.Tests.{lt-ltb, le-ltb, le-leb, lt-leb, eq-eqb, ne_eqb, ltb-true, ltb-false}
-use Rattle.lines.specs.declared.Number.{Number}
-use Rattle.lines.specs.declared.Number.TheVariants.{Value, NoNumber}
+use borrow.Author.Tests.{lt-ltb, le-ltb, le-leb, eq-eqb, ne_eqb, ltb-true, ltb-false}
+use Rattle.std.specs.Prelude.{Option, Some, None, nat_eq}
+use Rattle.std.specs.Char.{is_ascii_digit}
+use Rattle.std.specs.Cmp.Lexicographic.{pointwise}
 use Rattle.lines.specs.Reading.{up_to, onto, parts, lines_of, fields_of, is_digit, all_digits, value_after, is_number, number_of, same, EndsLine}
 use Rattle.lines.specs.Steps.{behind, fields_behind}
 
@@ -38,7 +39,7 @@ take_up_to stop (b ∷ s) = go (eqb b stop) refl (take_up_to stop s)
     go true e ih = rw e refl
     go false e ih = rw e (ap (λ (x : List ℕ). b ∷ x) ih)
 
-up_to_le : (stop : ℕ) (s : List ℕ) → length (up_to stop s) ≤ length s
+pub up_to_le : (stop : ℕ) (s : List ℕ) → length (up_to stop s) ≤ length s
 unfolding up_to
 up_to_le stop [] = omega arith
 up_to_le stop (b ∷ s) = go (eqb b stop) refl (up_to_le stop s)
@@ -102,45 +103,35 @@ ends_line s from r e =
 
 -- ---- a number: the digits one after the other, stopping at the first that cannot be
 
-unfoldable pub scan : ℕ → List ℕ → Number
-scan n [] = Value n
-scan n (b ∷ s) = cond (is_digit b) (cond (ltb (n * 10 + (b - 48)) (2 ^ 32)) (scan (n * 10 + (b - 48)) s) NoNumber) NoNumber
-
-low_digit : (b : ℕ) → b < 48 → is_digit b ≡ false
-unfolding is_digit
-low_digit b h = rw (lt-leb 48 b h) refl
-
-high_digit : (b : ℕ) → 57 < b → is_digit b ≡ false
-unfolding is_digit
-high_digit b h =
-    let l : 48 ≤ b = omega arith in
-    rw (le-leb 48 b l, lt-leb b 57 h) refl
+unfoldable pub scan : ℕ → List ℕ → Option ℕ
+scan n [] = Some n
+scan n (b ∷ s) = cond (is_digit b) (cond (ltb (n * 10 + (b - 48)) (2 ^ 32)) (scan (n * 10 + (b - 48)) s) None) None
 
 pub is_digit_lem : (b : ℕ) → 48 ≤ b → b ≤ 57 → is_digit b ≡ true
 unfolding is_digit
 is_digit_lem b l h = rw (le-leb 48 b l, le-leb b 57 h) refl
 
+pub digit_told : (b : ℕ) {t : Bool} → t ≡ is_ascii_digit b → is_digit b ≡ t
+unfolding is_digit
+digit_told b e = sym e
+
 module _ (n : ℕ) (s : List ℕ) (i : ℕ) where
-  pub scan_end : length s ≤ i → scan n (drop i s) ≡ Value n
+  pub scan_end : length s ≤ i → scan n (drop i s) ≡ Some n
   unfolding scan
   scan_end h = rw (drop_of_length-le s h) refl
 
-  pub scan_low : i < length s → get_or s i 0 < 48 → scan n (drop i s) ≡ NoNumber
+  pub scan_stop : i < length s → is_digit (get_or s i 0) ≡ false → scan n (drop i s) ≡ None
   unfolding scan
-  scan_low h l = rw (drop-cons s i 0 h, low_digit _ l) refl
+  scan_stop h d = rw (drop-cons s i 0 h, d) refl
 
-  pub scan_high : i < length s → 57 < get_or s i 0 → scan n (drop i s) ≡ NoNumber
-  unfolding scan
-  scan_high h l = rw (drop-cons s i 0 h, high_digit _ l) refl
-
-  module _ (h : i < length s) (low : 48 ≤ get_or s i 0) (high : get_or s i 0 ≤ 57) where
-    pub scan_large : 2 ^ 32 ≤ n * 10 + (get_or s i 0 - 48) → scan n (drop i s) ≡ NoNumber
+  module _ (h : i < length s) (d : is_digit (get_or s i 0) ≡ true) where
+    pub scan_large : 2 ^ 32 ≤ n * 10 + (get_or s i 0 - 48) → scan n (drop i s) ≡ None
     unfolding scan
-    scan_large l = rw (drop-cons s i 0 h, is_digit_lem _ low high, le-ltb _ _ l) refl
+    scan_large l = rw (drop-cons s i 0 h, d, le-ltb _ _ l) refl
 
     pub scan_next : n * 10 + (get_or s i 0 - 48) < 2 ^ 32 → scan n (drop i s) ≡ scan (n * 10 + (get_or s i 0 - 48)) (drop (i + 1) s)
     unfolding scan
-    scan_next l = rw (drop-cons s i 0 h, is_digit_lem _ low high, lt-ltb _ _ l, add-one) refl
+    scan_next l = rw (drop-cons s i 0 h, d, lt-ltb _ _ l, add-one) refl
 
 grows : (n : ℕ) (s : List ℕ) → n ≤ value_after n s
 unfolding value_after
@@ -151,14 +142,14 @@ pub and-false : (b : Bool) → (b && false) ≡ false
 and-false true = refl
 and-false false = refl
 
-scanned : (n : ℕ) (s : List ℕ) → n < 2 ^ 32 → scan n s ≡ cond (all_digits s && ltb (value_after n s) (2 ^ 32)) (Value (value_after n s)) NoNumber
+scanned : (n : ℕ) (s : List ℕ) → n < 2 ^ 32 → scan n s ≡ cond (all_digits s && ltb (value_after n s) (2 ^ 32)) (Some (value_after n s)) None
 unfolding scan all_digits value_after
 scanned n [] h = rw (lt-ltb n (2 ^ 32) h) refl
 scanned n (b ∷ s) h = go (is_digit b) (ltb (n * 10 + (b - 48)) (2 ^ 32)) refl refl (scanned (n * 10 + (b - 48)) s)
   where
     go : (d l : Bool) → is_digit b ≡ d → ltb (n * 10 + (b - 48)) (2 ^ 32) ≡ l
-        → (n * 10 + (b - 48) < 2 ^ 32 → scan (n * 10 + (b - 48)) s ≡ cond (all_digits s && ltb (value_after (n * 10 + (b - 48)) s) (2 ^ 32)) (Value (value_after (n * 10 + (b - 48)) s)) NoNumber)
-        → scan n (b ∷ s) ≡ cond (all_digits (b ∷ s) && ltb (value_after n (b ∷ s)) (2 ^ 32)) (Value (value_after n (b ∷ s))) NoNumber
+        → (n * 10 + (b - 48) < 2 ^ 32 → scan (n * 10 + (b - 48)) s ≡ cond (all_digits s && ltb (value_after (n * 10 + (b - 48)) s) (2 ^ 32)) (Some (value_after (n * 10 + (b - 48)) s)) None)
+        → scan n (b ∷ s) ≡ cond (all_digits (b ∷ s) && ltb (value_after n (b ∷ s)) (2 ^ 32)) (Some (value_after n (b ∷ s))) None
     go false l d e ih = rw d refl
     go true true d e ih = rw (d, e) (ih (ltb-true _ _ e))
     go true false d e ih =
@@ -170,30 +161,23 @@ unfolding is_number
 number_scan [] h = absurd (h refl)
 number_scan (b ∷ s) h = sym (scanned 0 (b ∷ s) (omega arith))
 
-pub no_number : (s : List ℕ) → length s ≡ 0 → NoNumber ≡ number_of s
+-- no number is read where the digits stop
+pub no_scan : (s : List ℕ) (i n : ℕ) → i < length s → scan 0 s ≡ scan n (drop i s) → scan n (drop i s) ≡ None → None ≡ number_of s
+no_scan s i n h a b = sym (number_scan s (λ e. omega arith) ∙ a ∙ b)
+
+pub no_number : (s : List ℕ) → length s ≡ 0 → None ≡ number_of s
 unfolding is_number
 no_number [] h = refl
 no_number (b ∷ s) h = absurd (let z : ⊥ = omega arith in z)
 
 -- ---- two texts
 
-pub same_lengths : (a b : List ℕ) → (length a ≡ length b → ⊥) → same a b ≡ false
+same_is : (s t : List ℕ) → same s t ≡ pointwise nat_eq s t
 unfolding same
-same_lengths [] [] h = absurd (h refl)
-same_lengths [] (y ∷ b) h = refl
-same_lengths (x ∷ a) [] h = refl
-same_lengths (x ∷ a) (y ∷ b) h = rw (same_lengths a b (λ e. h (ap suc e)), and-false) refl
+same_is [] [] = refl
+same_is [] (y ∷ t) = refl
+same_is (x ∷ s) [] = refl
+same_is (x ∷ s) (y ∷ t) = rw (same_is s t) refl
 
-module _ (a b : List ℕ) (i : ℕ) where
-  pub same_end : length a ≤ i → length b ≤ i → same (drop i a) (drop i b) ≡ true
-  unfolding same
-  same_end h k = rw (drop_of_length-le a h, drop_of_length-le b k) refl
-
-  module _ (h : i < length a) (k : i < length b) where
-    pub same_next : get_or a i 0 ≡ get_or b i 0 → same (drop i a) (drop i b) ≡ same (drop (i + 1) a) (drop (i + 1) b)
-    unfolding same
-    same_next e = rw (drop-cons a i 0 h, drop-cons b i 0 k, eq-eqb _ _ e, add-one) refl
-
-    pub same_differ : (get_or a i 0 ≡ get_or b i 0 → ⊥) → same (drop i a) (drop i b) ≡ false
-    unfolding same
-    same_differ e = rw (drop-cons a i 0 h, drop-cons b i 0 k, ne_eqb _ _ e) refl
+pub word_is : (w t l : List ℕ) {b : Bool} → t ≡ l → b ≡ pointwise nat_eq w t → same w l ≡ b
+word_is w t l e q = rw (← e) (same_is w t ∙ sym q)

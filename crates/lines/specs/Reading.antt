@@ -1,9 +1,7 @@
 -- What the bytes of a session's input mean. Every place named here is in document 01, "The session program", or document 02, Req 05.
 -- Assumes nothing: these are definitions.
-use Rattle.std.specs.Prelude.{◌≡◌, Bool, true, false, cond, ◌&&◌, ◌||◌, List, [], ◌∷◌, ◌++◌, map, ℕ, ◌+◌, ◌-◌, ◌*◌, ◌^◌, ◌≤◌, ◌<◌, length, take, drop, eqb, leb, ltb}
+use Rattle.std.specs.Prelude.{◌≡◌, Bool, true, false, cond, ◌&&◌, ◌||◌, List, [], ◌∷◌, ◌++◌, map, ℕ, ◌+◌, ◌-◌, ◌*◌, ◌^◌, ◌≤◌, ◌<◌, length, take, drop, eqb, leb, ltb, Option, None, Some}
 use Rattle.lines.specs.Text.{bytes, Counts}
-use Rattle.lines.specs.declared.Number.{Number}
-use Rattle.lines.specs.declared.Number.TheVariants.{Value, NoNumber}
 use Rattle.lines.specs.declared.Kind.{Kind}
 use Rattle.lines.specs.declared.Kind.TheVariants.{Unreadable, Wall, Split, Join, SplitFunctions, JoinFunctions}
 use Rattle.lines.specs.declared.Line.{Line}
@@ -59,8 +57,8 @@ is_number [] = false
 is_number (b ∷ s) = all_digits (b ∷ s) && ltb (value_of (b ∷ s)) (2 ^ 32)
 
 -- a field as a number
-abbrev pub number_of : List ℕ → Number
-number_of s = cond (is_number s) (Value (value_of s)) NoNumber
+abbrev pub number_of : List ℕ → Option ℕ
+number_of s = cond (is_number s) (Some (value_of s)) None
 
 -- every field is a number
 unfoldable pub all_numbers : List (List ℕ) → Bool

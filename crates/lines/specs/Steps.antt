@@ -1,5 +1,5 @@
 -- What the contracts of the parts cite; the contracts that others see do not. Assumes nothing: these are definitions.
-use Rattle.std.specs.Prelude.{◌≡◌, cond, List, [], ◌∷◌, ℕ, ◌+◌, ◌≤◌, length, drop}
+use Rattle.std.specs.Prelude.{◌≡◌, true, false, List, [], ◌∷◌, ℕ, ◌+◌, ◌≤◌, length, drop, Option, None, Some}
 use Rattle.lines.specs.declared.Field.{Field}
 use Rattle.lines.specs.Reading.{up_to, parts, number_of, all_numbers}
 
@@ -11,9 +11,10 @@ behind stop end (b ∷ s) = parts stop end s
 abbrev pub fields_behind : List ℕ → List (List ℕ)
 fields_behind s = behind 32 ([] ∷ []) s
 
--- how many fields there are, or 65, which fits no word, where one is no number
-abbrev pub counted : List (List ℕ) → ℕ
-counted fs = cond (all_numbers fs) (length fs) 65
+-- how many fields there are, or none, where one is no number
+abbrev pub Counted : List (List ℕ) → Option ℕ → Type 0
+Counted fs None = all_numbers fs ≡ false
+Counted fs (Some n) = (all_numbers fs ≡ true) × (n ≡ length fs)
 
 -- the field after the space at a place of the line s
 pub record ReadsField (s : List ℕ) (at : ℕ) (field : Field) : Type 0 where

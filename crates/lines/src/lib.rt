@@ -2,17 +2,10 @@
 #![tactic(auto)]
 
 ghost use Rattle.std.specs.Prelude.{◌≡◌, true, [], ◌∷◌, ◌++◌, map, ◌+◌, ◌≤◌, ◌<◌, leb, length, drop};
-ghost use Rattle.lines.specs.Reading.{up_to, value_of, number_of, all_numbers, same as same·bytes, kind_of, fits as fits·count, EndsLine, Reads};
+ghost use Rattle.lines.specs.Reading.{up_to, value_of, number_of, all_numbers, kind_of, fits as fits·count, EndsLine, Reads};
 ghost use Rattle.lines.specs.Writing.{digits, spaced, items, answer as answer·line, question as question·line, large as large·line, answer_room, Prints};
-ghost use Rattle.lines.specs.Steps.{fields_behind, counted, ReadsField};
+ghost use Rattle.lines.specs.Steps.{fields_behind, Counted, ReadsField};
 ghost use Rattle.facts.specs.Writing.{Writes};
-
-// A field of a line, read as a number of 32 bits.
-#[derive(Clone, Copy)]
-enum Number {
-    Value(u32),
-    NoNumber,
-}
 
 // What a line asks for.
 #[derive(Clone, Copy)]
@@ -32,10 +25,11 @@ pub struct Line {
     pub count: usize,
 }
 
-// A field of a line: the number that it holds, and the place of the space after it or of the line's end.
+// A field of a line: the number that it holds, none where it is no number of 32 bits, and the place of the space after it or of the line's
+// end.
 #[derive(Clone, Copy)]
 struct Field {
-    number: Number,
+    number: Option<u32>,
     end: usize,
 }
 
@@ -43,14 +37,12 @@ struct Field {
 fn find(text: &[u8], from: usize, stop: u8) -> usize
     ensures { result ≡ from + length (up_to stop (drop from text.now)) }
 {
-    let mut i = from;
-    while i < text.len() {
+    for i in from..text.len() {
         if text[i] == stop {
             return i;
         }
-        i += 1;
     }
-    i
+    from.max(text.len())
 }
 
 // Where the line that starts at `from` ends; the next one starts after that place.
@@ -61,64 +53,39 @@ pub fn line_end(input: &[u8], from: usize) -> usize
 }
 
 // A field as a number.
-fn read_number(text: &[u8]) -> Number
+fn read_number(text: &[u8]) -> Option<u32>
     ensures { result ≡ number_of text.now }
 {
-    if text.len() == 0 {
-        return Number::NoNumber;
+    if text.is_empty() {
+        return None;
     }
-    let mut value: u64 = 0;
-    let mut i = 0;
-    while i < text.len() {
-        let byte = text[i];
-        if byte < 48 {
-            return Number::NoNumber;
+    let mut value: u32 = 0;
+    for byte in text {
+        if !byte.is_ascii_digit() {
+            return None;
         }
-        if byte > 57 {
-            return Number::NoNumber;
-        }
-        value = value * 10 + (byte - 48) as u64;
-        if value > 4294967295 {
-            return Number::NoNumber;
-        }
-        i += 1;
+        value = value.checked_mul(10)?.checked_add(u32::from(*byte - b'0'))?;
     }
-    Number::Value(value as u32)
-}
-
-fn same(a: &[u8], b: &[u8]) -> bool
-    ensures { result ≡ same·bytes a.now b.now }
-{
-    if a.len() != b.len() {
-        return false;
-    }
-    let mut i = 0;
-    while i < a.len() {
-        if a[i] != b[i] {
-            return false;
-        }
-        i += 1;
-    }
-    true
+    Some(value)
 }
 
 // What the first word of a line asks.
 fn kind_of(word: &[u8]) -> Kind
     ensures { result ≡ kind_of word.now }
 {
-    if same(word, b"wall") {
+    if word == b"wall".as_slice() {
         return Kind::Wall;
     }
-    if same(word, b"split") {
+    if word == b"split".as_slice() {
         return Kind::Split;
     }
-    if same(word, b"join") {
+    if word == b"join".as_slice() {
         return Kind::Join;
     }
-    if same(word, b"fsplit") {
+    if word == b"fsplit".as_slice() {
         return Kind::SplitFunctions;
     }
-    if same(word, b"fjoin") {
+    if word == b"fjoin".as_slice() {
         return Kind::JoinFunctions;
     }
     Kind::Unreadable
@@ -131,10 +98,7 @@ fn fits(kind: Kind, count: usize) -> bool
     match kind {
         Kind::Unreadable => false,
         Kind::Wall => (count == 6) | (count == 8),
-        Kind::Split => count <= 64,
-        Kind::Join => count <= 64,
-        Kind::SplitFunctions => count <= 64,
-        Kind::JoinFunctions => count <= 64,
+        Kind::Split | Kind::Join | Kind::SplitFunctions | Kind::JoinFunctions => count <= 64,
     }
 }
 
@@ -149,65 +113,58 @@ fn read_field(line: &[u8], at: usize) -> Field
     Field { number, end }
 }
 
-// How many numbers stand after the space at `from`, or 65 where a field is none.
-fn count_numbers(line: &[u8], from: usize) -> usize
-    ensures { result ≡ counted (fields_behind (drop from line.now)) }
+// How many numbers stand after the space at `from`; none where a field is no number.
+fn count_numbers(line: &[u8], from: usize) -> Option<usize>
+    ensures { Counted (fields_behind (drop from line.now)) result }
 {
     let mut count = 0;
     let mut at = from;
+    // a while: each step goes to the end of a field, which only `read_field` knows
     while at < line.len() {
         let field = read_field(line, at);
-        let number = field.number;
-        let Number::Value(_) = number else {
-            return 65;
-        };
+        field.number?;
         count += 1;
         at = field.end;
     }
-    count
+    Some(count)
 }
 
-// The numbers after the space at `from`, put at the start of the buffer.
+// The numbers after the space at `from`, of which there are as many as the list has.
 fn store_numbers(line: &[u8], from: usize, numbers: &mut [u32])
     requires line_value { all_numbers (fields_behind (drop from line.now)) ≡ true }
-    requires line_in_bounds { length (fields_behind (drop from line.now)) ≤ length numbers.old }
-    ensures { numbers.new ≡ map value_of (fields_behind (drop from line.now)) ++ drop (length (fields_behind (drop from line.now))) numbers.old }
+    requires line_in_bounds { length (fields_behind (drop from line.now)) ≡ length numbers.old }
+    ensures { numbers.new ≡ map value_of (fields_behind (drop from line.now)) }
 {
-    let mut i = 0;
     let mut at = from;
-    while at < line.len() {
+    for number in numbers.iter_mut() {
         let field = read_field(line, at);
-        let number = field.number;
-        let Number::Value(value) = number else {
-            return;
-        };
-        numbers[i] = value;
-        i += 1;
+        *number = field.number.unwrap();
         at = field.end;
     }
 }
+
+const UNREADABLE: Line = Line {
+    kind: Kind::Unreadable,
+    count: 0,
+};
 
 // A line, without its line feed, and its numbers, for which there have to be 64 places.
 pub fn read_line(line: &[u8], numbers: &mut [u32]) -> Line
     ensures { Reads line.now numbers.old result numbers.new }
 {
     if numbers.len() < 64 {
-        return Line {
-            kind: Kind::Unreadable,
-            count: 0,
-        };
+        return UNREADABLE;
     }
     let end = find(line, 0, 32);
     let kind = kind_of(&line[..end]);
-    let count = count_numbers(line, end);
-    if fits(kind, count) {
-        store_numbers(line, end, numbers);
-        return Line { kind, count };
+    let Some(count) = count_numbers(line, end) else {
+        return UNREADABLE;
+    };
+    if !fits(kind, count) {
+        return UNREADABLE;
     }
-    Line {
-        kind: Kind::Unreadable,
-        count: 0,
-    }
+    store_numbers(line, end, &mut numbers[..count]);
+    Line { kind, count }
 }
 
 // A byte at a place of the buffer. The answer is the place after it, here and in each `put_`.
@@ -217,19 +174,6 @@ fn put_byte(out: &mut [u8], at: usize, byte: u8) -> usize
 {
     out[at] = byte;
     at + 1
-}
-
-fn put_text(out: &mut [u8], at: usize, text: &[u8]) -> usize
-    requires { at + length text.now ≤ length out.old }
-    ensures { Writes out.old at text.now result out.new }
-{
-    let mut end = at;
-    let mut i = 0;
-    while i < text.len() {
-        end = put_byte(out, end, text[i]);
-        i += 1;
-    }
-    end
 }
 
 // The digits of a number, those of its tenth first.
@@ -244,19 +188,16 @@ fn put_number(out: &mut [u8], at: usize, number: u32) -> usize
     put_byte(out, end, 48 + (number % 10) as u8)
 }
 
-// The items of a list from `from` on, each after a space.
-fn put_spaced(out: &mut [u8], at: usize, list: &[u32], from: usize) -> usize
-    requires { at + length (spaced (drop from list.now)) ≤ length out.old }
-    ensures { Writes out.old at (spaced (drop from list.now)) result out.new }
+// Items, each after a space.
+fn put_spaced(out: &mut [u8], mut at: usize, list: &[u32]) -> usize
+    requires { at + length (spaced list.now) ≤ length out.old }
+    ensures { Writes out.old at (spaced list.now) result out.new }
 {
-    let mut end = at;
-    let mut i = from;
-    while i < list.len() {
-        end = put_byte(out, end, 32);
-        end = put_number(out, end, list[i]);
-        i += 1;
+    for item in list {
+        at = put_byte(out, at, 32);
+        at = put_number(out, at, *item);
     }
-    end
+    at
 }
 
 // The items of a list, and the byte that ends it.
@@ -264,11 +205,11 @@ fn put_list(out: &mut [u8], at: usize, list: &[u32], last: u8) -> usize
     requires { at + length (items list.now ++ (last ∷ [])) ≤ length out.old }
     ensures { Writes out.old at (items list.now ++ (last ∷ [])) result out.new }
 {
-    if list.len() == 0 {
+    let [item, rest @ ..] = list else {
         return put_byte(out, at, last);
-    }
-    let first = put_number(out, at, list[0]);
-    let end = put_spaced(out, first, list, 1);
+    };
+    let first = put_number(out, at, *item);
+    let end = put_spaced(out, first, rest);
     put_byte(out, end, last)
 }
 
@@ -276,14 +217,7 @@ fn put_list(out: &mut [u8], at: usize, list: &[u32], last: u8) -> usize
 fn has_room(space: usize, cells: usize, functions: usize) -> bool
     ensures { result ≡ leb (answer_room cells functions) space }
 {
-    if space < 13 {
-        return false;
-    }
-    let items = (space - 13) / 11;
-    if cells > items {
-        return false;
-    }
-    functions <= items - cells
+    space >= 13 && cells.saturating_add(functions) <= (space - 13) / 11
 }
 
 fn put_answer(out: &mut [u8], number: u32, cells: &[u32], functions: &[u32]) -> usize
@@ -301,27 +235,34 @@ pub fn write_answer(out: &mut [u8], number: u32, cells: &[u32], functions: &[u32
     ensures { Prints (leb (answer_room (length cells.now) (length functions.now)) (length out.old)) out.old (answer·line number cells.now functions.now) result out.new }
 {
     if has_room(out.len(), cells.len(), functions.len()) {
-        return put_answer(out, number, cells, functions);
+        put_answer(out, number, cells, functions)
+    } else {
+        0
     }
-    0
+}
+
+// A text at the start of the buffer, as `write_answer` has it.
+fn write_text(out: &mut [u8], text: &[u8]) -> usize
+    ensures { Prints (leb (length text.now) (length out.old)) out.old text.now result out.new }
+{
+    let length = text.len();
+    if out.len() < length {
+        return 0;
+    }
+    out[..length].copy_from_slice(text);
+    length
 }
 
 // The line `?`, as `write_answer` has it.
 pub fn write_question(out: &mut [u8]) -> usize
     ensures { Prints (leb 2 (length out.old)) out.old question·line result out.new }
 {
-    if out.len() < 2 {
-        return 0;
-    }
-    put_text(out, 0, b"?\n")
+    write_text(out, b"?\n")
 }
 
 // The line `large`, as `write_answer` has it.
 pub fn write_large(out: &mut [u8]) -> usize
     ensures { Prints (leb 6 (length out.old)) out.old large·line result out.new }
 {
-    if out.len() < 6 {
-        return 0;
-    }
-    put_text(out, 0, b"large\n")
+    write_text(out, b"large\n")
 }

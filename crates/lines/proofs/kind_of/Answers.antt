@@ -1,28 +1,29 @@
 -- `kind_of` meets its contract, word by word. Assumes nothing.
-use mathlib.Core.Path.{refl, sym, ◌∙◌}
+use mathlib.Core.Path.{refl, sym}
 use Rattle.lines.specs.Reading.{kind_of}
+use Rattle.lines.proofs.Texts.{word_is}
 use Rattle.lines.proofs.kind_of.Goals as goal
 
-pub returns-then-same : goal.returns-then-same
+pub returns-then-eq : goal.returns-then-eq
 unfolding kind_of
-returns-then-same c = sym (rw (sym c.same.ensures ∙ c.if-same.true) refl)
+returns-then-eq c = sym (rw (word_is c.args.word.now _ _ c.as_slice.ensures c.if-eq.ensures) refl)
 
-pub returns-then-same-2 : goal.returns-then-same-2
+pub returns-then-eq-2 : goal.returns-then-eq-2
 unfolding kind_of
-returns-then-same-2 c = sym (rw (sym c.same.ensures ∙ c.if-same.false, sym c.same-2.ensures ∙ c.if-same-2.true) refl)
+returns-then-eq-2 c = sym (rw (word_is c.args.word.now _ _ c.as_slice.ensures c.if-eq.ensures, word_is c.args.word.now _ _ c.as_slice-2.ensures c.if-eq-2.ensures) refl)
 
-pub returns-then-same-3 : goal.returns-then-same-3
+pub returns-then-eq-3 : goal.returns-then-eq-3
 unfolding kind_of
-returns-then-same-3 c = sym (rw (sym c.same.ensures ∙ c.if-same.false, sym c.same-2.ensures ∙ c.if-same-2.false, sym c.same-3.ensures ∙ c.if-same-3.true) refl)
+returns-then-eq-3 c = sym (rw (word_is c.args.word.now _ _ c.as_slice.ensures c.if-eq.ensures, word_is c.args.word.now _ _ c.as_slice-2.ensures c.if-eq-2.ensures, word_is c.args.word.now _ _ c.as_slice-3.ensures c.if-eq-3.ensures) refl)
 
-pub returns-then-same-4 : goal.returns-then-same-4
+pub returns-then-eq-4 : goal.returns-then-eq-4
 unfolding kind_of
-returns-then-same-4 c = sym (rw (sym c.same.ensures ∙ c.if-same.false, sym c.same-2.ensures ∙ c.if-same-2.false, sym c.same-3.ensures ∙ c.if-same-3.false, sym c.same-4.ensures ∙ c.if-same-4.true) refl)
+returns-then-eq-4 c = sym (rw (word_is c.args.word.now _ _ c.as_slice.ensures c.if-eq.ensures, word_is c.args.word.now _ _ c.as_slice-2.ensures c.if-eq-2.ensures, word_is c.args.word.now _ _ c.as_slice-3.ensures c.if-eq-3.ensures, word_is c.args.word.now _ _ c.as_slice-4.ensures c.if-eq-4.ensures) refl)
 
-pub returns-then-same-5 : goal.returns-then-same-5
+pub returns-then-eq-5 : goal.returns-then-eq-5
 unfolding kind_of
-returns-then-same-5 c = sym (rw (sym c.same.ensures ∙ c.if-same.false, sym c.same-2.ensures ∙ c.if-same-2.false, sym c.same-3.ensures ∙ c.if-same-3.false, sym c.same-4.ensures ∙ c.if-same-4.false, sym c.same-5.ensures ∙ c.if-same-5.true) refl)
+returns-then-eq-5 c = sym (rw (word_is c.args.word.now _ _ c.as_slice.ensures c.if-eq.ensures, word_is c.args.word.now _ _ c.as_slice-2.ensures c.if-eq-2.ensures, word_is c.args.word.now _ _ c.as_slice-3.ensures c.if-eq-3.ensures, word_is c.args.word.now _ _ c.as_slice-4.ensures c.if-eq-4.ensures, word_is c.args.word.now _ _ c.as_slice-5.ensures c.if-eq-5.ensures) refl)
 
 pub returns : goal.returns
 unfolding kind_of
-returns c = sym (rw (sym c.same.ensures ∙ c.if-same.false, sym c.same-2.ensures ∙ c.if-same-2.false, sym c.same-3.ensures ∙ c.if-same-3.false, sym c.same-4.ensures ∙ c.if-same-4.false, sym c.same-5.ensures ∙ c.if-same-5.false) refl)
+returns c = sym (rw (word_is c.args.word.now _ _ c.as_slice.ensures c.if-eq.ensures, word_is c.args.word.now _ _ c.as_slice-2.ensures c.if-eq-2.ensures, word_is c.args.word.now _ _ c.as_slice-3.ensures c.if-eq-3.ensures, word_is c.args.word.now _ _ c.as_slice-4.ensures c.if-eq-4.ensures, word_is c.args.word.now _ _ c.as_slice-5.ensures c.if-eq-5.ensures) refl)

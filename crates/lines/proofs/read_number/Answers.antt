@@ -1,33 +1,41 @@
 -- `read_number` meets its contract: the digits that are left, with the value so far, say what the field is. Assumes nothing.
-use mathlib.Core.Path.{sym, ◌∙◌}
+use mathlib.Core.Path.{◌≡◌, sym, ◌∙◌}
+use Prim.Native.Nat.{◌+◌, ◌-◌, ◌*◌}
 use native.Mathlib.Omega.{arith}
-use Rattle.lines.proofs.Texts.{scan_end, scan_low, scan_high, scan_large, scan_next, number_scan, no_number}
+use lib.ListN.{length, get_or}
+use borrow.Author.Tests.{eqb-true, eqb-false}
+use Rattle.lines.proofs.Texts.{digit_told, scan_end, scan_stop, scan_large, scan_next, number_scan, no_scan, no_number}
 use Rattle.lines.proofs.read_number.Goals as goal
 
-pub returns-then-text-eq0 : goal.returns-then-text-eq0
-returns-then-text-eq0 c = no_number c.args.text.now c.if-text-eq0.true
+pub returns-then-is_empty : goal.returns-then-is_empty
+returns-then-is_empty c = let text = c.args.text.now in no_number text (eqb-true (length text) 0 (sym c.if-is_empty.ensures))
 
-pub returns-then-byte-lt48 : goal.returns-then-byte-lt48
-returns-then-byte-lt48 c = let a = c.args in
-    let at = c.loop-i in
-    sym (number_scan a.text.now c.if-text-eq0.false ∙ at.invariant.2 ∙ scan_low at.value a.text.now at.i (omega arith) c.if-byte-lt48.true)
+pub returns-then-not-is_ascii_digit : goal.returns-then-not-is_ascii_digit
+returns-then-not-is_ascii_digit c = let text = c.args.text.now in
+    let l = c.loop-byte in
+    no_scan text l.byte-index l.value (omega arith) l.invariant (scan_stop l.value text l.byte-index (omega arith) (digit_told _ c.if-not-is_ascii_digit.ensures.value))
 
-pub returns-then-byte-gt57 : goal.returns-then-byte-gt57
-returns-then-byte-gt57 c = let a = c.args in
-    let at = c.loop-i in
-    sym (number_scan a.text.now c.if-text-eq0.false ∙ at.invariant.2 ∙ scan_high at.value a.text.now at.i (omega arith) c.if-byte-gt57.true)
+pub returns-in_err-checked_mul : goal.returns-in_err-checked_mul
+returns-in_err-checked_mul c = let text = c.args.text.now in
+    let l = c.loop-byte in
+    c.from_residual.ensures
+    ∙ no_scan text l.byte-index l.value (omega arith) l.invariant
+    (scan_large l.value text l.byte-index (omega arith) (digit_told _ c.if-not-is_ascii_digit.ensures.value) (omega (arith, c.in_err-checked_mul.ensures)))
 
-pub returns-then-value-gt4294967295 : goal.returns-then-value-gt4294967295
-returns-then-value-gt4294967295 c = let a = c.args in
-    let at = c.loop-i in
-    sym (number_scan a.text.now c.if-text-eq0.false ∙ at.invariant.2 ∙ scan_large at.value a.text.now at.i (omega arith) (omega arith) (omega arith) (omega arith))
+pub returns-in_err-value : goal.returns-in_err-value
+returns-in_err-value c = let text = c.args.text.now in
+    let l = c.loop-byte in
+    c.from_residual-in_err-value.ensures
+    ∙ no_scan text l.byte-index l.value (omega arith) l.invariant
+    (scan_large l.value text l.byte-index (omega arith) (digit_told _ c.if-not-is_ascii_digit.ensures.value) (omega (arith, c.in_ok-checked_mul.ensures, c.in_err-value.ensures)))
 
-pub loop-i-preserved : goal.loop-i-preserved
-loop-i-preserved c = let a = c.args in
-    let at = c.loop-i in
-    (omega arith, omega arith, at.invariant.2 ∙ scan_next at.value a.text.now at.i (omega arith) (omega arith) (omega arith) (omega arith))
+pub loop-byte-preserved : goal.loop-byte-preserved
+loop-byte-preserved c = let text = c.args.text.now in
+    let l = c.loop-byte in
+    let e : c.in_ok-value.value ≡ l.value * 10 + (get_or text l.byte-index 0 - 48) = omega (arith, c.in_ok-checked_mul.ensures, c.in_ok-value.ensures) in
+    rw e (l.invariant ∙ scan_next l.value text l.byte-index (omega arith) (digit_told _ c.if-not-is_ascii_digit.ensures.value) (omega (arith, e)))
 
 pub returns : goal.returns
-returns c = let a = c.args in
-    let at = c.loop-i in
-    sym (number_scan a.text.now c.if-text-eq0.false ∙ at.invariant.2 ∙ scan_end at.value a.text.now at.i (omega arith))
+returns c = let text = c.args.text.now in
+    let l = c.loop-byte in
+    sym (number_scan text (eqb-false (length text) 0 (sym c.if-is_empty.ensures)) ∙ l.invariant ∙ scan_end l.value text l.byte-index (omega arith))

@@ -17,5 +17,5 @@ returns-then-has_room c = let a = c.args in
     let room : answer_room (length a.cells.now) (length a.functions.now) ≤ length a.out.now = leb-true _ _ t in
     prints t (omega (arith, answer_short a.number a.cells.now a.functions.now)) c.put_answer.ensures
 
-pub returns : goal.returns
-returns c = prints_none (sym c.has_room.ensures ∙ c.if-has_room.false)
+pub returns-else-has_room : goal.returns-else-has_room
+returns-else-has_room c = prints_none (sym c.has_room.ensures ∙ c.if-has_room.false)
