@@ -8,7 +8,7 @@ use lib.Dec.{leb, ltb, ltb→lt, nltb→le}
 use lib.IntN.{ℤ, pos, nat_abs, ◌+ℤ◌, ◌*ℤ◌}
 use lib.ListN.{length, set}
 use mir.Syntax.{w32}
-use mir.Val.{SFits, to_z, of_z}
+use mir.Val.{to_z, of_z}
 use borrow.Author.Tests.{le-leb, lt-leb}
 use Rattle.facts.proofs.Tests.{cases}
 use Rattle.twoscale.specs.declared.Children.{Children}
@@ -16,7 +16,7 @@ use Rattle.twoscale.specs.Passing.{quarters_of}
 use Rattle.carry.specs.Carry.{at}
 use Rattle.carry.specs.Steps.{most, row_quarters, row_passed, RowRoom}
 use Rattle.carry.proofs.Lists.{heights_at, heights_none, heights_is, at_none}
-use Rattle.carry.proofs.Words.{product_small, sum_small, add_fits, add_read}
+use Rattle.carry.proofs.Words.{product_small, sum_small, add_read}
 use Rattle.carry.proofs.Portions.{PassedTo, nothing, passed_none, passed_set, passed_all}
 
 -- ---- who gets nothing
@@ -73,9 +73,6 @@ module _ {begin : ℕ} {a : Children} {h : ℤ} {old : List ℤ} (r : RowRoom be
 
       sum_is : nat_abs (here +ℤ part) ≤ most
       sum_is = rw e (sum_small here h (quarters_of a j) here_small)
-
-      pub sum_room : SFits w32 (to_z w32 (of_z w32 here) +ℤ to_z w32 (of_z w32 part))
-      sum_room = add_fits here part (omega (arith, here_small)) part_small sum_is
 
       pub sum_read : to_z w32 (of_z w32 (to_z w32 (of_z w32 here) +ℤ to_z w32 (of_z w32 part))) ≡ here +ℤ h *ℤ pos (quarters_of a j)
       sum_read = add_read here part (omega (arith, here_small)) part_small sum_is ∙ ap (λ z. here +ℤ z) e

@@ -36,8 +36,5 @@ pub sum_small : (y h : ℤ) (n : ℕ) → nat_abs y + nat_abs h * n ≤ most →
 sum_small y h n l = le_trans (abs_add y (h *ℤ pos n)) (omega (arith, abs_mul h (pos n)))
 
 -- two words and their sum
-pub add_fits : (y z : ℤ) → nat_abs y ≤ most → nat_abs z ≤ most → nat_abs (y +ℤ z) ≤ most → SFits w32 (to_z w32 (of_z w32 y) +ℤ to_z w32 (of_z w32 z))
-add_fits y z k l m = rw (read_small y k, read_small z l) (fits (y +ℤ z) m)
-
 pub add_read : (y z : ℤ) → nat_abs y ≤ most → nat_abs z ≤ most → nat_abs (y +ℤ z) ≤ most → to_z w32 (of_z w32 (to_z w32 (of_z w32 y) +ℤ to_z w32 (of_z w32 z))) ≡ y +ℤ z
 add_read y z k l m = rw (read_small y k, read_small z l) (read_small (y +ℤ z) m)

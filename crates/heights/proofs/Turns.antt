@@ -2,7 +2,7 @@
 use mathlib.Core.Path.{◌≡◌, refl, ap, ◌∙◌, subst}
 use mathlib.Core.List.{List}
 use Prim.Native.Nat.{ℕ, zero, suc, ◌+◌, ◌*◌, ◌^◌, ◌≤◌, ◌<◌, zero-le}
-use native.Mathlib.Nat.{lt_of_le_of_lt, mul-le-mul, mul-le-mul_right, zero-lt-suc}
+use native.Mathlib.Nat.{lt_of_le_of_lt, mul-le-mul_right, zero-lt-suc}
 use native.Mathlib.Numerals.{add-one}
 use native.Mathlib.Omega.{arith}
 use lib.Dec.{lit<}
@@ -73,9 +73,6 @@ module _ {functions : List ℕ} {heights : List ℤ} where
     active_size a =
         let t = row.small j l in
         rw (eq-eqb _ _ a, abs_mul (get_or heights (first + j) (pos 0)) (pos (piece_of across j * v))) at t
-
-    pub piece_fits : piece_of across j * v < 2 ^ 32
-    piece_fits = lt_of_le_of_lt (mul-le-mul (row.across≤ j l) row.up≤) (lit< tt)
 
     pub turn_active : {x sum : Float} → get_or functions (first + j) 0 ≡ 1 → sum ≡ dyadic (places levels) (sumℤ j term)
         → Exact (places levels) (get_or heights (first + j) (pos 0) *ℤ pos (piece_of across j * v)) x

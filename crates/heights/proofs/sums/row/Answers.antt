@@ -8,7 +8,7 @@ use lib.ListN.{get_or}
 use Rattle.exact.specs.Dyadic.{dyadic}
 use Rattle.exact.specs.Sums.{sumℤ}
 use Rattle.heights.specs.Steps.{row_sum}
-use Rattle.heights.proofs.Turns.{element, piece_fits, active_size, turn_active, turn_idle}
+use Rattle.heights.proofs.Turns.{element, active_size, turn_active, turn_idle}
 use borrow.Author.Rules.{rules}
 use Rattle.heights.proofs.sums.row.Goals as goal
 use Rattle.heights.proofs.sums.row.Goals.{then-functions-at-eq1, else-functions-at-eq1}
@@ -17,14 +17,10 @@ pub loop-j-init : goal.loop-j-init
 unfolding of_bits dyadic sumℤ
 loop-j-init c = search rules
 
-pub overflow_mul-value : goal.overflow_mul-value
-overflow_mul-value c = let s = c in
-    record { fits = rw c.value.ensures (piece_fits {levels = s.args.levels} s.requires.row s.requires.unit.levels≤ (omega arith)) }
-
 pub product-sum-requires : goal.product-sum-requires
 product-sum-requires c = let s = c in
     let at = s.args.first + c.loop-j.j in
-    let is_active : get_or s.args.functions.now at 0 ≡ 1 = omega (arith, c.if-functions-at-eq1.true) in record { unit = s.requires.unit; value_bound = rw (element (get_or s.args.heights.now at (pos 0)) c.product-arg-1.given, c.value.ensures) (active_size {levels = s.args.levels} s.requires.row s.requires.unit.levels≤ (omega arith) is_active) }
+    let is_active : get_or s.args.functions.now at 0 ≡ 1 = omega (arith, c.if-functions-at-eq1.true) in record { unit = s.requires.unit; value_bound = rw (element (get_or s.args.heights.now at (pos 0)) c.product-arg-1.given, c.value.ensures) (active_size {levels = s.args.part.levels} s.requires.row s.requires.unit.levels≤ (omega arith) is_active) }
 
 pub loop-j-preserved : goal.loop-j-preserved
 loop-j-preserved c = let s = c in

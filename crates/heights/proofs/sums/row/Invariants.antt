@@ -8,4 +8,4 @@ use Rattle.heights.specs.Heights.{places, product_of}
 use Rattle.heights.proofs.sums.row.Given as goal
 
 abbrev pub invariant-loop-j : goal.invariant-loop-j
-invariant-loop-j l = l.sum ≡ dyadic (places l.levels) (sumℤ l.j (λ i. product_of l.functions l.heights (l.first + i) (piece_of l.across i * l.value)))
+invariant-loop-j l = l.sum ≡ dyadic (places l.part.levels) (sumℤ l.j (λ i. product_of l.functions l.heights (l.first + i) (piece_of l.across i * l.value)))

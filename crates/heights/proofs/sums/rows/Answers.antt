@@ -14,15 +14,6 @@ pub loop-i-init : goal.loop-i-init
 unfolding of_bits dyadic sumℤ
 loop-i-init c = search rules
 
-pub overflow_mul-begin : goal.overflow_mul-begin
-overflow_mul-begin c = let s = c in omega (arith, (s.requires.rows.row c.loop-i.i (omega arith)).in_functions)
-
-pub overflow_add-begin : goal.overflow_add-begin
-overflow_add-begin c = let s = c in omega (arith, (s.requires.rows.row c.loop-i.i (omega arith)).in_functions)
-
-pub row-sum-requires : goal.row-sum-requires
-row-sum-requires c = let s = c in record { row = rw c.value.ensures (s.requires.rows.row c.loop-i.i (omega arith)); unit = s.requires.unit }
-
 pub loop-i-preserved : goal.loop-i-preserved
 loop-i-preserved c = let s = c in turn_row s.requires.rows s.requires.unit.levels≤ (omega arith) c.loop-i.invariant (rw c.value.ensures at c.row-sum.ensures)
 

@@ -9,4 +9,4 @@ use Rattle.heights.specs.Steps.{row_sum}
 use Rattle.heights.proofs.sums.rows.Given as goal
 
 abbrev pub invariant-loop-i : goal.invariant-loop-i
-invariant-loop-i l = l.sum ≡ dyadic (places l.levels) (sumℤ l.i (λ n. row_sum l.functions l.heights (l.first + n * l.width) l.across (piece_of l.up n)))
+invariant-loop-i l = l.sum ≡ dyadic (places l.part.levels) (sumℤ l.i (λ n. row_sum l.functions l.heights (l.first + n * l.width) l.across (piece_of l.up n)))
