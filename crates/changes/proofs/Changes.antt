@@ -5,6 +5,7 @@ use mathlib.Core.List.{List, [], ◌++◌}
 use Prim.Native.Nat.{ℕ, zero, suc, ◌+◌, ◌-◌, ◌≤◌, ◌<◌}
 use native.Mathlib.Nat.{le_refl, add-zero, add-sub_of_le}
 use native.Mathlib.Omega.{arith}
+use mir.Val.{bool_byte}
 use lib.Dec.{eqb}
 use lib.ListN.{length, get_or, drop, set}
 use lib.Seq.{drop-append-add, drop-drop}
@@ -15,21 +16,9 @@ use Rattle.compare.specs.Agree.{agree}
 use Rattle.compare.proofs.Agree.{agree_at}
 use Rattle.changes.specs.Changes.{ListedTo}
 
-pub beq_true : (b : Bool) → beq true b ≡ b
-beq_true true = refl
-beq_true false = refl
-
-pub beq_false : (b : Bool) → beq false b ≡ not b
-beq_false true = refl
-beq_false false = refl
-
 beq_same : (b : Bool) → beq b b ≡ true
 beq_same true = refl
 beq_same false = refl
-
-pub not_not : (b : Bool) → not (not b) ≡ b
-not_not true = refl
-not_not false = refl
 
 module _ (old new : List ℕ) where
   -- the bytes at a number, tested as the code tests them
@@ -52,6 +41,11 @@ module _ (old new : List ℕ) where
   pub changed_longer : (i : ℕ) → differs i ≡ true → length (changed (i + 1) old new) ≡ length (changed i old new) + 1
   unfolding changed refined
   changed_longer = listed_longer differs
+
+  -- one number more, as it is counted
+  pub counted : (i : ℕ) (b : Bool) {n : ℕ} → b ≡ differs i → n ≡ bool_byte b → length (changed (i + 1) old new) ≡ length (changed i old new) + n
+  counted i true e v = changed_longer i (sym e) ∙ omega arith
+  counted i false e v = ap length (changed_no i (sym e)) ∙ omega arith
 
   pub changed_le : (i m : ℕ) → i ≤ m → length (changed i old new) ≤ length (changed m old new)
   unfolding changed refined

@@ -25,51 +25,17 @@ pub fn copy_bytes(to: &mut [u8], from: &[u8])
     requires { length to.old ≡ length from.now }
     ensures { to.new ≡ from.now }
 {
-    let mut i = 0;
-    while i < from.len() {
-        to[i] = from[i];
-        i += 1;
-    }
+    to.copy_from_slice(from);
 }
 
 // One of the bytes is 2 (refined, deactivated) and the other is not.
 fn differ(a: u8, b: u8) -> bool
     ensures { result ≡ not (beq (eqb a 2) (eqb b 2)) }
 {
-    if a == 2 {
-        return b != 2;
-    }
-    b == 2
+    (a == 2) != (b == 2)
 }
 
-// Where the block that begins at a number ends, in a table of so many bytes.
-fn block_end(at: usize, total: usize) -> usize
-    requires { at < total }
-    ensures { (at < result) × (result ≤ total) }
-{
-    if total - at < BLOCK {
-        return total;
-    }
-    at + BLOCK
-}
-
-// How many numbers of a block changed, byte by byte.
-fn count_bytes(old: &[u8], new: &[u8], from: usize, to: usize) -> usize
-    requires { Block old.now new.now from to }
-    ensures { length (changed from old.now new.now) + result ≡ length (changed to old.now new.now) }
-{
-    let mut n = 0;
-    let mut i = from;
-    while i < to {
-        if differ(old[i], new[i]) {
-            n += 1;
-        }
-        i += 1;
-    }
-    n
-}
-
-// The same; a block of equal bytes has none.
+// How many numbers of a block changed: none where its bytes are equal.
 fn count_block(old: &[u8], new: &[u8], from: usize, to: usize) -> usize
     requires { Block old.now new.now from to }
     ensures { length (changed from old.now new.now) + result ≡ length (changed to old.now new.now) }
@@ -77,7 +43,11 @@ fn count_block(old: &[u8], new: &[u8], from: usize, to: usize) -> usize
     if compare::same(old, new, from, to) {
         return 0;
     }
-    count_bytes(old, new, from, to)
+    let mut n = 0;
+    for i in from..to {
+        n += usize::from(differ(old[i], new[i]));
+    }
+    n
 }
 
 // How many numbers changed.
@@ -87,35 +57,17 @@ fn count_changed(old: &[u8], new: &[u8]) -> usize
 {
     let mut n = 0;
     let mut at = 0;
+    // A while: a `for` with `step_by` takes a third longer.
     while at < old.len() {
-        let end = block_end(at, old.len());
+        let end = at + BLOCK.min(old.len() - at);
         n += count_block(old, new, at, end);
         at = end;
     }
     n
 }
 
-// The numbers of a block that changed, byte by byte, after the n that are listed; the entries past them stay. Answers how many are listed then.
-fn list_bytes(old: &[u8], new: &[u8], list: &mut [u32], n: usize, from: usize, to: usize) -> usize
-    requires list_room { ListRoom old.now new.now list.old }
-    requires block { Block old.now new.now from to }
-    requires listed_to { ListedTo from old.now new.now n list.old }
-    ensures value { result ≡ length (changed to old.now new.now) }
-    ensures list_after { list.new ≡ written (changed to old.now new.now) list.old }
-{
-    let mut k = n;
-    let mut i = from;
-    while i < to {
-        if differ(old[i], new[i]) {
-            list[k] = i as u32;
-            k += 1;
-        }
-        i += 1;
-    }
-    k
-}
-
-// The same; a block of equal bytes has none.
+// The numbers of a block that changed, after the n that are listed; the entries past them stay. None where its bytes are equal. Answers how
+// many are listed then.
 fn list_block(old: &[u8], new: &[u8], list: &mut [u32], n: usize, from: usize, to: usize) -> usize
     requires list_room { ListRoom old.now new.now list.old }
     requires block { Block old.now new.now from to }
@@ -126,7 +78,14 @@ fn list_block(old: &[u8], new: &[u8], list: &mut [u32], n: usize, from: usize, t
     if compare::same(old, new, from, to) {
         return n;
     }
-    list_bytes(old, new, list, n, from, to)
+    let mut k = n;
+    for i in from..to {
+        if differ(old[i], new[i]) {
+            list[k] = i as u32;
+            k += 1;
+        }
+    }
+    k
 }
 
 // The same of any numbers from `from` up to, not including, `to`, in blocks.
@@ -146,8 +105,9 @@ pub fn list_changed_between(
 {
     let mut listed = n;
     let mut at = from;
+    // A while: a `for` with `step_by` takes a third longer.
     while at < to {
-        let end = block_end(at, to);
+        let end = at + BLOCK.min(to - at);
         listed = list_block(old, new, list, listed, at, end);
         at = end;
     }

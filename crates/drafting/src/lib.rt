@@ -106,11 +106,7 @@ fn append(list: &mut [u32], at: usize, marks: &[u32])
     requires { at + length marks.now ≤ length list.old }
     ensures { list.new ≡ written_at list.old at marks.now }
 {
-    let mut i: usize = 0;
-    while i < marks.len() {
-        list[at + i] = marks[i];
-        i += 1;
-    }
+    list[at..at + marks.len()].copy_from_slice(marks);
 }
 
 // Adds marks to a draft: all of them, or none.

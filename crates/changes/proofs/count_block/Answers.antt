@@ -1,10 +1,18 @@
--- `count_block` meets its contract: equal bytes change nothing. Assumes nothing.
+-- `count_block` meets its contract: equal bytes change nothing; else the count is that of the numbers passed. Assumes nothing.
 use mathlib.Core.Path.{sym, ap, ◌∙◌}
+use Prim.Native.Nat.{◌+◌}
 use native.Mathlib.Omega.{arith}
 use lib.ListN.{length}
-use Rattle.changes.proofs.Changes.{changed_same}
+use Rattle.changes.proofs.Changes.{changed_same, changed_short, counted}
 use Rattle.changes.proofs.count_block.Goals as goal
 
 pub returns-then-same : goal.returns-then-same
 returns-then-same c = let s = c in
     omega (arith, ap length (changed_same s.args.old.now s.args.new.now s.args.from s.args.to s.requires.rises (sym c.same.ensures ∙ c.if-same.true)))
+
+pub overflow_add-n : goal.overflow_add-n
+overflow_add-n c = let a = c.args in
+    omega (arith, counted a.old.now a.new.now c.loop-i.i _ c.differ.ensures c.from-n.ensures, changed_short a.old.now a.new.now (c.loop-i.i + 1))
+
+pub loop-i-preserved : goal.loop-i-preserved
+loop-i-preserved c = omega (arith, counted c.args.old.now c.args.new.now c.loop-i.i _ c.differ.ensures c.from-n.ensures)

