@@ -1,5 +1,5 @@
 -- What a call makes of the wall in hand, and what a line that was read asks, is what Session.antt of `script` says. Assumes nothing.
-use mathlib.Core.Path.{◌≡◌, refl, sym, ap, ap₂, ◌∙◌}
+use mathlib.Core.Path.{◌≡◌, refl, sym, ap, ◌∙◌}
 use mathlib.Core.Bool.{Bool, true, false, cond}
 use mathlib.Core.List.{List, ◌++◌}
 use Prim.Native.Nat.{ℕ, ◌≤◌}
@@ -77,12 +77,6 @@ called d by marks h done cs fs cl fl cs' fs' out e a b ac af w =
       state = rw e (held_front h cs' fs' (drop h.cells cs) (drop h.functions fs) ac af ∙ wall_same p (w.cells ∙ same.0) (w.functions ∙ same.1));
       said = said_as w.said same.2;
     }
-
--- ---- which call
-
-pub asked : {d e : Direction} {by way : By} (p : Plan) (cs fs marks cl fl : List ℕ) → d ≡ e → by ≡ way
-    → outcome d by p cs fs marks cl fl ≡ outcome e way p cs fs marks cl fl
-asked p cs fs marks cl fl a b = ap₂ (λ (x : Direction) (y : By). outcome x y p cs fs marks cl fl) a b
 
 -- ---- a line that was read
 

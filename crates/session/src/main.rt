@@ -17,7 +17,7 @@ use std::io::{Read, Write};
 
 // The lines of an input of at most 16,384 bytes, one after the other. At the end all answers are handed over, and the output has grown by
 // them. Only a write that fails ends it before, and the output has then grown by a front of them.
-fn session<W: Write>(output: &mut Watched<W>, input: &[u8]) -> io::Result<Handed>
+fn run<W: Write>(output: &mut Watched<W>, input: &[u8]) -> io::Result<Handed>
     requires { length input.now ≤ input_bytes }
     ensures handed { IfOk result (λ h. AllHanded input.now h.answers) }
     ensures written { OnOk result (Appends (W.contents output.old.stream) (W.contents output.new.stream) (sessions.session input.now)) }
@@ -56,7 +56,7 @@ fn program<R: Read, W: Write>(input: &mut Watched<R>, output: &mut Watched<W>) -
 {
     let mut buffer = [0u8; INPUT_BYTES];
     let count = standard::read(input, &mut buffer)?;
-    session(output, &buffer[..count])?;
+    run(output, &buffer[..count])?;
     Ok(())
 }
 

@@ -33,6 +33,7 @@ pub fn read<R: Read>(input: &mut Watched<R>, buffer: &mut [u8]) -> io::Result<us
     ensures left { OnErr result (ConsumesFront (R.remaining input.old.stream) (R.remaining input.new.stream) buffer.new) }
 {
     let mut done = 0;
+    // a while: read_exact does not say how much it read of an input that ends, or when it ends with an error
     while done < buffer.len() {
         let n = input.read(&mut buffer[done..])?;
         if n == 0 {
@@ -52,10 +53,11 @@ fn print<W: Write>(output: &mut Watched<W>, text: &[u8]) -> io::Result<()>
     ensures failed { OnErr result (output.new.has_failed ≡ true) }
     ensures left { OnErr result (AppendsFront (W.contents output.old.stream) (W.contents output.new.stream) text.now) }
 {
-    let mut done = 0;
-    while done < text.len() {
-        let n = output.write(&text[done..])?;
-        done += n;
+    let mut rest = text;
+    // a while: write_all does not say what is written when it ends with an error
+    while !rest.is_empty() {
+        let n = output.write(rest)?;
+        rest = &rest[n..];
     }
     Ok(())
 }

@@ -6,10 +6,10 @@ use Rattle.session.proofs.Turns.{on_err}
 use Rattle.session.proofs.Whole.{first_taken}
 use Rattle.session.proofs.program.Goals as goal
 
-pub returns-in_err-session-clause-left : goal.returns-in_err-session-clause-left
-returns-in_err-session-clause-left g c =
-    on_err _ (first_taken _ _ _ _ (AppendsFront _ _) (omega (arith, c.in_ok-count.ensures.count.0, c.read.auto.buffer)) c.in_ok-count.ensures.count.1 c.in_ok-count.ensures.bytes c.in_ok-count.ensures.all c.in_err-session.ensures.left)
+pub returns-in_err-run-clause-left : goal.returns-in_err-run-clause-left
+returns-in_err-run-clause-left g c =
+    on_err _ (first_taken _ _ _ _ (AppendsFront _ _) (omega (arith, c.in_ok-count.ensures.count.0, c.read.auto.buffer)) c.in_ok-count.ensures.count.1 c.in_ok-count.ensures.bytes c.in_ok-count.ensures.all c.in_err-run.ensures.left)
 
 pub returns-clause-written : goal.returns-clause-written
 returns-clause-written g c =
-    first_taken _ _ _ _ (Appends _ _) (omega (arith, c.in_ok-count.ensures.count.0, c.read.auto.buffer)) c.in_ok-count.ensures.count.1 c.in_ok-count.ensures.bytes c.in_ok-count.ensures.all c.in_ok-session.ensures.written
+    first_taken _ _ _ _ (Appends _ _) (omega (arith, c.in_ok-count.ensures.count.0, c.read.auto.buffer)) c.in_ok-count.ensures.count.1 c.in_ok-count.ensures.bytes c.in_ok-count.ensures.all c.in_ok-run.ensures.written

@@ -4,7 +4,7 @@ use Rattle.std.specs.Io.KnownBytes.{Appends}
 use Rattle.script.specs.Steps.{held}
 use Rattle.standard.specs.Answers.{printed}
 use Rattle.session.specs.Program.{Left}
-use Rattle.session.proofs.session.Given as goal
+use Rattle.session.proofs.run.Given as goal
 
 abbrev pub invariant-loop-at : goal.invariant-loop-at
 invariant-loop-at g l = record {
