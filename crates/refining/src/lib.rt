@@ -4,30 +4,36 @@
 #![tactic(auto)]
 
 ghost use Rattle.std.specs.Prelude.{◌≡◌, length};
+ghost use Rattle.refusals.specs.Numbers.{number_of};
+ghost use Rattle.outcomes.specs.Answers.{answer_of};
 ghost use Rattle.grid.specs.Plan.{cell_total, function_total};
 ghost use Rattle.mesh.specs.Mesh.{check};
 ghost use Rattle.calls.specs.Parts.{by_of};
-ghost use Rattle.refining.specs.Refining.{tables_refusal, refine_cells_with_heights, refine_functions_with_heights};
+ghost use Rattle.refining.specs.Refining.{tables_refusal, outcome_with_heights};
 ghost use Rattle.refining.specs.Steps.{Made, Ready, finished, MeetsWithHeights, left_with_heights};
 
 use calls::{By, Call, Direction};
 use carry::MOST_HEIGHTS;
 use grid::{MOST_CELLS, MOST_FUNCTIONS, Plan};
-use outcomes::Answer;
+use outcomes::Changes;
+use refusals::Refusal;
 
-// Refusals 1 to 6, then those of the heights, 3, 14 and 15; or 0.
-pub fn tables_refusal(plan: Plan, cells: &[u8], functions: &[u8], heights: &[i32]) -> u32
-    ensures { result ≡ tables_refusal plan cells.now functions.now heights.now }
+// The first refusal of the tables and then of the heights, 1 to 6 and 3, 14, 15, if any.
+pub fn tables_refusal(
+    plan: Plan,
+    cells: &[u8],
+    functions: &[u8],
+    heights: &[i32],
+) -> Result<(), Refusal>
+    ensures { number_of result ≡ tables_refusal plan cells.now functions.now heights.now }
 {
-    let first = tables::check(plan, cells, functions);
-    if first != 0 {
-        return first;
-    }
+    tables::check(plan, cells, functions)?;
     heights::refusal(plan, functions, heights)
 }
 
-// Refusals 7 to 11, or 0 and the cells and functions of the refined mesh, made beside the old ones, which are only read, as are of both lists
+// The first of refusals 7 to 11, if any, or the cells and functions of the refined mesh, made beside the old ones, which are only read, as are of both lists
 // the lengths.
+#[inline(never)]
 fn make(
     by: By,
     plan: Plan,
@@ -38,22 +44,19 @@ fn make(
     function_room: usize,
     new_cells: &mut [u8],
     new_functions: &mut [u8],
-) -> u32
+) -> Result<(), Refusal>
     requires functions_value { check plan cells.now functions.now ≡ 0 }
     requires new_cells_len { (length new_cells.old ≡ cell_total plan) × (length new_functions.old ≡ function_total plan) }
-    ensures { Made (by_of by) plan cells.now functions.now marks.now cell_room function_room result new_cells.new new_functions.new }
+    ensures { Made (by_of by) plan cells.now functions.now marks.now cell_room function_room (number_of result) new_cells.new new_functions.new }
 {
     let total = plan.cell_total() as usize;
     let mut room = [0u8; MOST_CELLS];
     let flags = &mut room[..total];
     let call = Call(Direction::Refine, by);
-    let judged = calls::flag_marks(call, plan, cells, functions, marks, flags, new_functions);
-    if judged != 0 {
-        return judged;
-    }
+    calls::flag_marks(call, plan, cells, functions, marks, flags, new_functions)?;
     changes::copy_bytes(new_cells, cells);
     calls::renew(Direction::Refine, plan, new_cells, flags);
-    let rooms = changes::room_refusal(
+    changes::room_refusal(
         plan,
         cells,
         functions,
@@ -61,15 +64,13 @@ fn make(
         function_room,
         new_cells,
         new_functions,
-    );
-    if rooms != 0 {
-        return rooms;
-    }
+    )?;
     labels::write_labels(plan, new_cells, new_functions);
-    0
+    Ok(())
 }
 
 // When the new cells and functions are known: 17, or all is written, the cells, the functions, the heights and both lists.
+#[inline(never)]
 fn finish(
     plan: Plan,
     cells: &mut [u8],
@@ -79,31 +80,31 @@ fn finish(
     function_list: &mut [u32],
     new_cells: &[u8],
     new_functions: &[u8],
-) -> Answer
+) -> Result<Changes, Refusal>
     requires { Ready plan cells.old functions.old heights.old cell_list.old function_list.old new_cells.now new_functions.now }
-    ensures { left_with_heights result cells functions heights cell_list function_list ≡ finished plan cells.old functions.old heights.old cell_list.old function_list.old new_cells.now new_functions.now }
+    ensures { left_with_heights (answer_of result) cells functions heights cell_list function_list ≡ finished plan cells.old functions.old heights.old cell_list.old function_list.old new_cells.now new_functions.now }
 {
     let count = plan.function_total() as usize;
     let mut room = [0i32; MOST_HEIGHTS];
     let carried = &mut room[..count];
     let low = carry::carry_beside(plan, functions, new_functions, heights, carried);
     if !low {
-        return changes::refuse(17);
+        return Err(Refusal::CarriedHeightOutOfRange);
     }
     let changed_cells = changes::take_over(cells, cell_list, new_cells);
     let changed_functions = changes::take_over(functions, function_list, new_functions);
     carry::only_active(functions, carried, heights);
-    Answer {
-        number: 0,
+    Ok(Changes {
         cells: changed_cells,
         functions: changed_functions,
-    }
+    })
 }
 
-// Refine by cells, when the tables and the heights are checked. The caller checks them, so that the rooms of the check and those of the
-// refinement are not on the stack at the same time; nor are those of `make` and of `finish`.
-pub fn refine_cells(
-    checked: u32,
+// Refine by cells or by functions, when the tables and the heights are checked. The caller checks them, so that the rooms of the check and those
+// of the refinement are not on the stack at the same time; nor are those of `make` and of `finish`, which are not inlined.
+pub fn refine(
+    by: By,
+    checked: Result<(), Refusal>,
     plan: Plan,
     cells: &mut [u8],
     functions: &mut [u8],
@@ -111,21 +112,19 @@ pub fn refine_cells(
     marks: &[u32],
     cell_list: &mut [u32],
     function_list: &mut [u32],
-) -> Answer
-    requires { checked ≡ tables_refusal plan cells.old functions.old heights.old }
-    ensures { MeetsWithHeights (refine_cells_with_heights plan) result cells functions heights marks cell_list function_list }
+) -> Result<Changes, Refusal>
+    requires { number_of checked ≡ tables_refusal plan cells.old functions.old heights.old }
+    ensures { MeetsWithHeights (outcome_with_heights (by_of by) plan) (answer_of result) cells functions heights marks cell_list function_list }
 {
-    if checked != 0 {
-        return changes::refuse(checked);
-    }
+    checked?;
     let total = plan.cell_total() as usize;
     let count = plan.function_total() as usize;
     let mut cell_room = [0u8; MOST_CELLS];
     let mut function_room = [0u8; MOST_FUNCTIONS];
     let new_cells = &mut cell_room[..total];
     let new_functions = &mut function_room[..count];
-    let number = make(
-        By::Cells,
+    make(
+        by,
         plan,
         cells,
         functions,
@@ -134,59 +133,7 @@ pub fn refine_cells(
         function_list.len(),
         new_cells,
         new_functions,
-    );
-    if number != 0 {
-        return changes::refuse(number);
-    }
-    finish(
-        plan,
-        cells,
-        functions,
-        heights,
-        cell_list,
-        function_list,
-        new_cells,
-        new_functions,
-    )
-}
-
-// The same by functions.
-pub fn refine_functions(
-    checked: u32,
-    plan: Plan,
-    cells: &mut [u8],
-    functions: &mut [u8],
-    heights: &mut [i32],
-    marks: &[u32],
-    cell_list: &mut [u32],
-    function_list: &mut [u32],
-) -> Answer
-    requires { checked ≡ tables_refusal plan cells.old functions.old heights.old }
-    ensures { MeetsWithHeights (refine_functions_with_heights plan) result cells functions heights marks cell_list function_list }
-{
-    if checked != 0 {
-        return changes::refuse(checked);
-    }
-    let total = plan.cell_total() as usize;
-    let count = plan.function_total() as usize;
-    let mut cell_room = [0u8; MOST_CELLS];
-    let mut function_room = [0u8; MOST_FUNCTIONS];
-    let new_cells = &mut cell_room[..total];
-    let new_functions = &mut function_room[..count];
-    let number = make(
-        By::Functions,
-        plan,
-        cells,
-        functions,
-        marks,
-        cell_list.len(),
-        function_list.len(),
-        new_cells,
-        new_functions,
-    );
-    if number != 0 {
-        return changes::refuse(number);
-    }
+    )?;
     finish(
         plan,
         cells,

@@ -1,5 +1,5 @@
 -- `finish` meets its contract: the new heights are judged beside the lent ones, and then all is written. Assumes nothing.
-use mathlib.Core.Path.{◌≡◌, sym, ◌∙◌}
+use mathlib.Core.Path.{◌≡◌, refl, sym, ◌∙◌}
 use mathlib.Core.Bool.{true, false}
 use native.Mathlib.Omega.{arith}
 use Rattle.carry.specs.Steps.{most_heights}
@@ -29,7 +29,7 @@ carry_beside-low-requires c = let R = c.requires in
 pub returns-then-not-low : goal.returns-then-not-low
 returns-then-not-low c = let w = c.carry_beside-low in
     let high : w.result ≡ false = c.if-not-low.true in
-    too_high c.requires w.ensures.out_after (sym w.ensures.value ∙ high) c.refuse.ensures
+    too_high c.requires w.ensures.out_after (sym w.ensures.value ∙ high) refl
 
 pub take_over-changed_cells-requires : goal.take_over-changed_cells-requires
 take_over-changed_cells-requires c = cell_room_lem c.requires
