@@ -57,9 +57,6 @@ firsts-requires c = let o = c in
     let s = o in
     rw c.across_at-across.ensures (across_in s.args.plan s.requires.in_range _ (inside (goal.at.firsts-requires c).After-ancestor_of-above).level<)
 
-pub overflow_mul-width : goal.overflow_mul-width
-overflow_mul-width c = omega (arith, c.requires.in_range.across≤)
-
 -- the byte that is read
 index : (c : After-struct_known-then-has_near-2-1) → let a = c.args in
     (c.first_over.result + a.plan.degree_up) * (c.firsts.result + 2 * a.plan.degree_across) + (c.first_over-then-has_near.result + a.plan.degree_across) ≡ near_index a.plan (ancestor_of a.plan a.place)

@@ -41,12 +41,6 @@ deep c = let s = c in
 pub overflow_sub-above : goal.overflow_sub-above
 overflow_sub-above c = (deep (goal.at.overflow_sub-above c).Then-has_near).0
 
-pub overflow_mul-across : goal.overflow_mul-across
-overflow_mul-across c = omega (arith, c.requires.in_range.0.across≤)
-
-pub overflow_mul-up : goal.overflow_mul-up
-overflow_mul-up c = omega (arith, c.requires.in_range.0.up≤)
-
 pub overflow_sub-up : goal.overflow_sub-up
 overflow_sub-up c = rw c.ratio-step.ensures (ratio_pos _)
 

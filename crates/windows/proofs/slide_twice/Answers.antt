@@ -18,40 +18,13 @@ whole t step l = let p = parts t l in
     let e = ap (λ (k : ℕ). k * step) p.0 in
     (omega arith, mul-le-mul_right step p.1)
 
-pub slide-requires : goal.slide-requires
-slide-requires c = let s = c in
-    let a = s.args in
-    let p = s.requires.0 in
-    let w = whole a.times a.step p.times≥ in
-    record { times≥ = (parts a.times p.times≥).2; step≤ = p.step≤; from≤ = p.from≤; out≤ = omega (arith, w.0, p.out≤) }
-
-pub overflow_mul-half : goal.overflow_mul-half
-overflow_mul-half c = let s = c in omega (arith, (whole s.args.times s.args.step s.requires.0.times≥).0, s.requires.1)
-
-pub overflow_add-n : goal.overflow_add-n
-overflow_add-n c = let s = c in omega (arith, (whole s.args.times s.args.step s.requires.0.times≥).0, s.requires.1)
-
-pub overflow_mul-rest : goal.overflow_mul-rest
-overflow_mul-rest c = let s = c in omega (arith, (whole s.args.times s.args.step s.requires.0.times≥).0, s.requires.1)
-
-pub slide-requires-2 : goal.slide-requires-2
-slide-requires-2 c = let s = c in
-    let a = s.args in
-    let p = s.requires.0 in
-    let w = whole a.times a.step p.times≥ in
-    let k = c.slide.auto in
-    record { times≥ = omega arith; step≤ = omega (arith, w.1); from≤ = omega (arith, w.0, p.out≤, k); out≤ = omega (arith, w.0, s.requires.1) }
-
 pub returns : goal.returns
-returns c = let f = c in
-    let o = f in
-    let s = o in
-    let a = s.args in
-    let p = s.requires.0 in
+returns c = let a = c.args in
+    let p = c.requires.0 in
     let d = parts a.times p.times≥ in
     let w = whole a.times a.step p.times≥ in
-    let q : a.n + (a.times - a.times / 2) * a.step + 1 * (a.times / 2 * a.step) ≡ a.n + a.times * a.step = omega (arith, w.0) in
-    let r : a.times - a.times / 2 + 1 + a.times / 2 ≡ a.times + 1 = omega (arith, d.0) in
-    rw q at f.slide-2.ensures
-    ∙ filled_same 0 _ _ _ _ (λ t u v. slid_twice a.table.now a.other.now _ a.n a.step (a.times - a.times / 2) (a.times / 2) (omega (arith, d.1)) o.slide.ensures (omega (arith, w.0, p.out≤)) t
+    let q : a.n + (a.times - a.times / 2) * a.step + 1 * (a.times / 2 * a.step) ≡ a.n + a.times * a.step = omega arith in
+    let r : a.times - a.times / 2 + 1 + a.times / 2 ≡ a.times + 1 = omega arith in
+    rw q at c.slide-2.ensures
+    ∙ filled_same 0 _ _ _ _ (λ t u v. slid_twice a.table.now a.other.now _ a.n a.step (a.times - a.times / 2) (a.times / 2) (omega arith) c.slide.ensures (omega arith) t
     ∙ ap (λ (k : ℕ). slid a.table.now a.n a.step k t) r)

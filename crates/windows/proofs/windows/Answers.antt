@@ -1,5 +1,4 @@
 -- `windows::windows` meets its contract: a slide of all rows that stand apart is a slide of each. Assumes nothing.
--- one row fits, and so what stands after it
 use mathlib.Core.Path.{◌≡◌, ap, ◌∙◌}
 use Prim.Native.Nat.{◌+◌, ◌-◌, ◌*◌, ◌≤◌}
 use native.Mathlib.Nat.{mul-le-mul_right}
@@ -9,36 +8,15 @@ use Rattle.facts.specs.Mapped.{filled}
 use Rattle.facts.proofs.Mapped.{filled_same, filled_length}
 use Rattle.windows.proofs.Slides.{rows_slid, windows_slid, filled_over}
 use Rattle.windows.proofs.windows.Goals as goal
-use Rattle.windows.proofs.windows.Goals.{After-slice_known-1}
-
-one : (c : After-slice_known-1) → let a = c.args in (a.columns + a.across ≤ a.rows * (a.columns + a.across)) × (a.rows * (a.columns + a.across) + a.up * (a.columns + a.across) ≤ length a.out.now)
-one c = let p = c.requires in (omega (arith, mul-le-mul_right (c.args.columns + c.args.across) p.rows≥), omega (arith, p.out≤))
-
-pub overflow_add-width : goal.overflow_add-width
-overflow_add-width c = omega (arith, one (goal.at.overflow_add-width c).After-slice_known-1, c)
-
-pub overflow_sub-size : goal.overflow_sub-size
-overflow_sub-size c = omega (arith, one (goal.at.overflow_sub-size c).After-slice_known-1)
-
-pub slide-requires : goal.slide-requires
-slide-requires c = let s = c in
-    let o = one (goal.at.slide-requires c).After-slice_known-1 in
-    record { times≥ = s.requires.across≥; step≤ = omega (arith, s.requires.columns≥); from≤ = omega arith; out≤ = omega (arith, s.requires.scratch≤) }
-
-pub slide-requires-2 : goal.slide-requires-2
-slide-requires-2 c = let s = c in
-    let o = one (goal.at.slide-requires-2 c).After-slice_known-1 in
-    record { times≥ = s.requires.up≥; step≤ = o.0; from≤ = omega arith; out≤ = omega arith }
 
 pub returns : goal.returns
-returns c byte start e = let s = c in
-    let a = s.args in
-    let o = one (goal.at.returns c).After-slice_known-1 in
+returns c byte start e = let a = c.args in
+    let o : a.columns + a.across ≤ a.rows * (a.columns + a.across) = omega (arith, mul-le-mul_right (a.columns + a.across) c.requires.rows≥) in
     let long : length a.out.now ≡ length start = ap length e ∙ filled_length _ _ _ _ in
     let n : a.rows * (a.columns + a.across) - a.across + a.across * 1 ≡ a.rows * (a.columns + a.across) = omega arith in
     let m : a.rows * (a.columns + a.across) + a.up * (a.columns + a.across) ≡ (a.rows + a.up) * (a.columns + a.across) = omega arith in
     let across = rw n at c.slide.ensures
     ∙ filled_same 0 _ _ _ _ (λ t u v. rows_slid byte start a.out.now a.columns a.rows a.across e (omega arith) t (omega arith)) in
     rw m at c.slide-2.ensures
-    ∙ (filled_same 0 _ _ _ _ (λ t u v. windows_slid byte a.scratch.now _ a.columns a.rows a.across a.up s.requires.columns≥ across s.requires.scratch≤ t)
+    ∙ (filled_same 0 _ _ _ _ (λ t u v. windows_slid byte a.scratch.now _ a.columns a.rows a.across a.up c.requires.columns≥ across c.requires.scratch≤ t)
     ∙ (ap (filled 0 _ _) e ∙ filled_over _ _ _ _ _ (omega arith)))
