@@ -1,7 +1,6 @@
 -- `cover::coarsenable_on` meets its contract: the windows of the level are the supports. Assumes nothing.
 use Prim.Native.Nat.{◌+◌, ◌*◌, ◌≤◌}
 use native.Mathlib.Omega.{arith}
-use Rattle.grid.proofs.Sides.{total_small}
 use Rattle.facts.proofs.Mapped.{fill_length}
 use Rattle.facts.proofs.Ranges.{mid_len}
 use Rattle.grid.specs.Plan.{function_total}
@@ -27,9 +26,6 @@ slice_bounds-pick-count-2 c = omega (arith, fits (goal.at.slice_bounds-pick-coun
 
 pub slice_bounds-pick-start-2 : goal.slice_bounds-pick-start-2
 slice_bounds-pick-start-2 c = omega (arith, fits (goal.at.slice_bounds-pick-start-2 c).After-function_offset-at, c.requires.functions_len.2)
-
-pub overflow_mul-rows : goal.overflow_mul-rows
-overflow_mul-rows c = omega (arith, fits (goal.at.overflow_mul-rows c).After-function_offset-at, total_small c.args.plan c.requires.in_range)
 
 pub pick-requires : goal.pick-requires
 pick-requires c = let o = c in

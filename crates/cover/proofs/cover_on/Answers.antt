@@ -6,18 +6,6 @@ use Rattle.cover.proofs.Passes.{read_in, cover_pass}
 use Rattle.cover.proofs.cover_on.Goals as goal
 use Rattle.cover.proofs.cover_on.Goals.{After-cell_offset-here}
 
-pub functions-requires : goal.functions-requires
-functions-requires c = let s = c in record { in_range = (s.requires.in_range, s.requires.level_lt_levels, s.requires.values_len.0); value_room = s.requires.value_room }
-
-pub across_at-across-requires : goal.across_at-across-requires
-across_at-across-requires c = let s = c in record { in_range = s.requires.in_range; level_lt_levels = s.requires.level_lt_levels }
-
-pub up_at-up-requires : goal.up_at-up-requires
-up_at-up-requires c = let s = c in record { in_range = s.requires.in_range; level_lt_levels = s.requires.level_lt_levels }
-
-pub cell_offset-here-requires : goal.cell_offset-here-requires
-cell_offset-here-requires c = let s = c in record { in_range = s.requires.in_range; level_le_levels = omega (arith, s.requires.level_lt_levels) }
-
 -- the level lies in the table
 fits : (c : After-cell_offset-here) → c.cell_offset-here.result ≤ length c.args.out.now
 fits c = let s = c in

@@ -1,5 +1,5 @@
 -- `cover::read_level` meets its contract. The invariant: the rows so far, and where the next begins. Assumes nothing.
-use mathlib.Core.Path.{◌≡◌, ap, ◌∙◌}
+use mathlib.Core.Path.{◌≡◌, ap}
 use Prim.Native.Nat.{ℕ, ◌+◌, ◌*◌, ◌≤◌, ◌<◌}
 use native.Mathlib.Nat.{mul-le-mul_right}
 use native.Mathlib.Omega.{arith}
@@ -32,9 +32,6 @@ fits c = let s = c in
       row_ends _ _ _ r,
     )
 
-pub overflow_add-at : goal.overflow_add-at
-overflow_add-at c = omega (arith, fits (goal.at.overflow_add-at c).After-first_over, c.requires.rows.degree≤, c.requires.rows.cells≤)
-
 pub overflow_mul-at : goal.overflow_mul-at
 overflow_mul-at c = omega (arith, fits (goal.at.overflow_mul-at c).After-first_over)
 
@@ -59,9 +56,6 @@ read_row-requires c = let s = c in
     let b = fits (goal.at.read_row-requires c).After-first_over in
     record { side_in = s.requires.columns; across_in_bounds = (omega (arith, b, mid_len ((c.first_over.result + s.args.up.degree) * (c.firsts.result + 2 * s.args.across.degree) + s.args.across.degree) s.args.table.now), omega (arith, b, l.invariant.0, s.requires.out≤, mid_len l.to l.out)) }
 
-pub overflow_add-to : goal.overflow_add-to
-overflow_add-to c = let l = c.loop-row in omega (arith, fits (goal.at.overflow_add-to c).After-first_over, l.invariant.0, c.requires.out≤)
-
 pub loop-row-preserved : goal.loop-row-preserved
 loop-row-preserved c = let o = c in
     let l = o.loop-row in
@@ -71,9 +65,3 @@ loop-row-preserved c = let o = c in
     let e = fill_part _ _ _ _ l.invariant.1 a.across.cells _ _ (omega (arith, l.invariant.0, s.requires.out≤)) c.read_row.ensures
     (read_row a.across a.up a.table.now l.row _ l.to l.invariant.0 (λ i. (o.first_over.ensures i + a.up.degree) * (o.firsts.ensures i + 2 * a.across.degree) + a.across.degree)) in
     (omega (arith, l.invariant.0), e)
-
-pub returns : goal.returns
-returns c = let a = c.args in
-    let l = c.loop-row in
-    let q : l.row ≡ a.up.cells = omega arith in
-    rw (l.invariant.0 ∙ ap (λ r. r * a.across.cells) q) at l.invariant.1
