@@ -49,7 +49,7 @@ fn find(text: &[u8], from: usize, stop: u8) -> usize
 pub fn line_end(input: &[u8], from: usize) -> usize
     ensures { EndsLine input.now from result }
 {
-    find(input, from, 10)
+    find(input, from, b'\n')
 }
 
 // A field as a number.
@@ -108,7 +108,7 @@ fn read_field(line: &[u8], at: usize) -> Field
     ensures { ReadsField line.now at result }
 {
     let start = at + 1;
-    let end = find(line, start, 32);
+    let end = find(line, start, b' ');
     let number = read_number(&line[start..end]);
     Field { number, end }
 }
@@ -155,7 +155,7 @@ pub fn read_line(line: &[u8], numbers: &mut [u32]) -> Line
     if numbers.len() < 64 {
         return UNREADABLE;
     }
-    let end = find(line, 0, 32);
+    let end = find(line, 0, b' ');
     let kind = kind_of(&line[..end]);
     let Some(count) = count_numbers(line, end) else {
         return UNREADABLE;
@@ -205,7 +205,7 @@ impl<'a> Writer<'a> {
         ensures writes { Writes self.old.out.now self.old.at (spaced list.now) self.new.at self.new.out.now }
     {
         for item in list {
-            self.byte(32);
+            self.byte(b' ');
             self.number(*item);
         }
     }
