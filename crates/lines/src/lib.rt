@@ -143,6 +143,7 @@ fn store_numbers(line: &[u8], from: usize, numbers: &mut [u32])
     }
 }
 
+// A line that cannot be read.
 const UNREADABLE: Line = Line {
     kind: Kind::Unreadable,
     count: 0,
