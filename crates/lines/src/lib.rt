@@ -70,6 +70,7 @@ fn read_number(text: &[u8]) -> Option<u32>
 }
 
 // What the first word of a line asks.
+// A chain of tests and no match: in the arm of a byte string a proof knows the length and no byte.
 fn kind_of(word: &[u8]) -> Kind
     ensures { result ≡ kind_of word.now }
 {
