@@ -6,7 +6,7 @@ use Prim.Native.Nat.{ℕ, zero, suc, ◌+◌, ◌-◌, ◌*◌, ◌/◌, ◌%◌
 use native.Mathlib.Numerals.{add-one}
 use native.Mathlib.Omega.{arith}
 use lib.Dec.{eqb}
-use lib.ListN.{length, drop, drop_of_length-le}
+use lib.ListN.{length, drop, drop_of_length-le, length-set}
 use lib.Seq.{drop-cons}
 use borrow.Author.Tests.{lt-ltb, le-ltb, ne_eqb, eq-eqb, eqb-true, eqb-false}
 use Rattle.codec.specs.Fitting.{number_limit}
@@ -124,3 +124,15 @@ unfolding encode_number encode_groups
 bytes_three n l h =
     let e : n / 128 / 128 ≡ n / 16384 = omega arith in
     rw (le-ltb n 128 (omega arith), le-ltb (n / 128) 128 (omega arith), e, lt-ltb (n / 16384) 128 (omega arith)) refl
+
+pub length_one : (n : ℕ) → n < 128 → length (encode_number n) ≡ 1
+length_one n h = ap length (bytes_one n h)
+
+pub length_two : (n : ℕ) → 128 ≤ n → n < 16384 → length (encode_number n) ≡ 2
+length_two n l h = ap length (bytes_two n l h)
+
+pub length_three : (n : ℕ) → 16384 ≤ n → n < number_limit → length (encode_number n) ≡ 3
+length_three n l h = ap length (bytes_three n l h)
+
+-- how many bytes a number takes, and that a store leaves the room
+pub ruleset number_lengths = (length_one, length_two, length_three, length-set)

@@ -50,6 +50,7 @@ pub fn read_all(s: &[u8], mut at: usize, numbers: &mut [u32]) -> Option<usize>
 }
 
 // How many bytes a number takes.
+#[tactic(auto, using(crate::proofs::Groups::number_lengths))]
 pub fn size(n: u32) -> usize
     requires { n < number_limit }
     ensures { result ≡ length (encode_number n) }
@@ -63,6 +64,7 @@ pub fn size(n: u32) -> usize
 
 // A number put at a place; the place behind it.
 // The buffer is lent whole, and not what is left of it: callers cite what stands in all of it.
+#[tactic(auto, using(crate::proofs::Groups::number_lengths))]
 pub fn write(out: &mut [u8], at: usize, n: u32) -> usize
     requires n_lt_number_limit { n < number_limit }
     requires n_in_bounds { at + length (encode_number n) ≤ length out.old }

@@ -1,7 +1,7 @@
 -- Laws of the texts that are written. Assumes nothing.
 use mathlib.Core.Path.{◌≡◌, refl, sym, ap, ◌∙◌}
 use mathlib.Core.Bool.{Bool, true, false, cond}
-use mathlib.Core.List.{List, [], ◌∷◌, ◌++◌, append_assoc}
+use mathlib.Core.List.{List, [], ◌∷◌, ◌++◌}
 use Prim.Native.Nat.{ℕ, zero, suc, ◌+◌, ◌-◌, ◌*◌, ◌/◌, ◌%◌, ◌^◌, ◌≤◌, ◌<◌}
 use native.Mathlib.Nat.{zero-add, pow-suc}
 use native.Mathlib.Numerals.{add-one}
@@ -13,7 +13,7 @@ use borrow.Author.Tests.{lt-ltb, le-ltb}
 use Rattle.lines.specs.Text.{Counts}
 use Rattle.lines.specs.Writing.{last_digits, digits, spaced, items, answer, answer_room, Prints}
 use Rattle.facts.specs.Writing.{written_at, Writes}
-use Rattle.facts.proofs.Writing.{writes_length}
+use Rattle.facts.proofs.Writing.{writes_length, writes_more}
 
 pub counts : (n : ℕ) (xs : List ℕ) → n ≤ length xs → Counts n xs
 counts n xs h = (h, sym (length-take-le n xs h))
@@ -75,6 +75,9 @@ unfolding items
 items_some [] h = absurd (h refl)
 items_some (n ∷ ns) h = refl
 
+pub items_longer : (l : List ℕ) → (length l ≡ 0 → ⊥) → length (items l) ≡ length (digits (get_or l 0 0)) + length (spaced (drop 1 l))
+items_longer l h = ap length (items_some l h) ∙ length-append (digits (get_or l 0 0)) (spaced (drop 1 l))
+
 spaced_short : (l : List ℕ) → length (spaced l) ≤ 11 * length l
 unfolding spaced
 spaced_short [] = omega arith
@@ -89,34 +92,61 @@ items_short (n ∷ ns) = omega (arith, spaced_short ns, length_digits n, length-
 pub rest_is : (l : List ℕ) → take (length l - 1) (drop 1 l) ≡ drop 1 l
 rest_is l = take_all (length l - 1) (drop 1 l) (omega (arith, length-drop 1 l))
 
--- a list and the byte after it
-module _ (l : List ℕ) (b : ℕ) where
-  pub list_none : length l ≡ 0 → items l ++ (b ∷ []) ≡ b ∷ []
-  list_none h = ap (λ (x : List ℕ). x ++ (b ∷ [])) (items_none l h)
-
-  pub list_some : (length l ≡ 0 → ⊥) → items l ++ (b ∷ []) ≡ digits (get_or l 0 0) ++ (spaced (drop 1 l) ++ (b ∷ []))
-  list_some h = ap (λ (x : List ℕ). x ++ (b ∷ [])) (items_some l h) ∙ append_assoc (digits (get_or l 0 0)) (spaced (drop 1 l)) (b ∷ [])
-
-  pub list_longer : (length l ≡ 0 → ⊥) → length (items l ++ (b ∷ [])) ≡ length (digits (get_or l 0 0)) + length (spaced (drop 1 l)) + 1
-  list_longer h =
-      ap length (list_some h)
-      ∙ omega (arith, length-append (digits (get_or l 0 0)) (spaced (drop 1 l) ++ (b ∷ [])), length-append (spaced (drop 1 l)) (b ∷ []))
-
-  pub list_short : length (items l ++ (b ∷ [])) ≤ 11 * length l + 1
-  list_short = omega (arith, length-append (items l) (b ∷ []), items_short l)
+-- room for what comes behind a text that was written
+pub room_behind : {out : List ℕ} {at : ℕ} {xs : List ℕ} {e : ℕ} {mid : List ℕ} (n : ℕ) → at + length xs + n ≤ length out → Writes out at xs e mid → e + n ≤ length mid
+room_behind n h w = omega (arith, w.end, writes_length (omega arith) w)
 
 -- ---- the answer
 
 module _ (n : ℕ) (cells functions : List ℕ) where
-  pub answer_parts : answer n cells functions ≡ digits n ++ ((59 ∷ []) ++ ((items cells ++ (59 ∷ [])) ++ (items functions ++ (10 ∷ []))))
+  pub answer_parts : answer n cells functions ≡ digits n ++ ((59 ∷ []) ++ (items cells ++ ((59 ∷ []) ++ (items functions ++ (10 ∷ [])))))
   unfolding answer
-  answer_parts = ap (λ (x : List ℕ). digits n ++ (59 ∷ x)) (sym (append_assoc (items cells) (59 ∷ []) (items functions ++ (10 ∷ []))))
+  answer_parts = refl
 
   pub answer_short : length (answer n cells functions) ≤ answer_room (length cells) (length functions)
   answer_short =
-      let a = items cells ++ (59 ∷ []) in
       let b = items functions ++ (10 ∷ []) in
-      omega (arith, ap length answer_parts, length-append (digits n) (59 ∷ (a ++ b)), length-append a b, length_digits n, list_short cells 59, list_short functions 10)
+      omega (
+        arith,
+        ap length answer_parts,
+        length-append (digits n) ((59 ∷ []) ++ (items cells ++ ((59 ∷ []) ++ b))),
+        length-append (items cells) ((59 ∷ []) ++ b),
+        length-append (items functions) (10 ∷ []),
+        length_digits n,
+        items_short cells,
+        items_short functions,
+      )
+
+-- its parts, one behind the other, where there is room for the longest
+module _ (n : ℕ) (cells functions out : List ℕ) (h : answer_room (length cells) (length functions) ≤ length out) where
+  pub room_0 : 0 + length (digits n) ≤ length out
+  room_0 = omega (arith, h, length_digits n)
+
+  module _ {e₁ : ℕ} {out₁ : List ℕ} (w₁ : Writes out 0 (digits n) e₁ out₁) where
+    pub room_1 : e₁ + (3 + length (items cells) + length (items functions)) ≤ length out₁
+    room_1 = room_behind _ (omega (arith, h, length_digits n, items_short cells, items_short functions)) w₁
+
+    module _ {e₂ : ℕ} {out₂ : List ℕ} (w₂ : Writes out₁ e₁ (59 ∷ []) e₂ out₂) where
+      pub room_2 : e₂ + (2 + length (items cells) + length (items functions)) ≤ length out₂
+      room_2 = room_behind _ (omega (arith, room_1)) w₂
+
+      module _ {e₃ : ℕ} {out₃ : List ℕ} (w₃ : Writes out₂ e₂ (items cells) e₃ out₃) where
+        pub room_3 : e₃ + (2 + length (items functions)) ≤ length out₃
+        room_3 = room_behind _ (omega (arith, room_2)) w₃
+
+        module _ {e₄ : ℕ} {out₄ : List ℕ} (w₄ : Writes out₃ e₃ (59 ∷ []) e₄ out₄) where
+          pub room_4 : e₄ + (1 + length (items functions)) ≤ length out₄
+          room_4 = room_behind _ (omega (arith, room_3)) w₄
+
+          module _ {e₅ : ℕ} {out₅ : List ℕ} (w₅ : Writes out₄ e₄ (items functions) e₅ out₅) where
+            pub room_5 : e₅ + 1 ≤ length out₅
+            room_5 = room_behind _ (omega (arith, room_4)) w₅
+
+            pub wrote_all : {r : ℕ} {new : List ℕ} → Writes out₅ e₅ (10 ∷ []) r new → Writes out 0 (answer n cells functions) r new
+            wrote_all w₆ =
+                rw (answer_parts n cells functions)
+                (writes_more room_0 w₁
+                (writes_more (omega (arith, room_1)) w₂ (writes_more (omega (arith, room_2)) w₃ (writes_more (omega (arith, room_3)) w₄ (writes_more (omega (arith, room_4)) w₅ w₆)))))
 
 -- a text at the start of a buffer, where there is room
 pub prints : {room : Bool} {out text : List ℕ} {r : ℕ} {new : List ℕ} → room ≡ true → length text ≤ length out → Writes out 0 text r new → Prints room out text r new

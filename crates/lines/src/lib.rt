@@ -49,7 +49,7 @@ fn find(text: &[u8], from: usize, stop: u8) -> usize
 pub fn line_end(input: &[u8], from: usize) -> usize
     ensures { EndsLine input.now from result }
 {
-    find(input, from, 10)
+    find(input, from, b'\n')
 }
 
 // A field as a number.
@@ -70,6 +70,7 @@ fn read_number(text: &[u8]) -> Option<u32>
 }
 
 // What the first word of a line asks.
+// A chain of tests and no match: in the arm of a byte string a proof knows the length and no byte.
 fn kind_of(word: &[u8]) -> Kind
     ensures { result ≡ kind_of word.now }
 {
@@ -108,7 +109,7 @@ fn read_field(line: &[u8], at: usize) -> Field
     ensures { ReadsField line.now at result }
 {
     let start = at + 1;
-    let end = find(line, start, 32);
+    let end = find(line, start, b' ');
     let number = read_number(&line[start..end]);
     Field { number, end }
 }
@@ -143,6 +144,7 @@ fn store_numbers(line: &[u8], from: usize, numbers: &mut [u32])
     }
 }
 
+// A line that cannot be read.
 const UNREADABLE: Line = Line {
     kind: Kind::Unreadable,
     count: 0,
@@ -155,7 +157,7 @@ pub fn read_line(line: &[u8], numbers: &mut [u32]) -> Line
     if numbers.len() < 64 {
         return UNREADABLE;
     }
-    let end = find(line, 0, 32);
+    let end = find(line, 0, b' ');
     let kind = kind_of(&line[..end]);
     let Some(count) = count_numbers(line, end) else {
         return UNREADABLE;
@@ -167,50 +169,61 @@ pub fn read_line(line: &[u8], numbers: &mut [u32]) -> Line
     Line { kind, count }
 }
 
-// A byte at a place of the buffer. The answer is the place after it, here and in each `put_`.
-fn put_byte(out: &mut [u8], at: usize, byte: u8) -> usize
-    requires { at < length out.old }
-    ensures { Writes out.old at (byte ∷ []) result out.new }
-{
-    out[at] = byte;
-    at + 1
+// A buffer, and the place in it of the next byte.
+#[derive(Drop)]
+struct Writer<'a> {
+    out: &'a mut [u8],
+    at: usize,
 }
 
-// The digits of a number, those of its tenth first.
-fn put_number(out: &mut [u8], at: usize, number: u32) -> usize
-    requires { at + length (digits number) ≤ length out.old }
-    ensures { Writes out.old at (digits number) result out.new }
-{
-    if number < 10 {
-        return put_byte(out, at, 48 + number as u8);
+impl<'a> Writer<'a> {
+    fn byte(&mut self, byte: u8)
+        requires { self.old.at < length self.old.out.now }
+        ensures same_buffer { self.new.out.ghost_name ≡ self.old.out.ghost_name }
+        ensures writes { Writes self.old.out.now self.old.at (byte ∷ []) self.new.at self.new.out.now }
+    {
+        self.out[self.at] = byte;
+        self.at += 1;
     }
-    let end = put_number(out, at, number / 10);
-    put_byte(out, end, 48 + (number % 10) as u8)
-}
 
-// Items, each after a space.
-fn put_spaced(out: &mut [u8], mut at: usize, list: &[u32]) -> usize
-    requires { at + length (spaced list.now) ≤ length out.old }
-    ensures { Writes out.old at (spaced list.now) result out.new }
-{
-    for item in list {
-        at = put_byte(out, at, 32);
-        at = put_number(out, at, *item);
+    // The digits of a number, those of its tenth first.
+    fn number(&mut self, number: u32)
+        requires { self.old.at + length (digits number) ≤ length self.old.out.now }
+        ensures same_buffer { self.new.out.ghost_name ≡ self.old.out.ghost_name }
+        ensures writes { Writes self.old.out.now self.old.at (digits number) self.new.at self.new.out.now }
+    {
+        if number < 10 {
+            self.byte(b'0' + number as u8);
+            return;
+        }
+        self.number(number / 10);
+        self.byte(b'0' + (number % 10) as u8);
     }
-    at
-}
 
-// The items of a list, and the byte that ends it.
-fn put_list(out: &mut [u8], at: usize, list: &[u32], last: u8) -> usize
-    requires { at + length (items list.now ++ (last ∷ [])) ≤ length out.old }
-    ensures { Writes out.old at (items list.now ++ (last ∷ [])) result out.new }
-{
-    let [item, rest @ ..] = list else {
-        return put_byte(out, at, last);
-    };
-    let first = put_number(out, at, *item);
-    let end = put_spaced(out, first, rest);
-    put_byte(out, end, last)
+    // Items, each after a space.
+    fn spaced(&mut self, list: &[u32])
+        requires { self.old.at + length (spaced list.now) ≤ length self.old.out.now }
+        ensures same_buffer { self.new.out.ghost_name ≡ self.old.out.ghost_name }
+        ensures writes { Writes self.old.out.now self.old.at (spaced list.now) self.new.at self.new.out.now }
+    {
+        for item in list {
+            self.byte(b' ');
+            self.number(*item);
+        }
+    }
+
+    // The items of a list, a space between two.
+    fn items(&mut self, list: &[u32])
+        requires { self.old.at + length (items list.now) ≤ length self.old.out.now }
+        ensures same_buffer { self.new.out.ghost_name ≡ self.old.out.ghost_name }
+        ensures writes { Writes self.old.out.now self.old.at (items list.now) self.new.at self.new.out.now }
+    {
+        let [first, rest @ ..] = list else {
+            return;
+        };
+        self.number(*first);
+        self.spaced(rest);
+    }
 }
 
 // Whether a buffer has room for the longest answer with lists of these lengths.
@@ -224,10 +237,14 @@ fn put_answer(out: &mut [u8], number: u32, cells: &[u32], functions: &[u32]) -> 
     requires { answer_room (length cells.now) (length functions.now) ≤ length out.old }
     ensures { Writes out.old 0 (answer·line number cells.now functions.now) result out.new }
 {
-    let first = put_number(out, 0, number);
-    let second = put_byte(out, first, 59);
-    let third = put_list(out, second, cells, 59);
-    put_list(out, third, functions, 10)
+    let mut line = Writer { out, at: 0 };
+    line.number(number);
+    line.byte(b';');
+    line.items(cells);
+    line.byte(b';');
+    line.items(functions);
+    line.byte(b'\n');
+    line.at
 }
 
 // The line of an answer at the start of the buffer. The result is its length, or 0 where there is no room.

@@ -1,38 +1,27 @@
 -- `put_answer` meets its contract, part by part. Assumes nothing.
 use native.Mathlib.Omega.{arith}
-use Rattle.lines.proofs.Output.{length_digits, list_short, answer_parts}
-use Rattle.facts.proofs.Writing.{writes_more}
+use Rattle.lines.proofs.Output.{room_0, room_1, room_2, room_3, room_4, room_5, wrote_all}
 use Rattle.lines.proofs.put_answer.Goals as goal
 
-pub put_number-first-requires : goal.put_number-first-requires
-put_number-first-requires c = let a = c.args in
-    omega (arith, c.requires, length_digits a.number)
+pub number-requires : goal.number-requires
+number-requires c = let a = c.args in omega (arith, room_0 a.number a.cells.now a.functions.now a.out.now c.requires)
 
-pub put_byte-second-requires : goal.put_byte-second-requires
-put_byte-second-requires c = let a = c.args in
-    let n = c.put_number-first in
-    omega (arith, c.requires, length_digits a.number, n.ensures.end, n.auto.out)
+pub byte-requires : goal.byte-requires
+byte-requires c = let a = c.args in omega (arith, room_1 a.number a.cells.now a.functions.now a.out.now c.requires c.number.ensures.writes)
 
-pub put_list-third-requires : goal.put_list-third-requires
-put_list-third-requires c = let a = c.args in
-    let n = c.put_number-first in
-    let b = c.put_byte-second in
-    omega (arith, c.requires, length_digits a.number, list_short a.cells.now 59, n.ensures.end, n.auto.out, b.ensures.end, b.auto.out)
+pub items-requires : goal.items-requires
+items-requires c = let a = c.args in omega (arith, room_2 a.number a.cells.now a.functions.now a.out.now c.requires c.number.ensures.writes c.byte.ensures.writes)
 
-pub put_list-requires : goal.put_list-requires
-put_list-requires c = let a = c.args in
-    let n = c.put_number-first in
-    let b = c.put_byte-second in
-    let l = c.put_list-third in
-    omega (arith, c.requires, length_digits a.number, list_short a.cells.now 59, list_short a.functions.now 10, n.ensures.end, n.auto.out, b.ensures.end, b.auto.out, l.ensures.end, l.auto.out)
+pub byte-requires-2 : goal.byte-requires-2
+byte-requires-2 c = let a = c.args in omega (arith, room_3 a.number a.cells.now a.functions.now a.out.now c.requires c.number.ensures.writes c.byte.ensures.writes c.items.ensures.writes)
+
+pub items-requires-2 : goal.items-requires-2
+items-requires-2 c = let a = c.args in omega (arith, room_4 a.number a.cells.now a.functions.now a.out.now c.requires c.number.ensures.writes c.byte.ensures.writes c.items.ensures.writes c.byte-2.ensures.writes)
+
+pub byte-requires-3 : goal.byte-requires-3
+byte-requires-3 c = let a = c.args in omega (arith, room_5 a.number a.cells.now a.functions.now a.out.now c.requires c.number.ensures.writes c.byte.ensures.writes c.items.ensures.writes c.byte-2.ensures.writes c.items-2.ensures.writes)
 
 pub returns : goal.returns
 returns c = let a = c.args in
-    let n = c.put_number-first in
-    let b = c.put_byte-second in
-    let l = c.put_list-third in
-    let pre = c.requires in
-    rw (answer_parts a.number a.cells.now a.functions.now)
-    (writes_more (omega (arith, pre, length_digits a.number)) n.ensures
-    (writes_more (omega (arith, pre, length_digits a.number, n.ensures.end, n.auto.out)) b.ensures
-    (writes_more (omega (arith, pre, length_digits a.number, list_short a.cells.now 59, n.ensures.end, n.auto.out, b.ensures.end, b.auto.out)) l.ensures c.put_list.ensures)))
+    let w = wrote_all a.number a.cells.now a.functions.now a.out.now c.requires c.number.ensures.writes c.byte.ensures.writes c.items.ensures.writes c.byte-2.ensures.writes c.items-2.ensures.writes c.byte-3.ensures.writes in
+    record { end = w.end; bytes = grind (arith, w.bytes) }
