@@ -55,11 +55,7 @@ pub fn count_set(plane: &[u64]) -> u32
     requires { length plane.now ≤ 65536 }
     ensures { result ≡ sum (length plane.now) (ones_at plane.now) }
 {
-    let mut count = 0;
-    for word in plane {
-        count += word.count_ones();
-    }
-    count
+    plane.iter().map(|word| word.count_ones()).sum()
 }
 
 // The word of the bits from `at` on in a plane of which the first bits are set.
