@@ -28,7 +28,7 @@ fn word_count(plan: Plan) -> usize
     requires { InRange plan }
     ensures { result ≡ words_for (cell_total plan) }
 {
-    (plan.cell_total() as usize + 63) / 64
+    (plan.cell_total() as usize).div_ceil(64)
 }
 
 // How many words each plane has, 0 where the plan is refused.

@@ -35,10 +35,8 @@ fn is_losing(cells: &[u8], wanted: &[u8]) -> bool
     ensures { result ≡ some (length cells.now) (lost_at cells.now wanted.now) }
 {
     let mut lost = false;
-    let mut i = 0;
-    while i < cells.len() {
-        lost = ((cells[i] == 2) & (wanted[i] != 2)) | lost;
-        i += 1;
+    for (i, cell) in cells.iter().enumerate() {
+        lost = ((*cell == 2) & (wanted[i] != 2)) | lost;
     }
     lost
 }
@@ -55,15 +53,12 @@ fn list_levels(
     ensures { ListedLevels plan cells.now wanted.now marks.old lengths.old (plan.levels - 1) result marks.new lengths.new }
 {
     let mut n: usize = 0;
-    let mut k: usize = 0;
-    let last = (plan.levels - 1) as usize;
-    while k < last {
-        let from = plan.cell_offset(k as u32) as usize;
-        let to = plan.cell_offset(k as u32 + 1) as usize;
+    for k in 0..plan.levels - 1 {
+        let from = plan.cell_offset(k) as usize;
+        let to = plan.cell_offset(k + 1) as usize;
         let end = changes::list_changed_between(cells, wanted, marks, n, from, to);
-        lengths[k] = (end - n) as u32;
+        lengths[k as usize] = (end - n) as u32;
         n = end;
-        k += 1;
     }
     n as u32
 }
