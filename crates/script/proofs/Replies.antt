@@ -8,7 +8,7 @@ use lib.Dec.{eqb, leb, eqb_refl}
 use Rattle.std.proofs.Common.{Some}
 use Rattle.std.specs.declared.option.Option.{Option}
 use lib.ListN.{length, take, drop, length-append, length-replicate}
-use lib.Seq.{take_at}
+use lib.Seq.{length-take-le, take_at}
 use borrow.Author.Tests.{lt-ltb, le-ltb, le-leb}
 use Rattle.facts.proofs.Tests.{T_true}
 use Rattle.grid.specs.declared.Plan.{Plan}
@@ -19,7 +19,7 @@ use Rattle.script.specs.Session.{State, wall, Reply, reply, blank, opening}
 use Rattle.script.specs.declared.hand.Hand.{Hand}
 use Rattle.script.specs.declared.done.Done.{Done}
 use Rattle.script.specs.Steps.{held, Said, Replied}
-use Rattle.script.specs.Bounds.{wall_cells}
+use Rattle.script.specs.Bounds.{wall_cells, wall_functions}
 
 -- ---- printing
 
@@ -82,14 +82,16 @@ held_front h cs fs more rest a b = wall_same h.plan (take_at cs more h.cells a) 
 
 -- the tables of a new wall at the start of the lent ones
 pub fresh : (s : State) (h : Hand) (n : ℕ) (done : Done) (cs fs cs' fs' out : List ℕ) → done.hand ≡ Some h → in_range h.plan ≡ true → too_large h.plan ≡ false
-    → length (take h.cells cs) ≡ h.cells → length (take h.functions fs) ≡ h.functions
+    → wall_cells ≤ length cs → wall_functions ≤ length fs
     → n ≡ (open_mesh h.plan (take h.cells cs) (take h.functions fs)).number
     → cs' ≡ (open_mesh h.plan (take h.cells cs) (take h.functions fs)).cells
     → fs' ≡ (open_mesh h.plan (take h.cells cs) (take h.functions fs)).functions
     → length cs' ≡ length (take h.cells cs) → length fs' ≡ length (take h.functions fs)
     → Said (answer n [] []) done.count out
     → Replied (opening s h.plan) done (cs' ++ drop h.cells cs) (fs' ++ drop h.functions fs) out
-fresh s h n done cs fs cs' fs' out d e g tc tf en ec ef kc kf w =
+fresh s h n done cs fs cs' fs' out d e g lc lf en ec ef kc kf w =
+    let tc = length-take-le h.cells cs (omega (arith, h.cells_bound)) in
+    let tf = length-take-le h.functions fs (omega (arith, h.functions_bound)) in
     let o = opened h.plan e g (take h.cells cs) (take h.functions fs) (tc ∙ h.all_cells) (tf ∙ h.all_functions) in
     rw (opening_fresh h.plan e g s (omega (arith, h.all_cells, h.cells_bound)))
     (record {

@@ -51,15 +51,6 @@ pub fn say_answer(
     lines::write_answer(out, number, cells, functions)
 }
 
-// The functions of a wall that is not large.
-fn function_count(plan: Plan) -> usize
-    requires in_range { InRange plan }
-    requires plan_bound { cell_total plan ≤ wall_cells }
-    ensures { (result ≡ function_total plan) × (result ≤ wall_functions) }
-{
-    plan.function_total() as usize
-}
-
 // The new wall, or the earlier one where the plan is refused or too large for a session.
 pub fn open(
     earlier: Option<Hand>,
@@ -106,7 +97,7 @@ fn open_in_range(
             count,
         };
     }
-    let labels = function_count(plan);
+    let labels = plan.function_total() as usize;
     let number = tables::open(plan, &mut cells[..total], &mut functions[..labels]);
     let count = say_answer(out, number, &[], &[]);
     let hand = Hand {
