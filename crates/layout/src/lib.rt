@@ -92,10 +92,9 @@ impl From<Rectangle> for Support {
 pub fn cells_len(plan: Plan) -> usize
     ensures { result ≡ cells_length plan }
 {
-    if plan.refusal() == 0 {
-        plan.cell_total() as usize
-    } else {
-        0
+    match plan.refusal() {
+        Ok(()) => plan.cell_total() as usize,
+        Err(_) => 0,
     }
 }
 
@@ -103,17 +102,19 @@ pub fn cells_len(plan: Plan) -> usize
 pub fn functions_len(plan: Plan) -> usize
     ensures { result ≡ functions_length plan }
 {
-    if plan.refusal() == 0 {
-        plan.function_total() as usize
-    } else {
-        0
+    match plan.refusal() {
+        Ok(()) => plan.function_total() as usize,
+        Err(_) => 0,
     }
 }
 
 fn has_level(plan: Plan, level: u32) -> bool
     ensures { result ≡ has_level plan level }
 {
-    (plan.refusal() == 0) & (level < plan.levels)
+    match plan.refusal() {
+        Ok(()) => level < plan.levels,
+        Err(_) => false,
+    }
 }
 
 pub fn level_at(plan: Plan, level: u32) -> Level
