@@ -29,6 +29,14 @@ pub lowered_none : (from xs : List ℕ) → xs ≡ lowered 0 from xs
 unfolding lowered
 lowered_none from xs = mapped_is _ xs xs refl (λ k m. rw (run_after 0 0 k (omega arith)))
 
+-- by the first n entries of b, lent as a
+pub lowered_same : (n : ℕ) (a b xs : List ℕ) → length a ≡ n → ((i : ℕ) → i < n → get_or a i 0 ≡ get_or b i 0) → lowered (length a) a xs ≡ lowered n b xs
+unfolding lowered
+lowered_same n a b xs e h = rw e (mapped_is _ xs _ (mapped_length _ xs) (λ k m. mapped_at _ xs k m ∙ run_e 0 n k
+    (λ u. absurd (omega arith))
+    (λ u w. rw (run_in 0 n k u w) (ap (min (get_or xs k 0)) (h k (omega arith))))
+    (λ u. rw (run_after 0 n k u))))
+
 -- one value in the first n entries
 pub filled_front : (n v : ℕ) (xs : List ℕ) → n ≤ length xs → replicate n v ++ drop n xs ≡ filled 0 n (always v) xs
 unfolding filled always

@@ -13,17 +13,17 @@ ghost use Rattle.grid.specs.Side.{SideIn, firsts};
 
 use grid::{Place, Plan, Side};
 
-// Each of the first n entries becomes the smaller of it and that of `from`.
-fn lower(out: &mut [u8], from: &[u8], n: usize)
-    requires { (n ≤ length out.old) × (n ≤ length from.now) }
-    ensures { out.new ≡ lowered n from.now out.old }
+// Each entry that `from` has one for becomes the smaller of both.
+fn lower(out: &mut [u8], from: &[u8])
+    requires { length from.now ≤ length out.old }
+    ensures { out.new ≡ lowered (length from.now) from.now out.old }
 {
-    for i in 0..n {
-        out[i] = out[i].min(from[i]);
+    for (i, x) in from.iter().enumerate() {
+        out[i] = out[i].min(*x);
     }
 }
 
-// The first n entries get one value.
+// The first n entries get one value. A number and no shorter slice: other crates call it so.
 pub fn fill(out: &mut [u8], n: usize, value: u8)
     requires { n ≤ length out.old }
     ensures { out.new ≡ filled 0 n (always value) out.old }
@@ -32,6 +32,7 @@ pub fn fill(out: &mut [u8], n: usize, value: u8)
 }
 
 // Each of the first n entries becomes the least of 2 and those of `a` and `b`.
+// A number and no shorter slices: parts are joined by a law on slices that reach to the table's end.
 fn least_of(out: &mut [u8], a: &[u8], b: &[u8], n: usize)
     requires { (n ≤ length out.old) × (n ≤ length a.now) × (n ≤ length b.now) }
     ensures { out.new ≡ filled 0 n (least_of a.now b.now) out.old }
@@ -59,7 +60,7 @@ fn slide(from: &[u8], out: &mut [u8], n: usize, step: usize, times: usize)
 {
     pair(from, out, n, step, times);
     for d in 1..times {
-        lower(&mut out[(d + 1) * step..], from, n);
+        lower(&mut out[(d + 1) * step..], &from[..n]);
     }
 }
 
@@ -80,7 +81,7 @@ fn spread_row(from: &[u8], out: &mut [u8], columns: usize, across: usize)
     ensures { out.new ≡ filled 0 (columns + across) (slid from.now columns 1 1) out.old }
 {
     fill(out, columns + across, 2);
-    lower(out, from, columns);
+    lower(out, &from[..columns]);
 }
 
 // Each row, with 2 in the columns after it.
@@ -111,9 +112,7 @@ fn place_row(side: Side, from: &[u8], out: &mut [u8])
     while x < side.cells {
         let next = side.run_end(x);
         let at = side.first_over(x) as usize;
-        let first = x as usize;
-        let n = (next - x) as usize;
-        lower(&mut out[at..], &from[first..], n);
+        lower(&mut out[at..], &from[x as usize..next as usize]);
         x = next;
     }
 }
