@@ -74,10 +74,6 @@ module _ (rows columns : Span) (width j : ℕ) where
 abbrev pub span : ℕ → ℕ → Span
 span first end = record { first = first; end = end }
 
-pub block_length : (rows columns : Span) (width v : ℕ) (xs : List ℕ) → length (fill_block rows columns width v xs) ≡ length xs
-unfolding fill_block
-block_length rows columns width v xs = mapped_length _ xs
-
 pub block_none : (first : ℕ) (columns : Span) (width v : ℕ) (xs : List ℕ) → xs ≡ fill_block (span first first) columns width v xs
 unfolding fill_block
 block_none first columns width v xs = mapped_is _ xs xs refl (λ j l.

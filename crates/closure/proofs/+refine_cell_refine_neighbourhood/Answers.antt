@@ -31,10 +31,6 @@ refine_cell-returns-then-cells-number-eq2 t c = λ n l.
     let a = c.args in
     refine_done a.plan a.place a.cells.now n l (ap (λ (i : ℕ). get_or a.cells.now i 0) (sym c.requires.cell_value) ∙ c.if-cells-number-eq2.true)
 
-pub refine_cell-refine_neighbourhood-requires : goal.refine_cell-refine_neighbourhood-requires
-refine_cell-refine_neighbourhood-requires t c =
-    (omega (arith, c.decreases), (c.requires.table_size, (c.requires.cell_inside, c.requires.level_bound)))
-
 pub refine_cell-returns : goal.refine_cell-returns
 refine_cell-returns t c = λ n l.
     let a = c.args in

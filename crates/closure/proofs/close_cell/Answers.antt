@@ -6,15 +6,9 @@ use Rattle.closure.specs.Walk.{told}
 use Rattle.closure.proofs.Model.{close_settled, close_open}
 use Rattle.closure.proofs.close_cell.Goals as goal
 
-pub least_near-requires : goal.least_near-requires
-least_near-requires c = let s = c in record { in_range = s.requires.table_size.range; cell_inside = (s.requires.cell_inside, s.requires.level_bound); near_room = s.requires.near_room }
-
 pub returns-then-least_near-eq2 : goal.returns-then-least_near-eq2
 unfolding told
 returns-then-least_near-eq2 c = close_settled _ _ _ _ (eq-eqb _ _ (sym c.least_near.ensures ∙ c.if-least_near-eq2.true))
-
-pub refine_neighbourhood-requires : goal.refine_neighbourhood-requires
-refine_neighbourhood-requires c = let s = c in record { table_size = s.requires.table_size; cell_inside = s.requires.cell_inside; level_bound = s.requires.level_bound }
 
 pub returns : goal.returns
 unfolding told

@@ -1,11 +1,9 @@
 -- `fill_cells` meets its contract. The invariant: the rows passed have the byte. Assumes nothing.
-use mathlib.Core.Path.{◌≡◌, ◌∙◌}
 use Prim.Native.Nat.{◌+◌, ◌-◌, ◌*◌, ◌≤◌}
 use native.Mathlib.Omega.{arith}
 use lib.ListN.{length}
 use Rattle.facts.proofs.Rows.{row_ends}
-use Rattle.closure.specs.Walk.{fill_block}
-use Rattle.closure.proofs.Writing.{span, block_none, block_more}
+use Rattle.closure.proofs.Writing.{block_none, block_more}
 use Rattle.closure.proofs.fill_cells.Goals as goal
 use Rattle.closure.proofs.fill_cells.Goals.{In-loop-row}
 
@@ -30,12 +28,3 @@ loop-row-preserved c =
     let l = c.loop-row in
     let f = fits (goal.at.loop-row-preserved c).In-loop-row in
     block_more r.rows.first l.row r.columns.first (r.columns.end - r.columns.first) a.width l.auto.row f.columns a.value a.part.now l.part _ l.invariant (omega (arith, f.row, f.columns)) c.fill.ensures
-
-pub returns : goal.returns
-returns c =
-    let a = c.args in
-    let r = a.r in
-    let l = c.loop-row in
-    let e : l.row ≡ r.rows.end = omega (arith, c.requires.rows≤) in
-    let q : r.columns.first + (r.columns.end - r.columns.first) ≡ r.columns.end = omega (arith, c.requires.columns≤) in
-    l.invariant ∙ (λ i. fill_block (span r.rows.first (e i)) (span r.columns.first (q i)) a.width a.value a.part.now)

@@ -16,26 +16,11 @@ inside s = rw s.requires.cell_value (cell_number_lt s.args.plan s.requires.table
 pub bounds-flags-c : goal.bounds-flags-c
 bounds-flags-c c = let s = c in omega (arith, inside (goal.at.bounds-flags-c c).After-slice_known-1, s.requires.flags_len.0)
 
-pub bounds-cells-c : goal.bounds-cells-c
-bounds-cells-c c = let s = c in omega (arith, inside (goal.at.bounds-cells-c c).After-slice_known-1, s.requires.table_size.size)
-
-pub close_cell-requires : goal.close_cell-requires
-close_cell-requires c = let s = c in record { table_size = s.requires.table_size; near_room = s.requires.flags_len.1; cell_inside = s.requires.cell_inside; level_bound = s.requires.level_bound }
-
-pub write_cell-requires : goal.write_cell-requires
-write_cell-requires c = let s = c in record { table_size = rw c.close_cell.auto.cells s.requires.table_size; cell_inside = s.requires.cell_inside; cell_value = s.requires.cell_value; level_bound = s.requires.level_bound; le_value = omega arith }
-
 pub bounds-flags-c-in-Activate : goal.bounds-flags-c-in-Activate
 bounds-flags-c-in-Activate c = let s = c in omega (arith, inside (goal.at.bounds-flags-c-in-Activate c).After-slice_known-1, s.requires.flags_len.0)
 
-pub write_cell-requires-then-flags-c-eq1-2 : goal.write_cell-requires-then-flags-c-eq1-2
-write_cell-requires-then-flags-c-eq1-2 c = let s = c in record { table_size = s.requires.table_size; cell_inside = s.requires.cell_inside; cell_value = s.requires.cell_value; level_bound = s.requires.level_bound; le_value = omega arith }
-
 pub bounds-cells-c-in-Close : goal.bounds-cells-c-in-Close
 bounds-cells-c-in-Close c = let s = c in omega (arith, inside (goal.at.bounds-cells-c-in-Close c).After-slice_known-1, s.requires.table_size.size)
-
-pub close_cell-requires-then-cells-c-eq2 : goal.close_cell-requires-then-cells-c-eq2
-close_cell-requires-then-cells-c-eq2 c = let s = c in record { table_size = s.requires.table_size; near_room = s.requires.flags_len.1; cell_inside = s.requires.cell_inside; level_bound = s.requires.level_bound }
 
 pub returns-then-cells-c-ne2 : goal.returns-then-cells-c-ne2
 returns-then-cells-c-ne2 c = let s = c in

@@ -1,5 +1,5 @@
 -- `write_cell` meets its contract. Assumes nothing.
-use mathlib.Core.Path.{◌≡◌, ap, ◌∙◌}
+use mathlib.Core.Path.{◌≡◌, ◌∙◌}
 use Prim.Native.Nat.{◌-◌, ◌≤◌}
 use native.Mathlib.Omega.{arith}
 use lib.ListN.{length, set, length-set}
@@ -8,7 +8,7 @@ use Rattle.grid.specs.Plan.{cell_total}
 use Rattle.grid.proofs.Laws.{cell_number_lt}
 use Rattle.grid.proofs.Rectangles.{RectangleIn, children_in}
 use Rattle.closure.specs.Walk.{Block}
-use Rattle.closure.proofs.Writing.{block_in, offset_in, write_long, cell_written}
+use Rattle.closure.proofs.Writing.{block_in, offset_in, cell_written}
 use Rattle.closure.proofs.write_cell.Goals as goal
 use Rattle.closure.proofs.write_cell.Goals.{After-children-children, After-columns_at-width}
 
@@ -53,6 +53,3 @@ returns c = let s = c in
     let a = s.args in
     let o = c in
     cell_written a.plan s.requires.table_size.range a.place _ (family (goal.at.returns c).After-children-children) a.cells.now s.requires.table_size.size _ _ a.cell.0 a.value _ o.children-children.ensures c.cell_offset-offset.ensures c.columns_at-width.ensures s.requires.cell_value c.fill_cells.ensures
-
-pub shape_of-cells : goal.shape_of-cells
-shape_of-cells c = let a = c.args in ap length (returns c) ∙ write_long a.plan a.value a.place a.cells.now
