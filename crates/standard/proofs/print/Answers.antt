@@ -25,12 +25,15 @@ shorter text rest n inside behind fits =
       written = ap (λ (l : List ℕ). take before text ++ take n l) behind ∙ sym (take-add before n text) ∙ ap (λ k. take k text) after;
     }
 
+-- the loop goes on by the count m, which is the one that the write answered
 pub loop-rest-preserved : goal.loop-rest-preserved
 loop-rest-preserved g c =
-    let more = shorter c.args.text.now c.loop-rest.rest.now c.in_ok-n.n c.loop-rest.invariant.inside c.loop-rest.invariant.behind c.in_ok-n.ensures.bound in
+    let rest = c.loop-rest.rest.now in
+    let same : (m : ℕ) → m ≡ c.in_ok-n.n → Shorter c.args.text.now rest (take (length rest - m) (drop m rest)) c.in_ok-n.n =
+    λ m e. rw e (shorter c.args.text.now rest c.in_ok-n.n c.loop-rest.invariant.inside c.loop-rest.invariant.behind c.in_ok-n.ensures.bound) in
     record {
-      inside = more.inside;
-      behind = more.behind;
+      behind = (same _ (omega arith)).behind;
+      inside = (same _ (omega arith)).inside;
       none_failed = c.in_ok-n.ensures.none ∙ c.loop-rest.invariant.none_failed;
-      written = subst (Appends _ _) more.written (Appends-trans _ _ _ _ _ c.loop-rest.invariant.written c.in_ok-n.ensures.bytes);
+      written = subst (Appends _ _) (same _ (omega arith)).written (Appends-trans _ _ _ _ _ c.loop-rest.invariant.written c.in_ok-n.ensures.bytes);
     }
