@@ -37,7 +37,7 @@ fn pass_row(heights: &mut [i32], begin: usize, children: Children, height: i32)
     requires { RowRoom begin children height heights.old }
     ensures { heights.new ≡ row_passed begin children height heights.old }
 {
-    for j in children.first..children.last + 1 {
+    for j in children.first..=children.last {
         let at = begin + j as usize;
         let own = heights[at];
         heights[at] = own + part_of(height, children.quarters(j));
@@ -58,7 +58,7 @@ fn pass_function(
 {
     let height = heights[f];
     heights[f] = 0;
-    for row in up.first..up.last + 1 {
+    for row in up.first..=up.last {
         let begin = offset + row as usize * width;
         pass_row(heights, begin, across, part_of(height, up.quarters(row)));
     }

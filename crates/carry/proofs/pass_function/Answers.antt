@@ -1,5 +1,6 @@
 -- `pass_function` meets its contract: row by row. Assumes nothing.
 use mathlib.Core.Path.{refl}
+use Prim.Native.Nat.{◌+◌}
 use native.Mathlib.Omega.{arith}
 use Rattle.carry.proofs.Blocks.{height_read, blocks_none, up_room, part_read, block_room, block_next, blocks_all}
 use Rattle.carry.proofs.pass_function.Goals as goal
@@ -22,3 +23,9 @@ loop-row-preserved c = let r = c.requires in
 
 pub returns : goal.returns
 returns c = let r = c.requires in blocks_all r (height_read r) _ refl refl (omega arith) c.loop-row.invariant
+
+-- the last row
+pub returns-2 : goal.returns-2
+returns-2 c = let r = c.requires in
+    let l = c.loop-row in
+    blocks_all r (height_read r) _ refl {row = l.row + 1} refl (omega arith) (block_next r (height_read r) _ refl (omega arith) l.invariant (rw (part_read r (height_read r) l.row c.quarters.ensures c.part_of.ensures) at c.pass_row.ensures))

@@ -1,6 +1,6 @@
 -- `pass_row` meets its contract: child by child. Assumes nothing.
 use mathlib.Core.Path.{ap, ◌∙◌}
-use Prim.Native.Nat.{◌≤◌}
+use Prim.Native.Nat.{◌+◌, ◌≤◌}
 use native.Mathlib.Omega.{arith}
 use mir.Syntax.{w32}
 use mir.Val.{to_z, of_z}
@@ -26,3 +26,11 @@ loop-j-preserved c = let r = room (goal.at.loop-j-preserved c).Start in
 
 pub returns : goal.returns
 returns c = let s = c in row_all (room (goal.at.returns c).Start) (omega arith) c.loop-j.invariant ∙ ap (λ h. row_passed s.args.begin s.args.children h s.args.heights.now) (to_z-of_z w32 s.args.height s.ranges.height)
+
+-- the last child
+pub returns-2 : goal.returns-2
+returns-2 c = let r = room (goal.at.returns-2 c).Start in
+    let s = c in
+    let l = c.loop-j in
+    let m : l.j ≤ c.args.children.last = omega arith in
+    row_all r {j = l.j + 1} (omega arith) (row_next r m l.invariant (sum_read r m l.invariant (rw c.quarters.ensures at c.part_of.ensures))) ∙ ap (λ h. row_passed s.args.begin s.args.children h s.args.heights.now) (to_z-of_z w32 s.args.height s.ranges.height)
