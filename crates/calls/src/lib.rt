@@ -47,7 +47,7 @@ fn eligible_cells(direction: Direction, plan: Plan, cells: &[u8], kinds: &mut [u
 {
     match direction {
         Direction::Refine => {
-            changes::copy_bytes(kinds, cells);
+            kinds.copy_from_slice(cells);
             plan.cell_offset(plan.levels - 1)
         }
         Direction::Coarsen => {
@@ -73,7 +73,7 @@ fn eligible_functions(
 {
     match direction {
         Direction::Refine => {
-            changes::copy_bytes(kinds, functions);
+            kinds.copy_from_slice(functions);
             plan.function_offset(plan.levels - 1)
         }
         Direction::Coarsen => {
@@ -189,7 +189,7 @@ fn settle_mesh(
     let total = plan.cell_total() as usize;
     let mut cell_room = [0u8; MOST_CELLS];
     let new_cells = &mut cell_room[..total];
-    changes::copy_bytes(new_cells, cells);
+    new_cells.copy_from_slice(cells);
     renew(direction, plan, new_cells, flags);
     changes::settle_cells(plan, cells, functions, cell_list, room, new_cells, made)
 }

@@ -20,14 +20,6 @@ use refusals::Refusal;
 // Tables are compared in blocks of so many bytes, and only a block that differs is read byte by byte.
 const BLOCK: usize = 64;
 
-// The bytes of one table to another.
-pub fn copy_bytes(to: &mut [u8], from: &[u8])
-    requires { length to.old ≡ length from.now }
-    ensures { to.new ≡ from.now }
-{
-    to.copy_from_slice(from);
-}
-
 // One of the bytes is 2 (refined, deactivated) and the other is not.
 fn differ(a: u8, b: u8) -> bool
     ensures { result ≡ not (beq (eqb a 2) (eqb b 2)) }
@@ -184,7 +176,7 @@ pub fn take_over(table: &mut [u8], list: &mut [u32], new: &[u8]) -> u32
     ensures { Taken table list new.now result }
 {
     let n = list_changed(table, new, list);
-    copy_bytes(table, new);
+    table.copy_from_slice(new);
     n as u32
 }
 

@@ -54,7 +54,7 @@ fn make(
     let flags = &mut room[..total];
     let call = Call(Direction::Refine, by);
     calls::flag_marks(call, plan, cells, functions, marks, flags, new_functions)?;
-    changes::copy_bytes(new_cells, cells);
+    new_cells.copy_from_slice(cells);
     calls::renew(Direction::Refine, plan, new_cells, flags);
     changes::room_refusal(
         plan,

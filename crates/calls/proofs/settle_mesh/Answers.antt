@@ -14,17 +14,17 @@ use Rattle.calls.proofs.settle_mesh.Goals.{After-renew}
 pub slice_bounds-new_cells-end : goal.slice_bounds-new_cells-end
 slice_bounds-new_cells-end c = zeros most_cells c.cell_total-total.result (omega (arith, c.requires.ready.small))
 
-pub copy_bytes-requires : goal.copy_bytes-requires
-copy_bytes-requires c = let R = c.requires.ready in
+pub copy_from_slice-requires : goal.copy_from_slice-requires
+copy_from_slice-requires c = let R = c.requires.ready in
     part_length most_cells _ c.cell_total-total.ensures R.small ∙ sym R.size
 
 pub renew-requires : goal.renew-requires
-renew-requires c = ready_are c.copy_bytes.ensures c.requires.ready
+renew-requires c = ready_are c.copy_from_slice.ensures.after c.requires.ready
 
 -- the new cells
 new : (c : After-renew) → let a = c.args in c.renew.new.cells ≡ renewed (direction_of a.direction) a.plan a.cells.now a.flags.now
 new c = let a = c.args in
-    c.renew.ensures ∙ ap (λ (u : List ℕ). renewed (direction_of a.direction) a.plan u a.flags.now) c.copy_bytes.ensures
+    c.renew.ensures ∙ ap (λ (u : List ℕ). renewed (direction_of a.direction) a.plan u a.flags.now) c.copy_from_slice.ensures.after
 
 pub settle_cells-requires : goal.settle_cells-requires
 settle_cells-requires c = let A = c.requires in
