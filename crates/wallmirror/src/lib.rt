@@ -5,12 +5,13 @@ ghost use Rattle.std.specs.Prelude.{◌≡◌};
 ghost use Rattle.grid.specs.Plan.{plan_refusal};
 ghost use Rattle.layout.specs.Layout.{cells_length, functions_length, level_at, place_of, cell_at, support};
 ghost use Rattle.mesh.specs.Mesh.{open_mesh, check, count};
-ghost use Rattle.outcomes.specs.Calls.{refine_cells, refine_functions, coarsen_cells, coarsen_functions};
+ghost use Rattle.outcomes.specs.Calls.{outcome, refine_cells, refine_functions, coarsen_cells, coarsen_functions};
+ghost use Rattle.calls.specs.Parts.{direction_of, by_of};
 ghost use Rattle.outcomes.specs.Meets.{Meets};
 ghost use Rattle.files.specs.File.{read_mesh, write_mesh};
 ghost use Rattle.files.specs.Steps.{left_by_read, left_by_write};
 ghost use Rattle.heights.specs.Heights.{answer, flattened};
-ghost use Rattle.refining.specs.Refining.{refine_cells_with_heights, refine_functions_with_heights};
+ghost use Rattle.refining.specs.Refining.{outcome_with_heights, refine_cells_with_heights, refine_functions_with_heights};
 ghost use Rattle.refining.specs.Steps.{MeetsWithHeights};
 ghost use Rattle.planes.specs.Planes.{planes_length, open_planes, check_planes, count_planes, on_planes, packed, unpacked};
 ghost use Rattle.planes.specs.Meets.{left_by_open, MeetsOnPlanes, left_by_pack, left_by_unpack};
@@ -46,7 +47,7 @@ pub extern "C" fn wallmirror_version() -> u32
 pub extern "C" fn wallmirror_plan_refusal(plan: Plan) -> u32
     ensures { result ≡ plan_refusal plan }
 {
-    plan.refusal()
+    refusals::number_of(plan.refusal())
 }
 
 #[unsafe(no_mangle)]
@@ -97,21 +98,48 @@ pub extern "C" fn wallmirror_open(plan: Plan, cells: &mut [u8], functions: &mut 
     ensures cells { cells.new ≡ (open_mesh plan cells.old functions.old).cells }
     ensures functions { functions.new ≡ (open_mesh plan cells.old functions.old).functions }
 {
-    tables::open(plan, cells, functions)
+    refusals::number_of(tables::open(plan, cells, functions))
 }
 
 #[unsafe(no_mangle)]
 pub extern "C" fn wallmirror_check(plan: Plan, cells: &[u8], functions: &[u8]) -> u32
     ensures { result ≡ check plan cells.now functions.now }
 {
-    tables::check(plan, cells, functions)
+    refusals::number_of(tables::check(plan, cells, functions))
 }
 
 #[unsafe(no_mangle)]
 pub extern "C" fn wallmirror_count(plan: Plan, cells: &[u8], functions: &[u8]) -> Count
     ensures { result ≡ count plan cells.now functions.now }
 {
-    tables::count(plan, cells, functions)
+    tables::count(plan, cells, functions).into()
+}
+
+// One of the four calls. It checks the tables itself and hands on what check answered, so that the rooms of the check and those of the change
+// are not on the stack at the same time.
+fn change(
+    call: Call,
+    plan: Plan,
+    cells: &mut [u8],
+    functions: &mut [u8],
+    marks: &[u32],
+    cell_list: &mut [u32],
+    function_list: &mut [u32],
+) -> Answer
+    ensures { Meets (outcome (direction_of call.0) (by_of call.1) plan) result cells functions marks cell_list function_list }
+{
+    let checked = tables::check(plan, cells, functions);
+    calls::change(
+        checked,
+        call,
+        plan,
+        cells,
+        functions,
+        marks,
+        cell_list,
+        function_list,
+    )
+    .into()
 }
 
 #[unsafe(no_mangle)]
@@ -125,9 +153,7 @@ pub extern "C" fn wallmirror_refine_cells(
 ) -> Answer
     ensures { Meets (refine_cells plan) result cells functions marks cell_list function_list }
 {
-    let checked = tables::check(plan, cells, functions);
-    calls::change(
-        checked,
+    change(
         Call(Direction::Refine, By::Cells),
         plan,
         cells,
@@ -149,9 +175,7 @@ pub extern "C" fn wallmirror_refine_functions(
 ) -> Answer
     ensures { Meets (refine_functions plan) result cells functions marks cell_list function_list }
 {
-    let checked = tables::check(plan, cells, functions);
-    calls::change(
-        checked,
+    change(
         Call(Direction::Refine, By::Functions),
         plan,
         cells,
@@ -173,9 +197,7 @@ pub extern "C" fn wallmirror_coarsen_cells(
 ) -> Answer
     ensures { Meets (coarsen_cells plan) result cells functions marks cell_list function_list }
 {
-    let checked = tables::check(plan, cells, functions);
-    calls::change(
-        checked,
+    change(
         Call(Direction::Coarsen, By::Cells),
         plan,
         cells,
@@ -197,9 +219,7 @@ pub extern "C" fn wallmirror_coarsen_functions(
 ) -> Answer
     ensures { Meets (coarsen_functions plan) result cells functions marks cell_list function_list }
 {
-    let checked = tables::check(plan, cells, functions);
-    calls::change(
-        checked,
+    change(
         Call(Direction::Coarsen, By::Functions),
         plan,
         cells,
@@ -214,7 +234,7 @@ pub extern "C" fn wallmirror_coarsen_functions(
 pub extern "C" fn wallmirror_read(file: &[u8], cells: &mut [u8], functions: &mut [u8]) -> ReadAnswer
     ensures { left_by_read result cells functions ≡ read_mesh file.now cells.old functions.old }
 {
-    files::read(file, cells, functions)
+    files::read(file, cells, functions).into()
 }
 
 #[unsafe(no_mangle)]
@@ -226,7 +246,7 @@ pub extern "C" fn wallmirror_write(
 ) -> WriteAnswer
     ensures { left_by_write result file ≡ write_mesh plan cells.now functions.now file.old }
 {
-    files::write(plan, cells, functions, file)
+    files::write(plan, cells, functions, file).into()
 }
 
 #[unsafe(no_mangle)]
@@ -240,7 +260,7 @@ pub extern "C" fn wallmirror_height(
 ) -> HeightAnswer
     ensures { result ≡ flattened (answer plan cells.now functions.now heights.now across up) }
 {
-    heights::flatten(heights::answer(plan, cells, functions, heights, across, up))
+    heights::answer(plan, cells, functions, heights, across, up).into()
 }
 
 #[unsafe(no_mangle)]
@@ -253,7 +273,35 @@ pub extern "C" fn wallmirror_corners(
 ) -> CornersAnswer
     ensures { left_by_corners result out ≡ project plan cells.now functions.now heights.now out.old }
 {
-    projector::corners(plan, cells, functions, heights, out)
+    projector::corners(plan, cells, functions, heights, out).into()
+}
+
+// The same of refining with heights.
+fn refine_with_heights(
+    by: By,
+    plan: Plan,
+    cells: &mut [u8],
+    functions: &mut [u8],
+    heights: &mut [i32],
+    marks: &[u32],
+    cell_list: &mut [u32],
+    function_list: &mut [u32],
+) -> Answer
+    ensures { MeetsWithHeights (outcome_with_heights (by_of by) plan) result cells functions heights marks cell_list function_list }
+{
+    let checked = refining::tables_refusal(plan, cells, functions, heights);
+    refining::refine(
+        by,
+        checked,
+        plan,
+        cells,
+        functions,
+        heights,
+        marks,
+        cell_list,
+        function_list,
+    )
+    .into()
 }
 
 #[unsafe(no_mangle)]
@@ -268,9 +316,8 @@ pub extern "C" fn wallmirror_refine_cells_with_heights(
 ) -> Answer
     ensures { MeetsWithHeights (refine_cells_with_heights plan) result cells functions heights marks cell_list function_list }
 {
-    let checked = refining::tables_refusal(plan, cells, functions, heights);
-    refining::refine_cells(
-        checked,
+    refine_with_heights(
+        By::Cells,
         plan,
         cells,
         functions,
@@ -293,9 +340,8 @@ pub extern "C" fn wallmirror_refine_functions_with_heights(
 ) -> Answer
     ensures { MeetsWithHeights (refine_functions_with_heights plan) result cells functions heights marks cell_list function_list }
 {
-    let checked = refining::tables_refusal(plan, cells, functions, heights);
-    refining::refine_functions(
-        checked,
+    refine_with_heights(
+        By::Functions,
         plan,
         cells,
         functions,
@@ -316,7 +362,7 @@ pub extern "C" fn wallmirror_draft_open(
 ) -> DraftAnswer
     ensures { result ≡ open_draft plan cells.now functions.now draft list.now }
 {
-    drafting::open(plan, cells, functions, draft, list)
+    DraftAnswer::new(draft, drafting::open(plan, cells, functions, draft, list))
 }
 
 #[unsafe(no_mangle)]
@@ -330,7 +376,7 @@ pub extern "C" fn wallmirror_draft_add(
 ) -> DraftAnswer
     ensures { left_by_add result list ≡ add_marks plan cells.now functions.now draft list.old marks.now }
 {
-    drafting::add(plan, cells, functions, draft, list, marks)
+    DraftAnswer::new(draft, drafting::add(plan, cells, functions, draft, list, marks))
 }
 
 #[unsafe(no_mangle)]
@@ -345,14 +391,17 @@ pub extern "C" fn wallmirror_draft_close(
 ) -> CloseAnswer
     ensures { left_by_close result cells functions cell_list function_list ≡ close_draft plan cells.old functions.old draft list.now cell_list.old function_list.old }
 {
-    drafting::close(
-        plan,
-        cells,
-        functions,
+    CloseAnswer::new(
         draft,
-        list,
-        cell_list,
-        function_list,
+        drafting::close(
+            plan,
+            cells,
+            functions,
+            draft,
+            list,
+            cell_list,
+            function_list,
+        ),
     )
 }
 
@@ -366,7 +415,7 @@ pub extern "C" fn wallmirror_draft_drop(
 ) -> DraftAnswer
     ensures { result ≡ drop_draft plan cells.now functions.now draft list.now }
 {
-    drafting::drop(plan, cells, functions, draft, list)
+    DraftAnswer::new(draft, drafting::drop(plan, cells, functions, draft, list))
 }
 
 #[unsafe(no_mangle)]
@@ -393,6 +442,7 @@ pub extern "C" fn wallmirror_refine_cells_with_draft(
         cell_list,
         function_list,
     )
+    .into()
 }
 
 #[unsafe(no_mangle)]
@@ -419,6 +469,7 @@ pub extern "C" fn wallmirror_refine_functions_with_draft(
         cell_list,
         function_list,
     )
+    .into()
 }
 
 #[unsafe(no_mangle)]
@@ -445,6 +496,7 @@ pub extern "C" fn wallmirror_coarsen_cells_with_draft(
         cell_list,
         function_list,
     )
+    .into()
 }
 
 #[unsafe(no_mangle)]
@@ -471,6 +523,7 @@ pub extern "C" fn wallmirror_coarsen_functions_with_draft(
         cell_list,
         function_list,
     )
+    .into()
 }
 
 #[unsafe(no_mangle)]
@@ -499,6 +552,7 @@ pub extern "C" fn wallmirror_refine_cells_with_heights_and_draft(
         cell_list,
         function_list,
     )
+    .into()
 }
 
 #[unsafe(no_mangle)]
@@ -527,6 +581,7 @@ pub extern "C" fn wallmirror_refine_functions_with_heights_and_draft(
         cell_list,
         function_list,
     )
+    .into()
 }
 
 #[unsafe(no_mangle)]
@@ -541,7 +596,7 @@ pub extern "C" fn wallmirror_open_with_draft(
     ensures functions { functions.new ≡ (open_mesh plan cells.old functions.old).functions }
     ensures draft { result.draft ≡ draft_after_open plan cells.old functions.old draft }
 {
-    drafting::open_mesh(plan, cells, functions, draft)
+    DraftAnswer::new(draft, drafting::open_mesh(plan, cells, functions))
 }
 
 #[unsafe(no_mangle)]
@@ -573,7 +628,7 @@ pub extern "C" fn wallmirror_planes_open(
 ) -> u32
     ensures { left_by_open result present refined functions ≡ open_planes plan present.old refined.old functions.old }
 {
-    plane_calls::open(plan, present, refined, functions)
+    refusals::number_of(plane_calls::open(plan, present, refined, functions))
 }
 
 #[unsafe(no_mangle)]
@@ -585,7 +640,7 @@ pub extern "C" fn wallmirror_planes_check(
 ) -> u32
     ensures { result ≡ check_planes plan present.now refined.now functions.now }
 {
-    plane_calls::check(plan, present, refined, functions)
+    refusals::number_of(plane_calls::check(plan, present, refined, functions))
 }
 
 #[unsafe(no_mangle)]
@@ -597,7 +652,7 @@ pub extern "C" fn wallmirror_planes_count(
 ) -> Count
     ensures { result ≡ count_planes plan present.now refined.now functions.now }
 {
-    plane_calls::count(plan, present, refined, functions)
+    plane_calls::count(plan, present, refined, functions).into()
 }
 
 #[unsafe(no_mangle)]
@@ -622,6 +677,7 @@ pub extern "C" fn wallmirror_planes_refine_cells(
         cell_list,
         function_list,
     )
+    .into()
 }
 
 #[unsafe(no_mangle)]
@@ -646,6 +702,7 @@ pub extern "C" fn wallmirror_planes_refine_functions(
         cell_list,
         function_list,
     )
+    .into()
 }
 
 #[unsafe(no_mangle)]
@@ -670,6 +727,7 @@ pub extern "C" fn wallmirror_planes_coarsen_cells(
         cell_list,
         function_list,
     )
+    .into()
 }
 
 #[unsafe(no_mangle)]
@@ -694,6 +752,7 @@ pub extern "C" fn wallmirror_planes_coarsen_functions(
         cell_list,
         function_list,
     )
+    .into()
 }
 
 #[unsafe(no_mangle)]
@@ -705,7 +764,7 @@ pub extern "C" fn wallmirror_planes_from_cells(
 ) -> u32
     ensures { left_by_pack result present refined ≡ packed plan cells.now present.old refined.old }
 {
-    plane_calls::from_cells(plan, cells, present, refined)
+    refusals::number_of(plane_calls::from_cells(plan, cells, present, refined))
 }
 
 #[unsafe(no_mangle)]
@@ -717,7 +776,7 @@ pub extern "C" fn wallmirror_planes_to_cells(
 ) -> u32
     ensures { left_by_unpack result cells ≡ unpacked plan present.now refined.now cells.old }
 {
-    plane_calls::to_cells(plan, present, refined, cells)
+    refusals::number_of(plane_calls::to_cells(plan, present, refined, cells))
 }
 
 #[unsafe(no_mangle)]
@@ -741,4 +800,5 @@ pub extern "C" fn wallmirror_rounds(
         marks,
         lengths,
     )
+    .into()
 }
