@@ -74,10 +74,10 @@ fn mesh_admissible(plan: Plan, cells: &[u8]) -> bool
     requires { (MeshTable plan cells.now) × (cell_total plan ≤ most_cells) }
     ensures { result ≡ is_admissible plan cells.now }
 {
-    let room = MOST_NEAR;
+    // no heap: rooms of the largest size
     let mut near = [0u8; MOST_NEAR];
     let mut scratch = [0u8; MOST_NEAR];
-    levels_admissible(plan, cells, &mut near[..room], &mut scratch[..room])
+    levels_admissible(plan, cells, &mut near, &mut scratch)
 }
 
 // Refusal 5 is its opposite. In class 0 every mesh is admissible, and no room is made.

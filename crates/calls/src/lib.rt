@@ -21,7 +21,7 @@ use grid::{MOST_CELLS, MOST_FUNCTIONS, Plan};
 use outcomes::Changes;
 use refusals::Refusal;
 
-// Which way a call goes.
+// Which way a call goes. This and By stay enums with a match where their functions differ: the definitions say both by cases.
 #[derive(Clone, Copy)]
 pub enum Direction {
     Refine,
@@ -92,6 +92,7 @@ fn keep_eligible(direction: Direction, plan: Plan, cells: &[u8], flags: &mut [u8
     ensures { Kept (direction_of direction) plan cells.now flags.old flags.new }
 {
     let total = plan.cell_total() as usize;
+    // no heap: room of the largest size, of which the front is used
     let mut room = [0u8; MOST_CELLS];
     let kinds = &mut room[..total];
     eligible_cells(direction, plan, cells, kinds);
@@ -187,6 +188,7 @@ fn settle_mesh(
     ensures { left_cells (settled_of result) cells cell_list ≡ settle_cells plan cells.old functions.now cell_list.old room (renewed (direction_of direction) plan cells.old flags.now) }
 {
     let total = plan.cell_total() as usize;
+    // no heap: room of the largest size, of which the front is used
     let mut cell_room = [0u8; MOST_CELLS];
     let new_cells = &mut cell_room[..total];
     new_cells.copy_from_slice(cells);
@@ -221,6 +223,7 @@ fn in_steps(
 
 // A call, when its tables are checked. The caller checks them, so that the rooms of the check and those of the change are not on the stack
 // at the same time. The room for a byte of each function is used for what they weigh, and then for their new labels.
+// Tables and lists are parameters of their own: a struct of mutable slices would need a clause that each field still lends the caller's.
 pub fn change(
     checked: Result<(), Refusal>,
     call: Call,
@@ -237,6 +240,7 @@ pub fn change(
     checked?;
     let total = plan.cell_total() as usize;
     let count = plan.function_total() as usize;
+    // no heap: room of the largest size, of which the front is used
     let mut cell_room = [0u8; MOST_CELLS];
     let mut function_room = [0u8; MOST_FUNCTIONS];
     let flags = &mut cell_room[..total];

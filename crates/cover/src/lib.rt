@@ -16,6 +16,7 @@ ghost use Rattle.grid.specs.Bounds.{most_cells};
 use grid::{MOST_FUNCTIONS, Plan, Side};
 
 // 1 where a function has byte 2 and the least byte of its support is 1, 0 for any other.
+// The number stands beside the slices, since each reaches to the end of its table.
 fn pick(functions: &[u8], least: &[u8], out: &mut [u8], n: usize)
     requires { (n ≤ length functions.now) × (n ≤ length least.now) × (n ≤ length out.old) }
     ensures { out.new ≡ filled 0 n (picked functions.now least.now) out.old }
@@ -80,17 +81,10 @@ pub fn coarsenable_functions(plan: Plan, functions: &[u8], reactivables: &[u8], 
     requires functions_len { (length functions.now ≡ function_total plan) × (NonZero plan reactivables.now) × (length out.old ≡ function_total plan) }
     ensures { out.new ≡ tabulate (function_total plan) (coarsenable_byte plan functions.now reactivables.now) }
 {
-    let room = MOST_FUNCTIONS;
+    // no heap: rooms of the largest size
     let mut scratch = [0u8; MOST_FUNCTIONS];
     let mut least = [0u8; MOST_FUNCTIONS];
-    coarsenable_levels(
-        plan,
-        functions,
-        reactivables,
-        out,
-        &mut scratch[..room],
-        &mut least[..room],
-    );
+    coarsenable_levels(plan, functions, reactivables, out, &mut scratch, &mut least);
 }
 
 // A row of cells: the value of each is read at its first function. Columns with no corner between them are one run of bytes.
@@ -166,8 +160,8 @@ pub fn cover(plan: Plan, values: &[u8], out: &mut [u8])
     requires values_len { (length values.now ≡ function_total plan) × (length out.old ≡ cell_total plan) }
     ensures { out.new ≡ tabulate (cell_total plan) (least_value plan values.now) }
 {
-    let room = MOST_FUNCTIONS;
+    // no heap: rooms of the largest size
     let mut scratch = [0u8; MOST_FUNCTIONS];
     let mut table = [0u8; MOST_FUNCTIONS];
-    cover_levels(plan, values, out, &mut scratch[..room], &mut table[..room]);
+    cover_levels(plan, values, out, &mut scratch, &mut table);
 }

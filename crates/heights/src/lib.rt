@@ -59,7 +59,8 @@ fn unit(levels: u32) -> f64
     unit
 }
 
-// What a level adds: of its functions only those over the point are read.
+// What a level adds: of its functions only those over the point are read. Functions and heights are two slices and no struct, which would make
+// each clause longer.
 fn level_height(
     plan: Plan,
     functions: &[u8],

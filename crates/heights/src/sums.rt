@@ -38,6 +38,7 @@ fn row(
     ensures { result ≡ dyadic (places part.levels) (row_sum functions.now heights.now first across value) }
 {
     let mut sum = 0.0;
+    // degree + 1, since ..= would give the proof a second exit
     for j in 0..across.degree + 1 {
         let at = first + j as usize;
         if functions[at] == 1 {

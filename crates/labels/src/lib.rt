@@ -1,5 +1,6 @@
 // The function table that the cells fix, and refusal 6. A label is the smallest byte of the function's support: all labels of a level are
 // made at once, as windows of its cells.
+// That the cells are a mesh stands in the clauses and not in a type: docs/ARCHITECTURE.md names `write_labels`, which may not ask more.
 #![tactic(auto)]
 
 ghost use Rattle.std.specs.Prelude.{◌≡◌, ◌+◌, ◌≤◌, ◌<◌, length};
@@ -41,6 +42,7 @@ pub fn write_labels(plan: Plan, cells: &[u8], out: &mut [u8])
     ensures { out.new ≡ labels plan cells.now }
 {
     let count = plan.function_total() as usize;
+    // no heap: room of the largest size, of which the front is used
     let mut scratch = [0u8; MOST_FUNCTIONS];
     write_levels(plan, cells, out, &mut scratch[..count]);
 }
@@ -62,6 +64,7 @@ pub fn is_labelled(plan: Plan, cells: &[u8], functions: &[u8]) -> bool
     ensures { result ≡ is_labelled plan cells.now functions.now }
 {
     let count = plan.function_total() as usize;
+    // no heap: room of the largest size, of which the front is used
     let mut made = [0u8; MOST_FUNCTIONS];
     labelled(plan, cells, functions, &mut made[..count])
 }

@@ -1,5 +1,5 @@
 // The nesting of cells: refusal 4, which refined cells are reactivable, and the bytes of those that are not refined. Each cell is read with
-// its parent, row by row.
+// its parent, row by row. That the table has the cells of its plan stands in the clauses and not in a type, which would ask more of callers.
 #![tactic(auto)]
 
 ghost use Rattle.std.specs.Prelude.{◌≡◌, cond, ℕ, ◌+◌, ◌-◌, ◌*◌, ◌≤◌, ◌<◌, eqb, length};
@@ -79,7 +79,7 @@ fn byte_fits(byte: u8, most: u8, present: bool) -> bool
     }
 }
 
-// The same of the n cells from `at` on.
+// The same of the n cells from `at` on. Here and below a run is given by its place in the table, of which the clauses speak.
 fn all_fit(cells: &[u8], at: usize, n: usize, most: u8, present: bool) -> bool
     requires { at + n ≤ length cells.now }
     ensures { result ≡ every_from at n (cell_byte_fits cells.now most present) }

@@ -83,7 +83,7 @@ fn corner_of(
     }
 }
 
-// A corner put at a place of the output, its floats as their bits; the place after it.
+// A corner put at a place of the output, its floats as their bits; the place after it. The output is lent whole, as the clauses speak of it.
 fn put(out: &mut [u64], at: usize, corner: Corner) -> usize
     requires at_in_bounds { at + 3 ≤ length out.old }
     requires numbers { Numbers corner }

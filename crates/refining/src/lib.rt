@@ -50,6 +50,7 @@ fn make(
     ensures { Made (by_of by) plan cells.now functions.now marks.now cell_room function_room (number_of result) new_cells.new new_functions.new }
 {
     let total = plan.cell_total() as usize;
+    // no heap: room of the largest size, of which the front is used
     let mut room = [0u8; MOST_CELLS];
     let flags = &mut room[..total];
     let call = Call(Direction::Refine, by);
@@ -85,6 +86,7 @@ fn finish(
     ensures { left_with_heights (answer_of result) cells functions heights cell_list function_list ≡ finished plan cells.old functions.old heights.old cell_list.old function_list.old new_cells.now new_functions.now }
 {
     let count = plan.function_total() as usize;
+    // no heap: room of the largest size, of which the front is used
     let mut room = [0i32; MOST_HEIGHTS];
     let carried = &mut room[..count];
     let low = carry::carry_beside(plan, functions, new_functions, heights, carried);
@@ -119,6 +121,7 @@ pub fn refine(
     checked?;
     let total = plan.cell_total() as usize;
     let count = plan.function_total() as usize;
+    // no heap: room of the largest size, of which the front is used
     let mut cell_room = [0u8; MOST_CELLS];
     let mut function_room = [0u8; MOST_FUNCTIONS];
     let new_cells = &mut cell_room[..total];
