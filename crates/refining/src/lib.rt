@@ -31,8 +31,8 @@ pub fn tables_refusal(
     heights::refusal(plan, functions, heights)
 }
 
-// The first of refusals 7 to 11, if any, or the cells and functions of the refined mesh, made beside the old ones, which are only read, as are of both lists
-// the lengths.
+// The first of refusals 7 to 11, if any, or the cells and functions of the refined mesh, made beside the old ones, which are only read, as
+// are of both lists the lengths.
 #[inline(never)]
 fn make(
     by: By,
