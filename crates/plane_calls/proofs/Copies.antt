@@ -11,7 +11,7 @@ use Rattle.grid.specs.declared.Plan.{Plan}
 use Rattle.grid.specs.Plan.{cell_total}
 use Rattle.mesh.specs.Mesh.{refined}
 use Rattle.planes.specs.Bits.{words_for, bytes_of, Within, plane_of, is_present, present_of, refined_of, are_small}
-use Rattle.planes.specs.Planes.{cells_refusal, pack_refusal, packed, unpack_refusal, unpacked, order_refusal}
+use Rattle.planes.specs.Planes.{cells_refusal, pack_refusal, packed, unpack_refusal, unpacked}
 use Rattle.planes.proofs.Laws.{words_enough, ordered_within}
 use Rattle.planes.proofs.Copies.{both_right, pack_refused, unpack_taken, unpack_refused, unpack_of}
 use Rattle.plane_calls.proofs.Rooms.{room_enough}
@@ -51,20 +51,16 @@ module _ (p : Plan) (cs P R : List ℕ) where
 
 -- ---- to cells
 
-module _ (p : Plan) (P R cs : List ℕ) {n m : ℕ} (f : m ≡ cells_refusal p P R cs) (e : n ≡ order_refusal p P R m) where
-  number_is : n ≡ unpack_refusal p P R cs
-  unfolding unpack_refusal
-  number_is = e ∙ ap (order_refusal p P R) f
+module _ (p : Plan) (P R cs : List ℕ) where
+  pub unpack_early : {n : ℕ} → n ≡ unpack_refusal p P R cs → n ≢ 0 → record { number = n; cells = cs } ≡ unpacked p P R cs
+  unpack_early e z = rw e (sym (unpack_refused p P R cs (λ x. z (e ∙ x))))
 
-  pub unpack_early : n ≢ 0 → record { number = n; cells = cs } ≡ unpacked p P R cs
-  unpack_early z = rw number_is (sym (unpack_refused p P R cs (λ x. z (number_is ∙ x))))
-
-  module _ (z : n ≡ 0) where
-    pub sizes_0 : cells_refusal p P R cs ≡ 0
-    sizes_0 = (unpack_of p P R cs (sym number_is ∙ z)).0
-
+  module _ (z : unpack_refusal p P R cs ≡ 0) where
     pub within_0 : Within P R
-    within_0 = let b = (both_right p P R cs sizes_0).0 in ordered_within (cell_total p) P R b.present b.refined (unpack_of p P R cs (sym number_is ∙ z)).1
+    within_0 =
+        let k = unpack_of p P R cs z in
+        let b = (both_right p P R cs k.0).0 in
+        ordered_within (cell_total p) P R b.present b.refined k.1
 
     pub unpack_made : {cs' : List ℕ} → cs' ≡ bytes_of (length cs) P R → record { number = 0; cells = cs' } ≡ unpacked p P R cs
-    unpack_made a = rw (a, (both_right p P R cs sizes_0).1) (sym (unpack_taken p P R cs (sym number_is ∙ z)))
+    unpack_made a = rw (a, (both_right p P R cs (unpack_of p P R cs z).0).1) (sym (unpack_taken p P R cs z))

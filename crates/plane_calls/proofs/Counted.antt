@@ -29,19 +29,19 @@ module _ (n : ℕ) (P R : List ℕ) where
   unfolding refined byte_is
   refined_bytes_lem = rw (length_bytes n P R)
 
-module _ (p : Plan) (P R fs : List ℕ) {n : ℕ} (e : n ≡ check_planes p P R fs) where
-  pub counted_planes : n ≡ 0 → Words P → Words R → {a r f x : ℕ} → a ≡ sum (length P) (active_ones P R) → r ≡ sum (length R) (ones_at R) → f ≡ tally (length fs) (byte_is fs 1)
-      → x ≡ rows_at p (p.levels - 1) * columns_at p (p.levels - 1) → record { number = n; active = a; refined = r; functions = f; area = x } ≡ count_planes p P R fs
+module _ (p : Plan) (P R fs : List ℕ) where
+  pub counted_planes : 0 ≡ check_planes p P R fs → Words P → Words R → {a r f x : ℕ} → a ≡ sum (length P) (active_ones P R) → r ≡ sum (length R) (ones_at R) → f ≡ tally (length fs) (byte_is fs 1)
+      → x ≡ rows_at p (p.levels - 1) * columns_at p (p.levels - 1) → record { number = 0; active = a; refined = r; functions = f; area = x } ≡ count_planes p P R fs
   unfolding count_planes
-  counted_planes z sP sR ea er ef ex =
-      let k = check_of p P R fs (sym e ∙ z) in
+  counted_planes e sP sR ea er ef ex =
+      let k = check_of p P R fs (sym e) in
       let h = holding_of p P R fs (held_of p P R fs k.0) sP sR in
-      rw k.0 (counted p (cells_of p P R) fs (z ∙ sym k.1) z
+      rw k.0 (counted p (cells_of p P R) fs (sym k.1) refl
       (ea ∙ active_tally (cell_total p) P R h ∙ active_bytes (cell_total p) P R)
       (er ∙ refined_tally (cell_total p) P R h ∙ refined_bytes_lem (cell_total p) P R) ef ex)
 
-  pub uncounted_planes : n ≢ 0 → record { number = n; active = 0; refined = 0; functions = 0; area = 0 } ≡ count_planes p P R fs
+  pub uncounted_planes : {n : ℕ} → n ≡ check_planes p P R fs → n ≢ 0 → record { number = n; active = 0; refined = 0; functions = 0; area = 0 } ≡ count_planes p P R fs
   unfolding count_planes
-  uncounted_planes z = cases (eqb (refusal4 p P R fs) 0)
+  uncounted_planes e z = cases (eqb (refusal4 p P R fs) 0)
       (λ t. let k = eqb→eq (refusal4 p P R fs) 0 t in rw k (uncounted p (cells_of p P R) fs (e ∙ sym (check_held p P R fs k)) z))
       (λ t. let k = differ (refusal4 p P R fs) 0 t in rw (ne_eqb (refusal4 p P R fs) 0 k, e ∙ sym (check_early p P R fs refl k)))

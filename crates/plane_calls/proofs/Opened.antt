@@ -102,9 +102,9 @@ module _ (p : Plan) (P R fs : List ℕ) where
     unfolding refined_of
     refined_ds = rw (length_ds, sizes.0.refined) (plane_same (words_for (cell_total p)) _ _ (λ c l. sym (fresh_refined (cell_total p) (cell_offset p 1) first_fits c)))
 
-    pub opened_planes : {n a b : ℕ} {P' R' : List ℕ} (gs : List ℕ) → n ≡ 0 → a ≡ cell_offset p 1 → P' ≡ plane_of (length P) (below a) → R' ≡ plane_of (length R) (below 0)
-        → b ≡ function_offset p 1 → Written fs gs 0 (length fs) (fresh_byte b) → record { number = n; present = P'; refined = R'; functions = gs } ≡ open_planes p P R fs
+    pub opened_planes : {a b : ℕ} {P' R' : List ℕ} (gs : List ℕ) → a ≡ cell_offset p 1 → P' ≡ plane_of (length P) (below a) → R' ≡ plane_of (length R) (below 0)
+        → b ≡ function_offset p 1 → Written fs gs 0 (length fs) (fresh_byte b) → record { number = 0; present = P'; refined = R'; functions = gs } ≡ open_planes p P R fs
     unfolding open_planes refusal3
-    opened_planes gs z ea eP eR eb w =
+    opened_planes gs ea eP eR eb w =
         let o = opened p (cells_of p P R) fs ds gs (refuse_0 p (cells_of p P R) fs sizes.0.plan (length_bytes (cell_total p) P R) sizes.1) refl refl ds_written refl (rw eb at w) in
-        rw (e, z, eP, eR, ea, present_ds, refined_ds, o.1.0, o.1.1, o.0)
+        rw (e, eP, eR, ea, present_ds, refined_ds, o.1.0, o.1.1, o.0)

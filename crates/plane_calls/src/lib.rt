@@ -2,12 +2,15 @@
 // of its own, calls the byte call's parts on them, and makes planes of what they leave.
 #![tactic(auto)]
 
-ghost use Rattle.std.specs.Prelude.{◌≡◌, ◌*◌, ◌≤◌, length, take};
+ghost use Rattle.std.specs.Prelude.{◌≡◌, not, cond, ◌*◌, ◌≤◌, eqb, length, take};
+ghost use Rattle.refusals.specs.Numbers.{number_of};
 ghost use Rattle.facts.specs.Numbers.{Clear};
 ghost use Rattle.grid.specs.Plan.{cell_total};
 ghost use Rattle.grid.specs.Range.{InRange};
 ghost use Rattle.calls.specs.Parts.{direction_of, by_of};
 ghost use Rattle.mesh.specs.Mesh.{check, refined as isRefined};
+ghost use Rattle.mesh.specs.Answers.{count_of};
+ghost use Rattle.outcomes.specs.Answers.{answer_of};
 ghost use Rattle.outcomes.specs.Calls.{outcome};
 ghost use Rattle.planes.specs.Bits.{words_for, bytes_of, Within, plane_of, is_present};
 ghost use Rattle.planes.specs.Planes.{planes_length, sized, size_refusal, refusal3, cells_refusal, order_refusal, refusal4, cells_of, open_planes, check_planes, count_planes, on_planes, packed, unpacked};
@@ -17,8 +20,9 @@ ghost use Rattle.plane_calls.specs.Steps.{InRoom};
 
 use calls::Call;
 use grid::Plan;
-use mesh::Count;
-use outcomes::Answer;
+use mesh::Counts;
+use outcomes::Changes;
+use refusals::Refusal;
 
 // The bytes of as many whole words as the largest plane has: 342.
 const ROOM: usize = 21888;
@@ -35,81 +39,72 @@ fn word_count(plan: Plan) -> usize
 pub fn len(plan: Plan) -> usize
     ensures { result ≡ planes_length plan }
 {
-    if plan.refusal() == 0 {
-        return word_count(plan);
+    match plan.refusal() {
+        Ok(()) => word_count(plan),
+        Err(_) => 0,
     }
-    0
 }
 
-// Refusals 1 to 3 of planes, or 0.
-fn planes_refusal(plan: Plan, present: &[u64], refined: &[u64]) -> u32
-    ensures { result ≡ size_refusal plan (sized plan present.now refined.now) }
+// The first of refusals 1 to 3 of planes, if any.
+fn planes_refusal(plan: Plan, present: &[u64], refined: &[u64]) -> Result<(), Refusal>
+    ensures { number_of result ≡ size_refusal plan (sized plan present.now refined.now) }
 {
-    let number = plan.refusal();
-    if number != 0 {
-        return number;
-    }
+    plan.refusal()?;
     let words = word_count(plan);
-    if present.len() != words {
-        return 3;
+    if present.len() != words || refined.len() != words {
+        return Err(Refusal::TableLength);
     }
-    if refined.len() != words {
-        return 3;
-    }
-    0
+    Ok(())
 }
 
-// The same of planes and functions.
-fn refusal(plan: Plan, present: &[u64], refined: &[u64], functions: &[u8]) -> u32
-    ensures { result ≡ refusal3 plan present.now refined.now functions.now }
+// 3 for a table that has another length.
+fn length_refusal(table: &[u8], entries: u32) -> Result<(), Refusal>
+    ensures { number_of result ≡ cond (not (eqb (length table.now) entries)) 3 0 }
 {
-    let number = planes_refusal(plan, present, refined);
-    if number != 0 {
-        return number;
+    if table.len() != entries as usize {
+        return Err(Refusal::TableLength);
     }
-    let labels = plan.function_total() as usize;
-    if functions.len() != labels {
-        return 3;
-    }
-    0
+    Ok(())
 }
 
-// The same of planes and cells.
-fn cells_refusal(plan: Plan, present: &[u64], refined: &[u64], cells: &[u8]) -> u32
-    ensures { result ≡ cells_refusal plan present.now refined.now cells.now }
+// 1 to 3 of planes and functions.
+fn refusal(plan: Plan, present: &[u64], refined: &[u64], functions: &[u8]) -> Result<(), Refusal>
+    ensures { number_of result ≡ refusal3 plan present.now refined.now functions.now }
 {
-    let number = planes_refusal(plan, present, refined);
-    if number != 0 {
-        return number;
-    }
-    let total = plan.cell_total() as usize;
-    if cells.len() != total {
-        return 3;
-    }
-    0
+    planes_refusal(plan, present, refined)?;
+    length_refusal(functions, plan.function_total())
 }
 
-// Then 4 for planes that are not in order.
-fn order_refusal(plan: Plan, present: &[u64], refined: &[u64], number: u32) -> u32
-    requires { number ≡ 0 → size_refusal plan (sized plan present.now refined.now) ≡ 0 }
-    ensures { result ≡ order_refusal plan present.now refined.now number }
+// 1 to 3 of planes and cells.
+fn cells_refusal(plan: Plan, present: &[u64], refined: &[u64], cells: &[u8]) -> Result<(), Refusal>
+    ensures { number_of result ≡ cells_refusal plan present.now refined.now cells.now }
 {
-    if number != 0 {
-        return number;
-    }
-    let total = plan.cell_total() as usize;
-    if words::in_order(present, refined, total) {
-        return 0;
-    }
-    4
+    planes_refusal(plan, present, refined)?;
+    length_refusal(cells, plan.cell_total())
 }
 
-// Refusals 1 to 4 by planes and functions.
-fn early_refusal(plan: Plan, present: &[u64], refined: &[u64], functions: &[u8]) -> u32
-    ensures { result ≡ refusal4 plan present.now refined.now functions.now }
+// 4 for planes that are not in order.
+fn order_refusal(plan: Plan, present: &[u64], refined: &[u64]) -> Result<(), Refusal>
+    requires { size_refusal plan (sized plan present.now refined.now) ≡ 0 }
+    ensures { number_of result ≡ order_refusal plan present.now refined.now 0 }
 {
-    let number = refusal(plan, present, refined, functions);
-    order_refusal(plan, present, refined, number)
+    if !words::in_order(present, refined, plan.cell_total() as usize) {
+        return Err(Refusal::NotAMesh);
+    }
+    Ok(())
+}
+
+// 1 to 4 by planes and functions.
+fn early_refusal(
+    plan: Plan,
+    present: &[u64],
+    refined: &[u64],
+    functions: &[u8],
+) -> Result<(), Refusal>
+    ensures { number_of result ≡ refusal4 plan present.now refined.now functions.now }
+{
+    refusal(plan, present, refined, functions)?;
+    order_refusal(plan, present, refined)
 }
 
 // The bytes of planes that are in order, made in a room for whole words, and what check says of the cells.
@@ -119,10 +114,10 @@ fn check_bytes(
     refined: &[u64],
     functions: &[u8],
     bytes: &mut [u8],
-) -> u32
+) -> Result<(), Refusal>
     requires functions_value { refusal4 plan present.now refined.now functions.now ≡ 0 }
     requires bytes_len { length bytes.old ≡ 64 * length present.now }
-    ensures number { result ≡ check plan (cells_of plan present.now refined.now) functions.now }
+    ensures number { number_of result ≡ check plan (cells_of plan present.now refined.now) functions.now }
     ensures bytes { bytes.new ≡ bytes_of (64 * length present.now) present.now refined.now }
 {
     packing::unpack(present, refined, bytes);
@@ -130,64 +125,54 @@ fn check_bytes(
     tables::check(plan, &bytes[..total], functions)
 }
 
-// 0, or the first of refusals 1 to 6.
-pub fn check(plan: Plan, present: &[u64], refined: &[u64], functions: &[u8]) -> u32
-    ensures { result ≡ check_planes plan present.now refined.now functions.now }
+// The first of refusals 1 to 6, if any.
+pub fn check(plan: Plan, present: &[u64], refined: &[u64], functions: &[u8]) -> Result<(), Refusal>
+    ensures { number_of result ≡ check_planes plan present.now refined.now functions.now }
 {
-    let number = early_refusal(plan, present, refined, functions);
-    if number != 0 {
-        return number;
-    }
+    early_refusal(plan, present, refined, functions)?;
     let whole = 64 * present.len();
     let mut room = [0u8; ROOM];
     let bytes = &mut room[..whole];
     check_bytes(plan, present, refined, functions, bytes)
 }
 
-// Active cells, refined cells, active functions and the area; zeros with a refusal. Cells are counted by ones in whole words.
-pub fn count(plan: Plan, present: &[u64], refined: &[u64], functions: &[u8]) -> Count
-    ensures { result ≡ count_planes plan present.now refined.now functions.now }
+// Active cells, refined cells, active functions and the area. Cells are counted by ones in whole words.
+pub fn count(
+    plan: Plan,
+    present: &[u64],
+    refined: &[u64],
+    functions: &[u8],
+) -> Result<Counts, Refusal>
+    ensures { count_of result ≡ count_planes plan present.now refined.now functions.now }
 {
-    let number = check(plan, present, refined, functions);
-    if number == 0 {
-        let active = words::count_active(present, refined);
-        let set = words::count_set(refined);
-        let labels = tables::bytes::tally(functions, 1);
-        return Count {
-            number,
-            active,
-            refined: set,
-            functions: labels,
-            area: tables::area(plan),
-        };
-    }
-    Count {
-        number,
-        active: 0,
-        refined: 0,
-        functions: 0,
-        area: 0,
-    }
+    check(plan, present, refined, functions)?;
+    Ok(Counts {
+        active: words::count_active(present, refined),
+        refined: words::count_set(refined),
+        functions: tables::bytes::tally(functions, 1),
+        area: tables::area(plan),
+    })
 }
 
 // Level 0 cells and functions 1, the rest 0; nothing with a refusal.
-pub fn open(plan: Plan, present: &mut [u64], refined: &mut [u64], functions: &mut [u8]) -> u32
-    ensures { left_by_open result present refined functions ≡ open_planes plan present.old refined.old functions.old }
+pub fn open(
+    plan: Plan,
+    present: &mut [u64],
+    refined: &mut [u64],
+    functions: &mut [u8],
+) -> Result<(), Refusal>
+    ensures { left_by_open (number_of result) present refined functions ≡ open_planes plan present.old refined.old functions.old }
 {
-    let number = refusal(plan, present, refined, functions);
-    if number == 0 {
-        let first = plan.cell_offset(1) as usize;
-        words::fresh(present, first);
-        words::fresh(refined, 0);
-        let labels = plan.function_offset(1) as usize;
-        tables::bytes::fresh(functions, labels);
-    }
-    number
+    refusal(plan, present, refined, functions)?; // nothing is written before
+    words::fresh(present, plan.cell_offset(1) as usize);
+    words::fresh(refined, 0);
+    tables::bytes::fresh(functions, plan.function_offset(1) as usize);
+    Ok(())
 }
 
 // A call on the cells that a room begins with. What stands after them stays.
 fn change_bytes(
-    checked: u32,
+    checked: Result<(), Refusal>,
     call: Call,
     plan: Plan,
     bytes: &mut [u8],
@@ -195,10 +180,10 @@ fn change_bytes(
     marks: &[u32],
     cell_list: &mut [u32],
     function_list: &mut [u32],
-) -> Answer
+) -> Result<Changes, Refusal>
     requires in_range { (InRange plan) × (cell_total plan ≤ length bytes.old) }
-    requires checked_value { checked ≡ check plan (take (cell_total plan) bytes.old) functions.old }
-    ensures { InRoom (outcome (direction_of call.0) (by_of call.1) plan (take (cell_total plan) bytes.old) functions.old marks.now cell_list.old function_list.old) (cell_total plan) result bytes functions cell_list function_list }
+    requires checked_value { number_of checked ≡ check plan (take (cell_total plan) bytes.old) functions.old }
+    ensures { InRoom (outcome (direction_of call.0) (by_of call.1) plan (take (cell_total plan) bytes.old) functions.old marks.now cell_list.old function_list.old) (cell_total plan) (answer_of result) bytes functions cell_list function_list }
 {
     let total = plan.cell_total() as usize;
     calls::change(
@@ -224,13 +209,13 @@ fn change_in(
     cell_list: &mut [u32],
     function_list: &mut [u32],
     bytes: &mut [u8],
-) -> Answer
+) -> Result<Changes, Refusal>
     requires functions_value { refusal4 plan present.old refined.old functions.old ≡ 0 }
     requires bytes_len { length bytes.old ≡ 64 * length present.old }
-    ensures { MeetsOnPlanes (on_planes (outcome (direction_of call.0) (by_of call.1)) plan) result present refined functions marks cell_list function_list }
+    ensures { MeetsOnPlanes (on_planes (outcome (direction_of call.0) (by_of call.1)) plan) (answer_of result) present refined functions marks cell_list function_list }
 {
     let checked = check_bytes(plan, present, refined, functions, bytes);
-    let answer = change_bytes(
+    let changes = change_bytes(
         checked,
         call,
         plan,
@@ -239,11 +224,9 @@ fn change_in(
         marks,
         cell_list,
         function_list,
-    );
-    if answer.number == 0 {
-        packing::pack(bytes, present, refined);
-    }
-    answer
+    )?;
+    packing::pack(bytes, present, refined);
+    Ok(changes)
 }
 
 // One of the four calls. Planes are written only where the call is accepted.
@@ -256,13 +239,10 @@ pub fn change(
     marks: &[u32],
     cell_list: &mut [u32],
     function_list: &mut [u32],
-) -> Answer
-    ensures { MeetsOnPlanes (on_planes (outcome (direction_of call.0) (by_of call.1)) plan) result present refined functions marks cell_list function_list }
+) -> Result<Changes, Refusal>
+    ensures { MeetsOnPlanes (on_planes (outcome (direction_of call.0) (by_of call.1)) plan) (answer_of result) present refined functions marks cell_list function_list }
 {
-    let number = early_refusal(plan, present, refined, functions);
-    if number != 0 {
-        return changes::refuse(number);
-    }
+    early_refusal(plan, present, refined, functions)?;
     let whole = 64 * present.len();
     let mut room = [0u8; ROOM];
     let bytes = &mut room[..whole];
@@ -287,26 +267,28 @@ fn pack_cells(cells: &[u8], bytes: &mut [u8], present: &mut [u64], refined: &mut
     ensures { (present.new ≡ plane_of (length present.old) (is_present cells.now)) × (refined.new ≡ plane_of (length present.old) (isRefined cells.now)) }
 {
     let total = cells.len();
-    changes::copy_bytes(&mut bytes[..total], cells);
+    bytes[..total].copy_from_slice(cells);
     packing::pack(bytes, present, refined);
 }
 
 // The planes of a cell table: refuses 1 to 3, and 4 for another byte than 0, 1, 2.
-pub fn from_cells(plan: Plan, cells: &[u8], present: &mut [u64], refined: &mut [u64]) -> u32
-    ensures { left_by_pack result present refined ≡ packed plan cells.now present.old refined.old }
+pub fn from_cells(
+    plan: Plan,
+    cells: &[u8],
+    present: &mut [u64],
+    refined: &mut [u64],
+) -> Result<(), Refusal>
+    ensures { left_by_pack (number_of result) present refined ≡ packed plan cells.now present.old refined.old }
 {
-    let number = cells_refusal(plan, present, refined, cells);
-    if number != 0 {
-        return number;
+    cells_refusal(plan, present, refined, cells)?;
+    if !packing::are_small(cells) {
+        return Err(Refusal::NotAMesh);
     }
-    if packing::are_small(cells) {
-        let whole = 64 * present.len();
-        let mut room = [0u8; ROOM];
-        let bytes = &mut room[..whole];
-        pack_cells(cells, bytes, present, refined);
-        return 0;
-    }
-    4
+    let whole = 64 * present.len();
+    let mut room = [0u8; ROOM];
+    let bytes = &mut room[..whole];
+    pack_cells(cells, bytes, present, refined);
+    Ok(())
 }
 
 // The bytes of the first cells of planes, by way of a room for whole words.
@@ -317,21 +299,23 @@ fn unpack_cells(present: &[u64], refined: &[u64], bytes: &mut [u8], cells: &mut 
 {
     packing::unpack(present, refined, bytes);
     let total = cells.len();
-    changes::copy_bytes(cells, &bytes[..total]);
+    cells.copy_from_slice(&bytes[..total]);
 }
 
 // The cell table that planes hold: refuses 1 to 3, and 4 for planes that are not in order.
-pub fn to_cells(plan: Plan, present: &[u64], refined: &[u64], cells: &mut [u8]) -> u32
-    ensures { left_by_unpack result cells ≡ unpacked plan present.now refined.now cells.old }
+pub fn to_cells(
+    plan: Plan,
+    present: &[u64],
+    refined: &[u64],
+    cells: &mut [u8],
+) -> Result<(), Refusal>
+    ensures { left_by_unpack (number_of result) cells ≡ unpacked plan present.now refined.now cells.old }
 {
-    let sizes = cells_refusal(plan, present, refined, cells);
-    let number = order_refusal(plan, present, refined, sizes);
-    if number != 0 {
-        return number;
-    }
+    cells_refusal(plan, present, refined, cells)?;
+    order_refusal(plan, present, refined)?;
     let whole = 64 * present.len();
     let mut room = [0u8; ROOM];
     let bytes = &mut room[..whole];
     unpack_cells(present, refined, bytes, cells);
-    0
+    Ok(())
 }

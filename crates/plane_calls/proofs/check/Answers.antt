@@ -1,30 +1,32 @@
 -- `check` meets its contract. Assumes nothing.
 use mathlib.Core.Path.{refl, sym, ◌∙◌}
+use Prim.Native.Nat.{◌*◌, ◌≤◌}
 use native.Mathlib.Omega.{arith}
+use lib.ListN.{length}
+use Rattle.refusals.proofs.Refused.{refused, handed_on}
 use Rattle.facts.proofs.Zeros.{zeros, part_length}
-use Rattle.planes.proofs.Refusals.{Held, held_of}
-use Rattle.planes.proofs.Refusals.{check_early, check_held}
+use Rattle.planes.proofs.Refusals.{held_of, check_early, check_held}
 use Rattle.plane_calls.proofs.Rooms.{held_room}
 use Rattle.plane_calls.proofs.check.Goals as goal
-use Rattle.plane_calls.proofs.check.Goals.{Else-number-ne0}
+use Rattle.plane_calls.proofs.check.Goals.{In_ok-early_refusal}
 
-held : (c : Else-number-ne0) → let a = c.args in Held a.plan a.present.now a.refined.now a.functions.now
-held c = held_of _ _ _ _ (sym c.early_refusal-number.ensures ∙ c.if-number-ne0.false)
+fits : (c : In_ok-early_refusal) → 64 * length c.args.present.now ≤ 21888
+fits c = held_room (held_of _ _ _ _ (sym c.in_ok-early_refusal.ensures))
 
-pub returns-then-number-ne0 : goal.returns-then-number-ne0
-returns-then-number-ne0 c = check_early _ _ _ _ c.early_refusal-number.ensures c.if-number-ne0.true
+pub returns-in_err-early_refusal : goal.returns-in_err-early_refusal
+returns-in_err-early_refusal c = rw (handed_on _ c.from_residual.ensures.1) (check_early _ _ _ _ c.in_err-early_refusal.ensures (refused c.in_err-early_refusal.field-0.0))
 
 pub overflow_mul-whole : goal.overflow_mul-whole
-overflow_mul-whole c = omega (arith, held_room (held (goal.at.overflow_mul-whole c).Else-number-ne0))
+overflow_mul-whole c = omega (arith, fits (goal.at.overflow_mul-whole c).In_ok-early_refusal)
 
 pub slice_bounds-room-end : goal.slice_bounds-room-end
-slice_bounds-room-end c = omega (arith, held_room (held (goal.at.slice_bounds-room-end c).Else-number-ne0))
+slice_bounds-room-end c = fits (goal.at.slice_bounds-room-end c).In_ok-early_refusal
 
 pub slice_bounds-bytes-end : goal.slice_bounds-bytes-end
-slice_bounds-bytes-end c = zeros 21888 _ (held_room (held (goal.at.slice_bounds-bytes-end c).Else-number-ne0))
+slice_bounds-bytes-end c = zeros 21888 _ (fits (goal.at.slice_bounds-bytes-end c).In_ok-early_refusal)
 
 pub check_bytes-requires : goal.check_bytes-requires
-check_bytes-requires c = record { functions_value = sym c.early_refusal-number.ensures ∙ c.if-number-ne0.false; bytes_len = part_length 21888 _ refl (held_room (held (goal.at.check_bytes-requires c).Else-number-ne0)) }
+check_bytes-requires c = record { functions_value = sym c.in_ok-early_refusal.ensures; bytes_len = part_length 21888 _ refl (fits (goal.at.check_bytes-requires c).In_ok-early_refusal) }
 
 pub returns : goal.returns
-returns c = c.check_bytes.ensures.number ∙ check_held _ _ _ _ (sym c.early_refusal-number.ensures ∙ c.if-number-ne0.false)
+returns c = c.check_bytes.ensures.number ∙ check_held _ _ _ _ (sym c.in_ok-early_refusal.ensures)

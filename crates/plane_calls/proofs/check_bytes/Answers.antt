@@ -9,9 +9,9 @@ use Rattle.mesh.specs.Mesh.{check}
 use Rattle.planes.proofs.Refusals.{Held, held_of}
 use Rattle.plane_calls.proofs.Rooms.{same_words, held_within, held_cells, cells_are}
 use Rattle.plane_calls.proofs.check_bytes.Goals as goal
-use Rattle.plane_calls.proofs.check_bytes.Goals.{After-cell_total-total, After-shared_slice_known-1}
+use Rattle.plane_calls.proofs.check_bytes.Goals.{After-cell_total-total, Start}
 
-held : (c : After-shared_slice_known-1) → let a = c.args in Held a.plan a.present.now a.refined.now a.functions.now
+held : (c : Start) → let a = c.args in Held a.plan a.present.now a.refined.now a.functions.now
 held c = held_of _ _ _ _ c.requires.functions_value
 
 held_1 : (c : After-cell_total-total) → let a = c.args in Held a.plan a.present.now a.refined.now a.functions.now
@@ -22,10 +22,10 @@ fits : (c : After-cell_total-total) → c.cell_total-total.result ≤ length c.u
 fits c = omega (arith, held_cells (held_1 c), c.cell_total-total.ensures, c.unpack.auto.bytes, c.requires.bytes_len)
 
 pub unpack-requires : goal.unpack-requires
-unpack-requires c = record { refined_len = (same_words (held (goal.at.unpack-requires c).After-shared_slice_known-1), c.requires.bytes_len); within = held_within (held (goal.at.unpack-requires c).After-shared_slice_known-1) }
+unpack-requires c = record { refined_len = (same_words (held (goal.at.unpack-requires c).Start), c.requires.bytes_len); within = held_within (held (goal.at.unpack-requires c).Start) }
 
 pub cell_total-total-requires : goal.cell_total-total-requires
-cell_total-total-requires c = (held (goal.at.cell_total-total-requires c).After-shared_slice_known-1).sizes.range
+cell_total-total-requires c = (held (goal.at.cell_total-total-requires c).Start).sizes.range
 
 pub slice_bounds-check-end : goal.slice_bounds-check-end
 slice_bounds-check-end c = fits (goal.at.slice_bounds-check-end c).After-cell_total-total
@@ -34,4 +34,4 @@ pub slice_bounds-check-end-2 : goal.slice_bounds-check-end-2
 slice_bounds-check-end-2 c = sym (length-take-le _ _ (fits (goal.at.slice_bounds-check-end-2 c).After-cell_total-total))
 
 pub returns : goal.returns
-returns c = record { number = c.check.ensures ∙ ap (λ (cs : List ℕ). check c.args.plan cs c.args.functions.now) (cells_are (held (goal.at.returns c).After-shared_slice_known-1) _ _ c.cell_total-total.ensures c.unpack.ensures); bytes = c.unpack.ensures }
+returns c = record { number = c.check.ensures ∙ ap (λ (cs : List ℕ). check c.args.plan cs c.args.functions.now) (cells_are (held (goal.at.returns c).Start) _ _ c.cell_total-total.ensures c.unpack.ensures); bytes = c.unpack.ensures }

@@ -1,30 +1,31 @@
 -- `open` meets its contract. Nothing is written before the refusals are decided. Assumes nothing.
-use mathlib.Core.Path.{◌≡◌, sym, ◌∙◌}
+use mathlib.Core.Path.{◌≡◌, sym}
+use Rattle.refusals.proofs.Refused.{refused, handed_on}
 use Rattle.planes.specs.Planes.{refusal3}
 use Rattle.plane_calls.proofs.Opened.{unopened_planes, sizes, few_present, few_refined, labels_fit, opened_planes}
 use Rattle.plane_calls.proofs.open.Goals as goal
-use Rattle.plane_calls.proofs.open.Goals.{Then-number-eq0}
+use Rattle.plane_calls.proofs.open.Goals.{In_ok-refusal}
 
-passes : (c : Then-number-eq0) → let a = c.args in refusal3 a.plan a.present.now a.refined.now a.functions.now ≡ 0
-passes c = sym c.refusal-number.ensures ∙ c.if-number-eq0.true
+passes : (c : In_ok-refusal) → let a = c.args in refusal3 a.plan a.present.now a.refined.now a.functions.now ≡ 0
+passes c = sym c.in_ok-refusal.ensures
 
-pub cell_offset-first-requires : goal.cell_offset-first-requires
-cell_offset-first-requires c = let r = (sizes _ _ _ _ (passes (goal.at.cell_offset-first-requires c).Then-number-eq0)).0.range in record { in_range = r; level_le_levels = r.levels≥ }
+pub returns-in_err-refusal : goal.returns-in_err-refusal
+returns-in_err-refusal c = rw (handed_on _ c.from_residual.ensures.1) (unopened_planes _ _ _ _ c.in_err-refusal.ensures (refused c.in_err-refusal.field-0.0))
+
+pub cell_offset-requires : goal.cell_offset-requires
+cell_offset-requires c = let r = (sizes _ _ _ _ (passes (goal.at.cell_offset-requires c).In_ok-refusal)).0.range in record { in_range = r; level_le_levels = r.levels≥ }
 
 pub fresh-requires : goal.fresh-requires
-fresh-requires c = few_present _ _ _ _ (passes (goal.at.fresh-requires c).Then-number-eq0)
+fresh-requires c = few_present _ _ _ _ (passes (goal.at.fresh-requires c).In_ok-refusal)
 
-pub fresh-requires-then-number-eq0 : goal.fresh-requires-then-number-eq0
-fresh-requires-then-number-eq0 c = few_refined _ _ _ _ (passes (goal.at.fresh-requires-then-number-eq0 c).Then-number-eq0)
+pub fresh-requires-2 : goal.fresh-requires-2
+fresh-requires-2 c = few_refined _ _ _ _ (passes (goal.at.fresh-requires-2 c).In_ok-refusal)
 
-pub function_offset-labels-requires : goal.function_offset-labels-requires
-function_offset-labels-requires c = let r = (sizes _ _ _ _ (passes (goal.at.function_offset-labels-requires c).Then-number-eq0)).0.range in record { in_range = r; level_le_levels = r.levels≥ }
+pub function_offset-requires : goal.function_offset-requires
+function_offset-requires c = let r = (sizes _ _ _ _ (passes (goal.at.function_offset-requires c).In_ok-refusal)).0.range in record { in_range = r; level_le_levels = r.levels≥ }
 
-pub fresh-requires-then-number-eq0-2 : goal.fresh-requires-then-number-eq0-2
-fresh-requires-then-number-eq0-2 c = rw c.function_offset-labels.ensures (labels_fit _ _ _ _ (passes (goal.at.fresh-requires-then-number-eq0-2 c).Then-number-eq0))
+pub fresh-requires-3 : goal.fresh-requires-3
+fresh-requires-3 c = rw c.function_offset.ensures (labels_fit _ _ _ _ (passes (goal.at.fresh-requires-3 c).In_ok-refusal))
 
-pub returns-then-number-eq0 : goal.returns-then-number-eq0
-returns-then-number-eq0 c = opened_planes _ _ _ _ (passes (goal.at.returns-then-number-eq0 c).Then-number-eq0) _ c.if-number-eq0.true c.cell_offset-first.ensures c.fresh.ensures c.fresh-then-number-eq0.ensures c.function_offset-labels.ensures c.fresh-then-number-eq0-2.ensures
-
-pub returns-else-number-eq0 : goal.returns-else-number-eq0
-returns-else-number-eq0 c = unopened_planes _ _ _ _ c.refusal-number.ensures c.if-number-eq0.false
+pub returns : goal.returns
+returns c = opened_planes _ _ _ _ (passes (goal.at.returns c).In_ok-refusal) _ c.cell_offset.ensures c.fresh.ensures c.fresh-2.ensures c.function_offset.ensures c.fresh-3.ensures

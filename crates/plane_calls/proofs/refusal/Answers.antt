@@ -1,21 +1,21 @@
 -- `refusal` meets its contract: the planes first. Assumes nothing.
-use mathlib.Core.Path.{sym, ◌∙◌}
-use Rattle.grid.specs.Plan.{function_total}
+use mathlib.Core.Path.{sym, ap, ◌∙◌}
+use mathlib.Core.Bool.{not, cond}
+use Prim.Native.Nat.{ℕ}
+use lib.Dec.{eqb}
+use lib.ListN.{length}
+use Rattle.refusals.proofs.Refused.{refused, handed_on}
 use Rattle.planes.specs.Planes.{refusal3}
-use Rattle.planes.proofs.Refusals.{more_refused, sized_of, third, none}
+use Rattle.planes.proofs.Refusals.{more_refused, more_length, sized_of}
 use Rattle.plane_calls.proofs.refusal.Goals as goal
 
-pub returns-then-number-ne0 : goal.returns-then-number-ne0
+pub returns-in_err-planes_refusal : goal.returns-in_err-planes_refusal
 unfolding refusal3
-returns-then-number-ne0 c = more_refused _ _ _ c.planes_refusal-number.ensures c.if-number-ne0.true
+returns-in_err-planes_refusal c = rw (handed_on _ c.from_residual.ensures.1) (more_refused _ _ _ c.in_err-planes_refusal.ensures (refused c.in_err-planes_refusal.field-0.0))
 
-pub function_total-labels-requires : goal.function_total-labels-requires
-function_total-labels-requires c = (sized_of _ _ _ (sym c.planes_refusal-number.ensures ∙ c.if-number-ne0.false)).range
-
-pub returns-then-functions-labels : goal.returns-then-functions-labels
-unfolding refusal3
-returns-then-functions-labels c = third _ _ _ c.args.functions.now (function_total c.args.plan) (sym c.planes_refusal-number.ensures ∙ c.if-number-ne0.false) (λ e. c.if-functions-labels.true (e ∙ sym c.function_total-labels.ensures))
+pub function_total-requires : goal.function_total-requires
+function_total-requires c = (sized_of _ _ _ (sym c.in_ok-planes_refusal.ensures)).range
 
 pub returns : goal.returns
 unfolding refusal3
-returns c = none _ _ _ c.args.functions.now (function_total c.args.plan) (sym c.planes_refusal-number.ensures ∙ c.if-number-ne0.false) (c.if-functions-labels.false ∙ c.function_total-labels.ensures)
+returns c = c.length_refusal.ensures ∙ (ap (λ (n : ℕ). cond (not (eqb (length c.args.functions.now) n)) 3 0) c.function_total.ensures ∙ sym (more_length _ _ _ (sym c.in_ok-planes_refusal.ensures)))

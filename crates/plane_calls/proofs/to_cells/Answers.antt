@@ -1,36 +1,48 @@
 -- `to_cells` meets its contract. Assumes nothing.
-use mathlib.Core.Path.{◌≡◌, refl, sym, ◌∙◌}
+use mathlib.Core.Path.{◌≡◌, refl, sym, ap, ◌∙◌}
 use native.Mathlib.Omega.{arith}
+use Rattle.refusals.proofs.Refused.{refused, handed_on}
 use Rattle.facts.proofs.Zeros.{zeros, part_length}
-use Rattle.planes.specs.Planes.{cells_refusal}
-use Rattle.planes.proofs.Refusals.{less_length}
-use Rattle.plane_calls.proofs.Copies.{both_words, both_room, cells_fit, unpack_early, sizes_0, within_0, unpack_made}
+use Rattle.planes.specs.Planes.{cells_refusal, order_refusal, unpack_refusal}
+use Rattle.planes.proofs.Refusals.{less_length, order_before}
+use Rattle.plane_calls.proofs.Copies.{both_words, both_room, cells_fit, unpack_early, within_0, unpack_made}
 use Rattle.plane_calls.proofs.to_cells.Goals as goal
-use Rattle.plane_calls.proofs.to_cells.Goals.{Else-number-ne0}
+use Rattle.plane_calls.proofs.to_cells.Goals.{In_ok-cells_refusal, In_ok-order_refusal}
 
-sizes : (c : Else-number-ne0) → let a = c.args in cells_refusal a.plan a.present.now a.refined.now a.cells.now ≡ 0
-sizes c = sizes_0 _ _ _ _ c.cells_refusal-sizes.ensures c.order_refusal-number.ensures c.if-number-ne0.false
+sizes : (c : In_ok-cells_refusal) → let a = c.args in cells_refusal a.plan a.present.now a.refined.now a.cells.now ≡ 0
+sizes c = sym c.in_ok-cells_refusal.ensures
 
-pub order_refusal-number-requires : goal.order_refusal-number-requires
+taken : (c : In_ok-order_refusal) → let a = c.args in 0 ≡ unpack_refusal a.plan a.present.now a.refined.now a.cells.now
+unfolding unpack_refusal
+taken c = c.in_ok-order_refusal.ensures ∙ ap (order_refusal _ _ _) c.in_ok-cells_refusal.ensures
+
+pub returns-in_err-cells_refusal : goal.returns-in_err-cells_refusal
+unfolding unpack_refusal
+returns-in_err-cells_refusal c = let e = c.in_err-cells_refusal in
+    rw (handed_on _ c.from_residual.ensures.1) (unpack_early _ _ _ _ (order_before _ _ _ _ (refused e.field-0.0) ∙ ap (order_refusal _ _ _) e.ensures) (refused e.field-0.0))
+
+pub order_refusal-requires : goal.order_refusal-requires
 unfolding cells_refusal
-order_refusal-number-requires c = λ z. less_length _ _ _ (sym c.cells_refusal-sizes.ensures ∙ z)
+order_refusal-requires c = less_length _ _ _ (sym c.in_ok-cells_refusal.ensures)
 
-pub returns-then-number-ne0 : goal.returns-then-number-ne0
-returns-then-number-ne0 c = unpack_early _ _ _ _ c.cells_refusal-sizes.ensures c.order_refusal-number.ensures c.if-number-ne0.true
+pub returns-in_err-order_refusal : goal.returns-in_err-order_refusal
+unfolding unpack_refusal
+returns-in_err-order_refusal c = let e = c.in_err-order_refusal in
+    rw (handed_on _ c.from_residual-in_err-order_refusal.ensures.1) (unpack_early _ _ _ _ (e.ensures ∙ ap (order_refusal _ _ _) c.in_ok-cells_refusal.ensures) (refused e.field-0.0))
 
 pub overflow_mul-whole : goal.overflow_mul-whole
-overflow_mul-whole c = omega (arith, both_room _ _ _ c.args.cells.now (sizes (goal.at.overflow_mul-whole c).Else-number-ne0))
+overflow_mul-whole c = omega (arith, both_room _ _ _ c.args.cells.now (sizes (goal.at.overflow_mul-whole c).In_ok-cells_refusal))
 
 pub slice_bounds-room-end : goal.slice_bounds-room-end
-slice_bounds-room-end c = omega (arith, both_room _ _ _ c.args.cells.now (sizes (goal.at.slice_bounds-room-end c).Else-number-ne0))
+slice_bounds-room-end c = both_room _ _ _ c.args.cells.now (sizes (goal.at.slice_bounds-room-end c).In_ok-cells_refusal)
 
 pub slice_bounds-bytes-end : goal.slice_bounds-bytes-end
-slice_bounds-bytes-end c = zeros 21888 _ (both_room _ _ _ _ (sizes (goal.at.slice_bounds-bytes-end c).Else-number-ne0))
+slice_bounds-bytes-end c = zeros 21888 _ (both_room _ _ _ _ (sizes (goal.at.slice_bounds-bytes-end c).In_ok-cells_refusal))
 
 pub unpack_cells-requires : goal.unpack_cells-requires
-unpack_cells-requires c = let z = sizes (goal.at.unpack_cells-requires c).Else-number-ne0 in
+unpack_cells-requires c = let z = sizes (goal.at.unpack_cells-requires c).In_ok-cells_refusal in
     let l = part_length 21888 _ refl (both_room _ _ _ _ z) in
-    record { refined_len = (both_words _ _ _ _ z, l); cells_in_bounds = (omega (arith, cells_fit _ _ _ _ z, l), within_0 _ _ _ _ c.cells_refusal-sizes.ensures c.order_refusal-number.ensures c.if-number-ne0.false) }
+    record { refined_len = (both_words _ _ _ _ z, l); cells_in_bounds = (omega (arith, cells_fit _ _ _ _ z, l), within_0 _ _ _ _ (sym (taken (goal.at.unpack_cells-requires c).In_ok-order_refusal))) }
 
 pub returns : goal.returns
-returns c = unpack_made _ _ _ _ c.cells_refusal-sizes.ensures c.order_refusal-number.ensures c.if-number-ne0.false c.unpack_cells.ensures
+returns c = unpack_made _ _ _ _ (sym (taken (goal.at.returns c).In_ok-order_refusal)) c.unpack_cells.ensures
