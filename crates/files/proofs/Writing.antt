@@ -25,7 +25,6 @@ use Rattle.codec.specs.Numbers.{encode_numbers}
 use Rattle.codec.specs.Fitting.{Small}
 use Rattle.listing.specs.declared.Measured.{Measured}
 use Rattle.listing.specs.Cells.{refined_below, refined_bytes, Measures}
-use Rattle.files.specs.declared.WriteAnswer.{WriteAnswer}
 use Rattle.files.specs.File.{head_numbers, encode_file, file_of, WriteOutcome, unwritten, write_text, write_mesh}
 use Rattle.files.proofs.Coarse.{coarser, coarser_le, listed_coarser}
 use Rattle.files.proofs.Coding.{head_small}
@@ -86,10 +85,9 @@ module _ (p : Plan) (cells part : List ℕ) (k : Part p cells part) (m : Measure
 
 -- ---- a text in the lent bytes
 
-pub too_few : (text file : List ℕ) (r : WriteAnswer) → length file < length text → r ≡ record { number = 10; length = 0 }
-    → ◌≡◌ {A = WriteOutcome} (record { answer = r; file = file }) (write_text text file)
-unfolding write_text unwritten
-too_few text file r h e = rw (lt-ltb (length file) (length text) h, e) refl
+pub too_few : (text file : List ℕ) → length file < length text → unwritten 10 file ≡ write_text text file
+unfolding write_text
+too_few text file h = rw (lt-ltb (length file) (length text) h) refl
 
 wrote : (text file new : List ℕ) (n r : ℕ) → length text ≤ length file → n ≡ length text → Writes file 0 text r new
     → ◌≡◌ {A = WriteOutcome} (record { answer = record { number = 0; length = n }; file = new }) (write_text text file)
@@ -114,9 +112,9 @@ module _ (p : Plan) (cells part : List ℕ) (k : Part p cells part) (m : Measure
 -- ---- the check before
 
 module _ (p : Plan) (cs fs file : List ℕ) (n : ℕ) (e : n ≡ check p cs fs) where
-  pub unchecked : n ≢ 0 → (r : WriteAnswer) → r ≡ record { number = n; length = 0 } → ◌≡◌ {A = WriteOutcome} (record { answer = r; file = file }) (write_mesh p cs fs file)
-  unfolding write_mesh unwritten
-  unchecked z r q = rw (← e, ne_eqb n 0 z, q) refl
+  pub unchecked : n ≢ 0 → unwritten n file ≡ write_mesh p cs fs file
+  unfolding write_mesh
+  unchecked z = rw (← e, ne_eqb n 0 z) refl
 
   pub room : n ≡ 0 → MeshTable p cs × (cell_total p ≤ most_cells)
   room z =

@@ -6,7 +6,7 @@ use lib.ListN.{length, take}
 use lib.Seq.{length-take-le}
 use Rattle.codec.specs.Fitting.{Small}
 use Rattle.codec.proofs.Lists.{numbers_short}
-use Rattle.files.specs.File.{head_numbers, file_of}
+use Rattle.files.specs.File.{head_numbers, file_of, unwritten}
 use Rattle.files.proofs.Coding.{corners_fit}
 use Rattle.files.proofs.CornerNumbers.{corners_short}
 use Rattle.files.proofs.Writing.{Part, coarser_fits, coarse, small_head, file_length, too_few, wrote_parts}
@@ -80,8 +80,9 @@ pub overflow_add-length-2 : goal.overflow_add-length-2
 overflow_add-length-2 c = omega (arith, all_few (goal.at.overflow_add-length-2 c).After-size_corners)
 
 pub returns-then-file-length : goal.returns-then-file-length
+unfolding unwritten
 returns-then-file-length c = let a = c.args in
-    too_few _ a.file.now c.unwritten.result (omega (arith, c.if-file-length.true, length_is (goal.at.returns-then-file-length c).After-size_corners)) c.unwritten.ensures
+    too_few _ a.file.now (omega (arith, c.if-file-length.true, length_is (goal.at.returns-then-file-length c).After-size_corners))
 
 pub write_all-at-requires : goal.write_all-at-requires
 write_all-at-requires c = record { small = small (goal.at.write_all-at-requires c).After-measure-listed; numbers_in_bounds = omega (arith, c.if-file-length.false, c.size_all.ensures) }
