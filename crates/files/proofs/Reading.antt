@@ -99,7 +99,7 @@ module _ (p : Plan) (table : List ℕ) (whole : Bool) where
 
 -- ---- the rebuilt table
 
-module _ (s : List ℕ) (h : Outline) (g : GoodFile s h) where
+module _ {s : List ℕ} {h : Outline} (g : GoodFile s h) where
   -- the listed cells, all below t where the last is
   cells_below : (t : ℕ) → h.last < t → T (all (λ c. ltb c t) (cells_of s h))
   unfolding cells_of numbers_of
@@ -110,7 +110,7 @@ module _ (s : List ℕ) (h : Outline) (g : GoodFile s h) where
   unfolding cells_of numbers_of
   last_is = ends_good 0 h.last (decode_rising h.count (drop h.first s)) g.behind g.cells (λ cs e q. rw e q)
 
-  module _ (p : Plan) (t new : List ℕ) (l : h.last < length t) (z : Clear t) (e : new ≡ marked_by (decode_rising h.count (drop h.first s)) t) where
+  module _ (p : Plan) (t : List ℕ) {new : List ℕ} (l : h.last < length t) (z : Clear t) (e : new ≡ marked_by (decode_rising h.count (drop h.first s)) t) where
     new_is : new ≡ marked (cells_of s h) t
     unfolding cells_of numbers_of marked_by
     new_is = ends_good 0 h.last (decode_rising h.count (drop h.first s)) g.behind g.cells (λ cs q _. e ∙ rw q refl)
@@ -130,9 +130,9 @@ module _ (s : List ℕ) (h : Outline) (g : GoodFile s h) where
   -- ---- the outcome
 
   -- refusals 1 to 3
-  pub read_early : (cs fs : List ℕ) (n : ℕ) → n ≡ refusal3 h.plan cs fs → n ≢ 0 → refused_with h.plan cs fs n ≡ read_mesh s cs fs
+  pub read_early : (cs fs : List ℕ) {n : ℕ} → n ≡ refusal3 h.plan cs fs → n ≢ 0 → refused_with h.plan cs fs n ≡ read_mesh s cs fs
   unfolding read_mesh read_file read_refusal
-  read_early cs fs n e z = rw (g.file, ← e, ne_eqb n 0 z, ne_eqb n 0 z) refl
+  read_early cs fs {n} e z = rw (g.file, ← e, ne_eqb n 0 z, ne_eqb n 0 z) refl
 
   module _ (cs fs : List ℕ) (e : refusal3 h.plan cs fs ≡ 0) where
     abbrev p : Plan
@@ -160,11 +160,11 @@ module _ (s : List ℕ) (h : Outline) (g : GoodFile s h) where
         absurd (omega (arith, all_last 0 (cells_of s h) (cell_total p) (cells_some p (passed p cs fs e).range) a, last_is))) in
         refused_with_lem 4 (rw f refl) refl
 
-    module _ (l : h.last < cell_total p) (n : ℕ) (whole : Bool) (w : whole ≡ eqb h.end (length s)) (r : n ≡ table_refusal p (rebuilt p (cells_of s h)) whole) where
-      whole_is : eqb (length (drop h.end s)) 0 ≡ whole
-      whole_is = sym (w ∙ same (eqb h.end (length s)) (eqb (length (drop h.end s)) 0)
+    module _ (l : h.last < cell_total p) {n : ℕ} (r : n ≡ table_refusal p (rebuilt p (cells_of s h)) (eqb h.end (length s))) where
+      whole_is : eqb (length (drop h.end s)) 0 ≡ eqb h.end (length s)
+      whole_is = same (eqb (length (drop h.end s)) 0) (eqb h.end (length s))
+          (λ t. eqb_of h.end (length s) (omega (arith, length-drop h.end s, eqb→eq (length (drop h.end s)) 0 t, g.inside)))
           (λ t. eqb_of (length (drop h.end s)) 0 (omega (arith, length-drop h.end s, eqb→eq h.end (length s) t)))
-          (λ t. eqb_of h.end (length s) (omega (arith, length-drop h.end s, eqb→eq (length (drop h.end s)) 0 t, g.inside))))
 
       refusal_is : refusal13 p (cells_of s h) (drop h.end s) ≡ n
       unfolding refusal13 table_refusal
