@@ -1,13 +1,16 @@
 -- What follows when a file is judged: the table that its cells give, refusals 4, 5 and 13, and the outcome. Assumes nothing.
 use mathlib.Core.Path.{◌≡◌, refl, sym, ap, ◌∙◌, fun_ext}
-use mathlib.Core.Bool.{Bool, true, false, not, ◌||◌, cond}
+use mathlib.Core.Bool.{Bool, true, false}
 use mathlib.Core.List.{List}
-use mathlib.Core.Logic.{◌≢◌}
+use mathlib.Core.Logic.{◌≢◌, ◌⊎◌, inl, inr}
 use Prim.Native.Nat.{ℕ, ◌≤◌, ◌<◌}
 use native.Mathlib.Omega.{arith}
 use lib.Dec.{T, ltb, eqb, eqb→eq, ltb→lt}
 use lib.ListN.{length, drop, length-drop}
 use borrow.Author.Tests.{eq-eqb, ne_eqb}
+use Rattle.refusals.specs.Numbers.{number}
+use Rattle.refusals.specs.declared.Refusal.{Refusal}
+use Rattle.refusals.specs.declared.Refusal.TheVariants.{PlanOutOfRange, TooManyCells, TableLength, NotAMesh, NotAdmissible, WrongFunctionByte, MarkOutOfRange, MarkOfWrongKind, MarkOfLastLevel, CellListTooShort, FunctionListTooShort, MalformedFile, TrailingBytes, PlanWithoutHeights, PointOrHeightOutOfRange, TooManyCellsToProject, CarriedHeightOutOfRange, DraftOpen, NoDraft, RefinedCellNotWanted}
 use Rattle.facts.specs.Numbers.{elem, all}
 use Rattle.facts.proofs.Tests.{cases, same, not_e, T_true, T_false, eqb_of}
 use Rattle.facts.proofs.Numbers.{all_e}
@@ -25,7 +28,6 @@ use Rattle.listing.specs.Cells.{marked, marked_by}
 use Rattle.listing.proofs.Judging.{ends_good, last_all, all_last}
 use Rattle.listing.proofs.Tables.{marked_yes, marked_no}
 use Rattle.files.specs.declared.Outline.{Outline}
-use Rattle.files.specs.declared.ReadAnswer.{ReadAnswer}
 use Rattle.files.specs.File.{bad_file, decode_file, rebuilt, refusal13, read_refusal, no_plan, answered_plan, ReadOutcome, read_file, read_mesh}
 use Rattle.files.specs.Steps.{numbers_of, cells_of, GoodFile, table_refusal}
 
@@ -35,13 +37,39 @@ rebuilt_size p cells = length_table_of p (λ c. elem c cells)
 
 -- ---- which plan is answered
 
-pub answered_none : (n : ℕ) (p : Plan) → (eqb n 1 || eqb n 2) ≡ true → answered_plan n p ≡ no_plan
+-- none with refusals 1 and 2
+pub answered_none : (r : Refusal) (p : Plan) → (r ≡ PlanOutOfRange) ⊎ (r ≡ TooManyCells) → answered_plan (number r) p ≡ no_plan
 unfolding answered_plan
-answered_none n p e = rw e refl
+answered_none r p (inl e) = rw e refl
+answered_none r p (inr e) = rw e refl
 
-pub answered_some : (n : ℕ) (p : Plan) → (eqb n 1 || eqb n 2) ≡ false → answered_plan n p ≡ p
+-- the file's with the others
+pub answered_some : (r : Refusal) (p : Plan) → r ≢ PlanOutOfRange → r ≢ TooManyCells → answered_plan (number r) p ≡ p
 unfolding answered_plan
-answered_some n p e = rw e refl
+answered_some PlanOutOfRange p a b = absurd (a refl)
+answered_some TooManyCells p a b = absurd (b refl)
+answered_some TableLength p a b = refl
+answered_some NotAMesh p a b = refl
+answered_some NotAdmissible p a b = refl
+answered_some WrongFunctionByte p a b = refl
+answered_some MarkOutOfRange p a b = refl
+answered_some MarkOfWrongKind p a b = refl
+answered_some MarkOfLastLevel p a b = refl
+answered_some CellListTooShort p a b = refl
+answered_some FunctionListTooShort p a b = refl
+answered_some MalformedFile p a b = refl
+answered_some TrailingBytes p a b = refl
+answered_some PlanWithoutHeights p a b = refl
+answered_some PointOrHeightOutOfRange p a b = refl
+answered_some TooManyCellsToProject p a b = refl
+answered_some CarriedHeightOutOfRange p a b = refl
+answered_some DraftOpen p a b = refl
+answered_some NoDraft p a b = refl
+answered_some RefinedCellNotWanted p a b = refl
+
+-- a refusal of a file that is judged
+abbrev pub refused_with : Plan → List ℕ → List ℕ → ℕ → ReadOutcome
+refused_with p cs fs n = record { answer = record { number = n; plan = answered_plan n p }; cells = cs; functions = fs }
 
 -- ---- refusal 12
 
@@ -69,20 +97,9 @@ module _ (p : Plan) (table : List ℕ) (whole : Bool) where
   unfolding table_refusal
   with_none a b w = rw (a, b, w) refl
 
--- they are neither 1 nor 2
-not_early : (p : Plan) (table : List ℕ) (whole : Bool) → (eqb (table_refusal p table whole) 1 || eqb (table_refusal p table whole) 2) ≡ false
-unfolding table_refusal
-not_early p table whole = go (is_mesh p table) (is_admissible p table) whole
-  where
-    go : (a b w : Bool) → (eqb (cond (not a) 4 (cond (not b) 5 (cond (not w) 13 0))) 1 || eqb (cond (not a) 4 (cond (not b) 5 (cond (not w) 13 0))) 2) ≡ false
-    go false b w = refl
-    go true false w = refl
-    go true true false = refl
-    go true true true = refl
-
 -- ---- the rebuilt table
 
-module _ (s : List ℕ) (h : Outline) (g : GoodFile s h) where
+module _ {s : List ℕ} {h : Outline} (g : GoodFile s h) where
   -- the listed cells, all below t where the last is
   cells_below : (t : ℕ) → h.last < t → T (all (λ c. ltb c t) (cells_of s h))
   unfolding cells_of numbers_of
@@ -93,7 +110,7 @@ module _ (s : List ℕ) (h : Outline) (g : GoodFile s h) where
   unfolding cells_of numbers_of
   last_is = ends_good 0 h.last (decode_rising h.count (drop h.first s)) g.behind g.cells (λ cs e q. rw e q)
 
-  module _ (p : Plan) (t new : List ℕ) (l : h.last < length t) (z : Clear t) (e : new ≡ marked_by (decode_rising h.count (drop h.first s)) t) where
+  module _ (p : Plan) (t : List ℕ) {new : List ℕ} (l : h.last < length t) (z : Clear t) (e : new ≡ marked_by (decode_rising h.count (drop h.first s)) t) where
     new_is : new ≡ marked (cells_of s h) t
     unfolding cells_of numbers_of marked_by
     new_is = ends_good 0 h.last (decode_rising h.count (drop h.first s)) g.behind g.cells (λ cs q _. e ∙ rw q refl)
@@ -113,10 +130,9 @@ module _ (s : List ℕ) (h : Outline) (g : GoodFile s h) where
   -- ---- the outcome
 
   -- refusals 1 to 3
-  pub read_early : (cs fs : List ℕ) (n : ℕ) (r : ReadAnswer) → n ≡ refusal3 h.plan cs fs → n ≢ 0 → r ≡ record { number = n; plan = answered_plan n h.plan }
-      → ◌≡◌ {A = ReadOutcome} (record { answer = r; cells = cs; functions = fs }) (read_mesh s cs fs)
+  pub read_early : (cs fs : List ℕ) {n : ℕ} → n ≡ refusal3 h.plan cs fs → n ≢ 0 → refused_with h.plan cs fs n ≡ read_mesh s cs fs
   unfolding read_mesh read_file read_refusal
-  read_early cs fs n r e z q = rw (g.file, ← e, ne_eqb n 0 z, ne_eqb n 0 z, q) refl
+  read_early cs fs {n} e z = rw (g.file, ← e, ne_eqb n 0 z, ne_eqb n 0 z) refl
 
   module _ (cs fs : List ℕ) (e : refusal3 h.plan cs fs ≡ 0) where
     abbrev p : Plan
@@ -127,10 +143,9 @@ module _ (s : List ℕ) (h : Outline) (g : GoodFile s h) where
     unfolding read_refusal
     late n q = rw (eq-eqb (refusal3 p cs fs) 0 e, q) refl
 
-    refused_with_lem : (n : ℕ) → refusal13 p (cells_of s h) (drop h.end s) ≡ n → eqb n 0 ≡ false → (eqb n 1 || eqb n 2) ≡ false
-        → ◌≡◌ {A = ReadOutcome} (record { answer = record { number = n; plan = p }; cells = cs; functions = fs }) (read_mesh s cs fs)
+    refused_with_lem : (n : ℕ) → refusal13 p (cells_of s h) (drop h.end s) ≡ n → eqb n 0 ≡ false → refused_with p cs fs n ≡ read_mesh s cs fs
     unfolding read_mesh read_file
-    refused_with_lem n q z o = rw (g.file, late n q, z, answered_some n p o) refl
+    refused_with_lem n q z = rw (g.file, late n q, z) refl
 
     done : refusal13 p (cells_of s h) (drop h.end s) ≡ 0
         → ◌≡◌ {A = ReadOutcome} (record { answer = record { number = 0; plan = p }; cells = rebuilt p (cells_of s h); functions = labels p (rebuilt p (cells_of s h)) }) (read_mesh s cs fs)
@@ -138,18 +153,18 @@ module _ (s : List ℕ) (h : Outline) (g : GoodFile s h) where
     done q = rw (g.file, late 0 q) refl
 
     -- 4 for a cell of T or more
-    pub read_beyond : cell_total p ≤ h.last → ◌≡◌ {A = ReadOutcome} (record { answer = record { number = 4; plan = p }; cells = cs; functions = fs }) (read_mesh s cs fs)
+    pub read_beyond : cell_total p ≤ h.last → refused_with p cs fs 4 ≡ read_mesh s cs fs
     unfolding refusal13
     read_beyond b =
         let f : all (λ c. ltb c (cell_total p)) (cells_of s h) ≡ false = T_false (all (λ c. ltb c (cell_total p)) (cells_of s h)) (λ a.
         absurd (omega (arith, all_last 0 (cells_of s h) (cell_total p) (cells_some p (passed p cs fs e).range) a, last_is))) in
-        refused_with_lem 4 (rw f refl) refl refl
+        refused_with_lem 4 (rw f refl) refl
 
-    module _ (l : h.last < cell_total p) (n : ℕ) (whole : Bool) (w : whole ≡ eqb h.end (length s)) (r : n ≡ table_refusal p (rebuilt p (cells_of s h)) whole) where
-      whole_is : eqb (length (drop h.end s)) 0 ≡ whole
-      whole_is = sym (w ∙ same (eqb h.end (length s)) (eqb (length (drop h.end s)) 0)
+    module _ (l : h.last < cell_total p) {n : ℕ} (r : n ≡ table_refusal p (rebuilt p (cells_of s h)) (eqb h.end (length s))) where
+      whole_is : eqb (length (drop h.end s)) 0 ≡ eqb h.end (length s)
+      whole_is = same (eqb (length (drop h.end s)) 0) (eqb h.end (length s))
+          (λ t. eqb_of h.end (length s) (omega (arith, length-drop h.end s, eqb→eq (length (drop h.end s)) 0 t, g.inside)))
           (λ t. eqb_of (length (drop h.end s)) 0 (omega (arith, length-drop h.end s, eqb→eq h.end (length s) t)))
-          (λ t. eqb_of h.end (length s) (omega (arith, length-drop h.end s, eqb→eq (length (drop h.end s)) 0 t, g.inside))))
 
       refusal_is : refusal13 p (cells_of s h) (drop h.end s) ≡ n
       unfolding refusal13 table_refusal
@@ -163,9 +178,10 @@ module _ (s : List ℕ) (h : Outline) (g : GoodFile s h) where
       mesh_table z table q =
           record { sized = record { range = (passed p cs fs e).range; size = ap length q ∙ rebuilt_size p (cells_of s h) }; mesh = ap (is_mesh p) q ∙ now_mesh z }
 
-      pub read_refused : n ≢ 0 → ◌≡◌ {A = ReadOutcome} (record { answer = record { number = n; plan = p }; cells = cs; functions = fs }) (read_mesh s cs fs)
-      read_refused z = refused_with_lem n refusal_is (ne_eqb n 0 z) (rw r (not_early p (rebuilt p (cells_of s h)) whole))
+      pub read_refused : n ≢ 0 → refused_with p cs fs n ≡ read_mesh s cs fs
+      read_refused z = refused_with_lem n refusal_is (ne_eqb n 0 z)
 
       pub read_done : n ≡ 0 → (cells functions : List ℕ) → cells ≡ rebuilt p (cells_of s h) → functions ≡ labels p cells
-          → ◌≡◌ {A = ReadOutcome} (record { answer = record { number = n; plan = p }; cells = cells; functions = functions }) (read_mesh s cs fs)
-      read_done z cells functions a b = rw (z, b, a) (done (refusal_is ∙ z))
+          → ◌≡◌ {A = ReadOutcome} (record { answer = record { number = 0; plan = answered_plan 0 p }; cells = cells; functions = functions }) (read_mesh s cs fs)
+      unfolding answered_plan
+      read_done z cells functions a b = rw (b, a) (done (refusal_is ∙ z))

@@ -4,6 +4,7 @@
 
 ghost use Rattle.std.specs.Prelude.{◌≡◌, ◌+◌, ◌≤◌, ◌<◌, length};
 ghost use Rattle.facts.specs.Writing.{Writes};
+ghost use Rattle.refusals.specs.Numbers.{number, number_of};
 ghost use Rattle.codec.specs.Fitting.{number_limit};
 ghost use Rattle.grid.specs.Bounds.{most_cells};
 ghost use Rattle.grid.specs.Plan.{cell_total};
@@ -11,11 +12,20 @@ ghost use Rattle.mesh.specs.Mesh.{refusal3};
 ghost use Rattle.nesting.specs.Table.{CellTable, MeshTable};
 ghost use Rattle.files.specs.File.{no_corners, encode_corners, file_of, rebuilt, answered_plan, read_mesh, write_text, write_mesh};
 ghost use Rattle.facts.specs.Numbers.{Clear};
+ghost use Rattle.files.specs.Answers.{read_answer_of, judged_answer_of, write_answer_of};
 ghost use Rattle.files.specs.Steps.{left_by_read, left_by_write, ReadsCorners, plan_with, cells_of, GoodFile, JudgesFile, table_refusal};
 
 use grid::{MOST_CELLS, Plan};
+use refusals::Refusal;
 
-// What reading answers: a refusal or 0, and the plan, all zeros with refusals 1, 2 and 12.
+// Why reading is refused, and the plan that is answered nevertheless: all zeros with refusals 1, 2 and 12.
+#[derive(Clone, Copy)]
+pub struct ReadRefusal {
+    pub refusal: Refusal,
+    pub plan: Plan,
+}
+
+// What reading answers, for C, which has no enum that holds a value: a refusal or 0, and the plan.
 #[repr(C)]
 #[derive(Clone, Copy)]
 pub struct ReadAnswer {
@@ -23,12 +33,40 @@ pub struct ReadAnswer {
     pub plan: Plan,
 }
 
-// What writing answers: a refusal or 0, and how many bytes were written.
+impl From<Result<Plan, ReadRefusal>> for ReadAnswer {
+    ghost from_gives = { λ read answer. answer ≡ read_answer_of read };
+
+    fn from(read: Result<Plan, ReadRefusal>) -> ReadAnswer {
+        match read {
+            Ok(plan) => ReadAnswer { number: 0, plan },
+            Err(refused) => ReadAnswer {
+                number: u32::from(refused.refusal),
+                plan: refused.plan,
+            },
+        }
+    }
+}
+
+// The same of writing: a refusal or 0, and how many bytes were written.
 #[repr(C)]
 #[derive(Clone, Copy)]
 pub struct WriteAnswer {
     pub number: u32,
     pub length: u32,
+}
+
+impl From<Result<u32, Refusal>> for WriteAnswer {
+    ghost from_gives = { λ written answer. answer ≡ write_answer_of written };
+
+    fn from(written: Result<u32, Refusal>) -> WriteAnswer {
+        match written {
+            Ok(length) => WriteAnswer { number: 0, length },
+            Err(refusal) => WriteAnswer {
+                number: u32::from(refusal),
+                length: 0,
+            },
+        }
+    }
 }
 
 // A file that can be read: its plan, how many cells it lists and where their numbers begin, where the last number ends, and the last cell.
@@ -114,17 +152,15 @@ fn judge(s: &[u8]) -> Option<Outline>
     })
 }
 
-// Refusals 1 to 3: the plan is answered with 3 alone.
-fn refuse(number: u32, plan: Plan) -> ReadAnswer
-    ensures { result ≡ record { number = number; plan = answered_plan number plan } }
+// A refusal of a file that is judged: with 1 and 2 the plan is not answered.
+fn refuse(refusal: Refusal, plan: Plan) -> ReadRefusal
+    ensures { result ≡ record { refusal = refusal; plan = answered_plan (number refusal) plan } }
 {
-    if (number == 1) | (number == 2) {
-        return ReadAnswer {
-            number,
-            plan: Plan::default(),
-        };
-    }
-    ReadAnswer { number, plan }
+    let plan = match refusal {
+        Refusal::PlanOutOfRange | Refusal::TooManyCells => Plan::default(),
+        _ => plan,
+    };
+    ReadRefusal { refusal, plan }
 }
 
 // The listed cells refined in a table of zeros, and the other cells as they follow from these.
@@ -140,67 +176,62 @@ fn rebuild(file: &[u8], outline: Outline, table: &mut [u8])
 }
 
 // Refusals 4 and 5 of a rebuilt table, and 13.
-fn table_refusal(plan: Plan, table: &[u8], whole: bool) -> u32
+fn table_refusal(plan: Plan, table: &[u8], whole: bool) -> Result<(), Refusal>
     requires { (CellTable plan table.now) × (cell_total plan ≤ most_cells) }
-    ensures { result ≡ table_refusal plan table.now whole }
+    ensures { number_of result ≡ table_refusal plan table.now whole }
 {
-    if nesting::is_mesh(plan, table) {
-        if admissible::is_admissible(plan, table) {
-            if whole {
-                return 0;
-            }
-            return 13;
-        }
-        return 5;
+    if !nesting::is_mesh(plan, table) {
+        return Err(Refusal::NotAMesh);
     }
-    4
+    if !admissible::is_admissible(plan, table) {
+        return Err(Refusal::NotAdmissible);
+    }
+    if !whole {
+        return Err(Refusal::TrailingBytes);
+    }
+    Ok(())
 }
 
-// Reading, when the file is judged and the lent tables fit: the mesh is rebuilt beside them and taken over once nothing refuses it.
-fn restore(file: &[u8], outline: Outline, cells: &mut [u8], functions: &mut [u8]) -> ReadAnswer
+// Reading, when the file is judged: the mesh is rebuilt beside the lent tables, and taken over once nothing refuses it.
+fn restore(
+    file: &[u8],
+    outline: Outline,
+    cells: &mut [u8],
+    functions: &mut [u8],
+) -> Result<(), Refusal>
     requires good_file { GoodFile file.now outline }
-    requires functions_value { refusal3 outline.plan cells.old functions.old ≡ 0 }
-    ensures { left_by_read result cells functions ≡ read_mesh file.now cells.old functions.old }
+    ensures { left_by_read (judged_answer_of outline.plan result) cells functions ≡ read_mesh file.now cells.old functions.old }
 {
     let plan = outline.plan;
+    tables::refusal(plan, cells, functions)?;
     let total = plan.cell_total() as usize;
     if outline.last >= total as u64 {
-        return ReadAnswer { number: 4, plan };
+        return Err(Refusal::NotAMesh);
     }
     let mut room = [0u8; MOST_CELLS];
     let table = &mut room[..total];
     rebuild(file, outline, table);
-    let number = table_refusal(plan, table, outline.end == file.len());
-    if number == 0 {
-        changes::copy_bytes(cells, table);
-        labels::write_labels(plan, cells, functions);
-    }
-    ReadAnswer { number, plan }
+    table_refusal(plan, table, outline.end == file.len())?;
+    changes::copy_bytes(cells, table);
+    labels::write_labels(plan, cells, functions);
+    Ok(())
 }
 
-// Rebuilds both tables from a file; nothing with a refusal.
-pub fn read(file: &[u8], cells: &mut [u8], functions: &mut [u8]) -> ReadAnswer
-    ensures { left_by_read result cells functions ≡ read_mesh file.now cells.old functions.old }
+// Rebuilds both tables from a file, and answers the plan; nothing is written with a refusal.
+pub fn read(file: &[u8], cells: &mut [u8], functions: &mut [u8]) -> Result<Plan, ReadRefusal>
+    ensures { left_by_read (read_answer_of result) cells functions ≡ read_mesh file.now cells.old functions.old }
 {
     let Some(outline) = judge(file) else {
-        return ReadAnswer {
-            number: 12,
+        return Err(ReadRefusal {
+            refusal: Refusal::MalformedFile,
             plan: Plan::default(),
-        };
+        });
     };
     let plan = outline.plan;
-    let early = tables::refusal(plan, cells, functions);
-    if early != 0 {
-        return refuse(early, plan);
+    match restore(file, outline, cells, functions) {
+        Ok(()) => Ok(plan),
+        Err(refusal) => Err(refuse(refusal, plan)),
     }
-    restore(file, outline, cells, functions)
-}
-
-// A refusal answers its number, with length 0.
-fn unwritten(number: u32) -> WriteAnswer
-    ensures { result ≡ record { number = number; length = 0 } }
-{
-    WriteAnswer { number, length: 0 }
 }
 
 // How many bytes the corner numbers take.
@@ -229,9 +260,9 @@ fn write_corners(across: u32, up: u32, out: &mut [u8], at: usize) -> usize
 
 // Writing, when the tables are checked: the whole length is known before the first byte is written. No cell of the last level is
 // refined, so that level, most of the table, is not read.
-fn write_mesh(plan: Plan, cells: &[u8], file: &mut [u8]) -> WriteAnswer
+fn write_mesh(plan: Plan, cells: &[u8], file: &mut [u8]) -> Result<u32, Refusal>
     requires { (MeshTable plan cells.now) × (cell_total plan ≤ most_cells) }
-    ensures { left_by_write result file ≡ write_text (file_of plan cells.now) file.old }
+    ensures { left_by_write (write_answer_of result) file ≡ write_text (file_of plan cells.now) file.old }
 {
     let inner = plan.cell_offset(plan.levels - 1) as usize;
     let coarse = &cells[..inner];
@@ -249,24 +280,18 @@ fn write_mesh(plan: Plan, cells: &[u8], file: &mut [u8]) -> WriteAnswer
     let up = plan.corners_up;
     let length = codec::size_all(&head) + listed.bytes + size_corners(across, up);
     if file.len() < length {
-        return unwritten(10);
+        return Err(Refusal::CellListTooShort);
     }
     let at = codec::write_all(&head, file, 0);
     let end = listing::write_cells(coarse, file, at);
     write_corners(across, up, file, end);
-    WriteAnswer {
-        number: 0,
-        length: length as u32,
-    }
+    Ok(length as u32)
 }
 
-// Writes the file of a mesh; nothing with a refusal.
-pub fn write(plan: Plan, cells: &[u8], functions: &[u8], file: &mut [u8]) -> WriteAnswer
-    ensures { left_by_write result file ≡ write_mesh plan cells.now functions.now file.old }
+// Writes the file of a mesh, and answers how many bytes that are; nothing is written with a refusal.
+pub fn write(plan: Plan, cells: &[u8], functions: &[u8], file: &mut [u8]) -> Result<u32, Refusal>
+    ensures { left_by_write (write_answer_of result) file ≡ write_mesh plan cells.now functions.now file.old }
 {
-    let checked = tables::check(plan, cells, functions);
-    if checked != 0 {
-        return unwritten(checked);
-    }
+    tables::check(plan, cells, functions)?;
     write_mesh(plan, cells, file)
 }

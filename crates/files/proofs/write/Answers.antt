@@ -1,15 +1,17 @@
 -- `write` meets its contract. Assumes nothing.
-use Rattle.files.proofs.Writing.{unchecked, room, checked}
+use mathlib.Core.Path.{sym, ◌∙◌}
+use Rattle.refusals.proofs.Refused.{refused, handed_on}
+use Rattle.files.specs.File.{unwritten}
+use Rattle.files.proofs.Writing.{unchecked, checked, mesh_checked}
 use Rattle.files.proofs.write.Goals as goal
 
-pub returns-then-checked-ne0 : goal.returns-then-checked-ne0
-returns-then-checked-ne0 c = let a = c.args in
-    unchecked a.plan a.cells.now a.functions.now a.file.now _ c.check-checked.ensures c.if-checked-ne0.true c.unwritten.result c.unwritten.ensures
+pub returns-in_err-check : goal.returns-in_err-check
+unfolding unwritten
+returns-in_err-check c = let e = c.in_err-check in
+    rw (handed_on _ c.from_residual.ensures.1) (unchecked _ _ _ _ e.ensures (refused e.field-0.0))
 
 pub write_mesh-requires : goal.write_mesh-requires
-write_mesh-requires c = let a = c.args in
-    room a.plan a.cells.now a.functions.now a.file.now _ c.check-checked.ensures c.if-checked-ne0.false
+write_mesh-requires c = mesh_checked _ _ _ (sym c.in_ok-check.ensures)
 
 pub returns : goal.returns
-returns c = let a = c.args in
-    checked a.plan a.cells.now a.functions.now a.file.now _ c.check-checked.ensures c.if-checked-ne0.false _ c.write_mesh.ensures
+returns c = c.write_mesh.ensures ∙ checked _ _ _ _ (sym c.in_ok-check.ensures)
