@@ -212,7 +212,7 @@ fn restore(
     let table = &mut room[..total];
     rebuild(file, outline, table);
     table_refusal(plan, table, outline.end == file.len())?;
-    changes::copy_bytes(cells, table);
+    cells.copy_from_slice(table);
     labels::write_labels(plan, cells, functions);
     Ok(())
 }

@@ -71,19 +71,19 @@ returns-in_err-table_refusal c = let e = c.in_err-table_refusal in
     rw (handed_on _ c.from_residual-in_err-table_refusal.ensures.1)
     (read_refused c.requires.good_file _ _ (sym c.in_ok-refusal.ensures) (inside at.Else-outline-total) (e.ensures ∙ decided at.After-rebuild) (refused e.field-0.0))
 
-pub copy_bytes-requires : goal.copy_bytes-requires
-copy_bytes-requires c = (fits (goal.at.copy_bytes-requires c).In_ok-refusal).cells ∙ sym (size (goal.at.copy_bytes-requires c).After-rebuild)
+pub copy_from_slice-requires : goal.copy_from_slice-requires
+copy_from_slice-requires c = (fits (goal.at.copy_from_slice-requires c).In_ok-refusal).cells ∙ sym (size (goal.at.copy_from_slice-requires c).After-rebuild)
 
 pub write_labels-requires : goal.write_labels-requires
 write_labels-requires c = let at = goal.at.write_labels-requires c in
     let k = fits at.In_ok-refusal in
     let taken = c.in_ok-table_refusal.ensures ∙ decided at.After-rebuild in
     record {
-      mesh_table = mesh_table c.requires.good_file _ _ (sym c.in_ok-refusal.ensures) (inside at.Else-outline-total) taken refl _ (c.copy_bytes.ensures ∙ c.rebuild.ensures);
+      mesh_table = mesh_table c.requires.good_file _ _ (sym c.in_ok-refusal.ensures) (inside at.Else-outline-total) taken refl _ (c.copy_from_slice.ensures.after ∙ c.rebuild.ensures);
       out_len = (k.functions, k.small);
     }
 
 pub returns : goal.returns
 returns c = let at = goal.at.returns c in
     let taken = c.in_ok-table_refusal.ensures ∙ decided at.After-rebuild in
-    read_done c.requires.good_file _ _ (sym c.in_ok-refusal.ensures) (inside at.Else-outline-total) taken refl _ _ (c.copy_bytes.ensures ∙ c.rebuild.ensures) c.write_labels.ensures
+    read_done c.requires.good_file _ _ (sym c.in_ok-refusal.ensures) (inside at.Else-outline-total) taken refl _ _ (c.copy_from_slice.ensures.after ∙ c.rebuild.ensures) c.write_labels.ensures
