@@ -166,8 +166,8 @@ fn fill(
     Ok(4 * count)
 }
 
-// Four corners for each active cell, in rising order, and how many there are; nothing is written with a refusal. The output is lent as words of 64 bits, each the bits of a
-// float: so what is not written keeps its bits, whatever they are, and not only its value as a float.
+// Four corners for each active cell, in rising order, and how many there are; nothing is written with a refusal. The output is lent as words
+// of 64 bits, each the bits of a float: so what is not written keeps its bits, whatever they are, and not only its value as a float.
 pub fn corners(
     plan: Plan,
     cells: &[u8],

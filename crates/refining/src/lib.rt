@@ -31,8 +31,8 @@ pub fn tables_refusal(
     heights::refusal(plan, functions, heights)
 }
 
-// The first of refusals 7 to 11, if any, or the cells and functions of the refined mesh, made beside the old ones, which are only read, as are of both lists
-// the lengths.
+// The first of refusals 7 to 11, if any, or the cells and functions of the refined mesh, made beside the old ones. These are only read, and of
+// both lists only the lengths count.
 #[inline(never)]
 fn make(
     by: By,
@@ -100,8 +100,8 @@ fn finish(
     })
 }
 
-// Refine by cells or by functions, when the tables and the heights are checked. The caller checks them, so that the rooms of the check and those
-// of the refinement are not on the stack at the same time; nor are those of `make` and of `finish`, which are not inlined.
+// Refine by cells or by functions, when the tables and the heights are checked. The caller checks them, so that the rooms of the check and
+// those of the refinement are not on the stack at the same time; nor are those of `make` and of `finish`, which are not inlined.
 pub fn refine(
     by: By,
     checked: Result<(), Refusal>,
