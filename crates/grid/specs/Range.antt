@@ -1,4 +1,4 @@
--- What `inRange` says, as facts: what the plan's methods require. Definitions only.
+-- What `in_range` says, as facts: what the plan's methods require. Definitions only.
 use Rattle.std.specs.Prelude.{◌≢◌, ◌≡◌, ℕ, ◌+◌, ◌%◌, ◌^◌, ◌≤◌, ◌<◌}
 use Rattle.grid.specs.declared.Plan.{Plan}
 

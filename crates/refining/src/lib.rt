@@ -102,8 +102,8 @@ fn finish(
     })
 }
 
-// Refine by cells or by functions, when the tables and the heights are checked. The caller checks them, so that the rooms of the check and those
-// of the refinement are not on the stack at the same time; nor are those of `make` and of `finish`, which are not inlined.
+// Refine by cells or by functions, when the tables and the heights are checked. The caller checks them, so that the rooms of the check and
+// those of the refinement are not on the stack at the same time; nor are those of `make` and of `finish`, which are not inlined.
 pub fn refine(
     by: By,
     checked: Result<(), Refusal>,
