@@ -1,7 +1,8 @@
 // One line of a session (document 01, "The session program"), on lent tables, lists and bytes: nothing is read or written here.
 #![tactic(auto)]
 
-ghost use Rattle.std.specs.Prelude.{◌≡◌, ◌≤◌, length};
+ghost use Rattle.std.specs.Prelude.{◌≡◌, ◌≤◌, length, IfOk};
+ghost use Rattle.outcomes.specs.Answers.{answer_of};
 ghost use Rattle.outcomes.specs.Calls.{outcome};
 ghost use Rattle.outcomes.specs.Meets.{Meets};
 ghost use Rattle.calls.specs.Parts as parts;
@@ -13,7 +14,8 @@ ghost use Rattle.replies.specs.Steps.{direction_of, by_of, Answered};
 use calls::{By, Call, Direction};
 use grid::Plan;
 use lines::Kind;
-use outcomes::Answer;
+use outcomes::Changes;
+use refusals::Refusal;
 use script::{ANSWER_BYTES, Done, Hand, WALL_CELLS, WALL_FUNCTIONS};
 
 // The tables and lists of the largest wall of a session, and room for its longest answer.
@@ -54,9 +56,9 @@ fn call(
     marks: &[u32],
     cell_list: &mut [u32],
     function_list: &mut [u32],
-) -> Answer
-    ensures meets { Meets (outcome (direction_of kind) (by_of kind) plan) result cells functions marks cell_list function_list }
-    ensures cells_in_bounds { (result.cells ≤ length cell_list.new) × (result.functions ≤ length function_list.new) }
+) -> Result<Changes, Refusal>
+    ensures meets { Meets (outcome (direction_of kind) (by_of kind) plan) (answer_of result) cells functions marks cell_list function_list }
+    ensures in_bounds { IfOk result (λ changes. (changes.cells ≤ length cell_list.new) × (changes.functions ≤ length function_list.new)) }
 {
     let checked = tables::check(plan, cells, functions);
     calls::change(
@@ -85,7 +87,7 @@ fn answer(
     requires { (length cell_list.old ≤ wall_cells) × (length function_list.old ≤ wall_functions) }
     ensures { Answered (outcome (direction_of kind) (by_of kind) plan cells.old functions.old marks.now cell_list.old function_list.old) result cells.new functions.new out.new }
 {
-    let answer = call(
+    match call(
         kind,
         plan,
         cells,
@@ -93,13 +95,15 @@ fn answer(
         marks,
         cell_list,
         function_list,
-    );
-    script::say_answer(
-        out,
-        answer.number,
-        &cell_list[..answer.cells as usize],
-        &function_list[..answer.functions as usize],
-    )
+    ) {
+        Ok(changes) => script::say_answer(
+            out,
+            Ok(()),
+            &cell_list[..changes.cells as usize],
+            &function_list[..changes.functions as usize],
+        ),
+        Err(refusal) => script::say_answer(out, Err(refusal), &[], &[]),
+    }
 }
 
 // A line with marks, on the wall in hand.

@@ -1,19 +1,19 @@
 -- Laws of a session's replies: what was printed and opened is what Session.antt says. Assumes nothing.
 use mathlib.Core.Path.{◌≡◌, refl, sym, ap, subst, ◌∙◌}
-use mathlib.Core.Bool.{true, false}
+use mathlib.Core.Bool.{true}
 use mathlib.Core.List.{List, [], ◌∷◌, ◌++◌}
 use Prim.Native.Nat.{ℕ, ◌≤◌, ◌<◌}
 use native.Mathlib.Omega.{arith}
-use lib.Dec.{eqb, leb, eqb_refl}
+use lib.Dec.{leb}
 use Rattle.std.proofs.Common.{Some}
 use Rattle.std.specs.declared.option.Option.{Option}
 use lib.ListN.{length, take, drop, length-append, length-replicate}
 use lib.Seq.{length-take-le, take_at}
-use borrow.Author.Tests.{lt-ltb, le-ltb, le-leb}
-use Rattle.facts.proofs.Tests.{T_true}
+use borrow.Author.Tests.{ne_eqb, lt-ltb, le-ltb, le-leb}
 use Rattle.grid.specs.declared.Plan.{Plan}
-use Rattle.grid.specs.Plan.{in_range, too_large, cell_total, function_total}
-use Rattle.mesh.specs.Mesh.{refusal3, Opened, fresh_cells, fresh_functions, open_mesh}
+use Rattle.grid.specs.Plan.{plan_refusal, cell_total, function_total}
+use Rattle.mesh.specs.Mesh.{Opened, fresh_cells, fresh_functions, open_mesh}
+use Rattle.tables.proofs.Calls.{refuse_plan, refuse_0}
 use Rattle.lines.specs.Writing.{digits, items, answer, large, Prints}
 use Rattle.script.specs.Session.{State, wall, Reply, reply, blank, opening}
 use Rattle.script.specs.declared.hand.Hand.{Hand}
@@ -43,21 +43,15 @@ answer_some n cs fs = omega (arith, length-append (digits n) (59 ∷ items cs ++
 
 -- ---- a wall that is opened
 
-module _ (s : State) (p : Plan) where
-  pub opening_range : in_range p ≡ false → opening s p ≡ reply s (answer 1 [] [])
-  unfolding opening open_mesh refusal3
-  opening_range e = rw e refl
+pub opening_refused : (s : State) (p : Plan) → (plan_refusal p ≡ 0 → ⊥) → opening s p ≡ reply s (answer (plan_refusal p) [] [])
+unfolding opening open_mesh
+opening_refused s p n = rw (sym (refuse_plan p (blank (cell_total p)) (blank (function_total p)) n), ne_eqb (plan_refusal p) 0 n, ne_eqb (plan_refusal p) 0 n) refl
 
-  pub opening_many : in_range p ≡ true → too_large p ≡ true → opening s p ≡ reply s (answer 2 [] [])
-  unfolding opening open_mesh refusal3
-  opening_many e g = rw (e, g) refl
-
-module _ (p : Plan) (e : in_range p ≡ true) (g : too_large p ≡ false) where
+module _ (p : Plan) (e : plan_refusal p ≡ 0) where
   pub opened : (cs fs : List ℕ) → length cs ≡ cell_total p → length fs ≡ function_total p
       → open_mesh p cs fs ≡ record { number = 0; cells = fresh_cells p; functions = fresh_functions p }
-  unfolding open_mesh refusal3
-  opened cs fs a b =
-      rw (e, g, a, b, T_true (eqb (cell_total p) (cell_total p)) (eqb_refl (cell_total p)), T_true (eqb (function_total p) (function_total p)) (eqb_refl (function_total p))) refl
+  unfolding open_mesh
+  opened cs fs a b = rw (sym (refuse_0 p cs fs e a b)) refl
 
   blank_opened : open_mesh p (blank (cell_total p)) (blank (function_total p)) ≡ record { number = 0; cells = fresh_cells p; functions = fresh_functions p }
   blank_opened = opened (blank (cell_total p)) (blank (function_total p)) (length-replicate (cell_total p) 0) (length-replicate (function_total p) 0)
@@ -81,7 +75,7 @@ pub held_front : (h : Hand) (cs fs more rest : List ℕ) → length cs ≡ h.cel
 held_front h cs fs more rest a b = wall_same h.plan (take_at cs more h.cells a) (take_at fs rest h.functions b)
 
 -- the tables of a new wall at the start of the lent ones
-pub fresh : (s : State) (h : Hand) (n : ℕ) (done : Done) (cs fs cs' fs' out : List ℕ) → done.hand ≡ Some h → in_range h.plan ≡ true → too_large h.plan ≡ false
+pub fresh : (s : State) (h : Hand) (n : ℕ) (done : Done) (cs fs cs' fs' out : List ℕ) → done.hand ≡ Some h → plan_refusal h.plan ≡ 0
     → wall_cells ≤ length cs → wall_functions ≤ length fs
     → n ≡ (open_mesh h.plan (take h.cells cs) (take h.functions fs)).number
     → cs' ≡ (open_mesh h.plan (take h.cells cs) (take h.functions fs)).cells
@@ -89,11 +83,11 @@ pub fresh : (s : State) (h : Hand) (n : ℕ) (done : Done) (cs fs cs' fs' out : 
     → length cs' ≡ length (take h.cells cs) → length fs' ≡ length (take h.functions fs)
     → Said (answer n [] []) done.count out
     → Replied (opening s h.plan) done (cs' ++ drop h.cells cs) (fs' ++ drop h.functions fs) out
-fresh s h n done cs fs cs' fs' out d e g lc lf en ec ef kc kf w =
+fresh s h n done cs fs cs' fs' out d e lc lf en ec ef kc kf w =
     let tc = length-take-le h.cells cs (omega (arith, h.cells_bound)) in
     let tf = length-take-le h.functions fs (omega (arith, h.functions_bound)) in
-    let o = opened h.plan e g (take h.cells cs) (take h.functions fs) (tc ∙ h.all_cells) (tf ∙ h.all_functions) in
-    rw (opening_fresh h.plan e g s (omega (arith, h.all_cells, h.cells_bound)))
+    let o = opened h.plan e (take h.cells cs) (take h.functions fs) (tc ∙ h.all_cells) (tf ∙ h.all_functions) in
+    rw (opening_fresh h.plan e s (omega (arith, h.all_cells, h.cells_bound)))
     (record {
       state = ap (λ (x : Option Hand). held x (cs' ++ drop h.cells cs) (fs' ++ drop h.functions fs)) d ∙ held_front h cs' fs' (drop h.cells cs) (drop h.functions fs) (kc ∙ tc) (kf ∙ tf)
           ∙ wall_same h.plan (ec ∙ ap (λ (q : Opened). q.cells) o) (ef ∙ ap (λ (q : Opened). q.functions) o);

@@ -5,9 +5,8 @@
 mod done;
 mod hand;
 
-ghost use Rattle.std.specs.Prelude.{◌≡◌, true, ◌≤◌, length};
-ghost use Rattle.grid.specs.Range.{InRange};
-ghost use Rattle.grid.specs.Plan.{in_range, cell_total, function_total};
+ghost use Rattle.std.specs.Prelude.{◌≤◌, length};
+ghost use Rattle.refusals.specs.Numbers.{number_of};
 ghost use Rattle.lines.specs.Writing.{answer as answer·line, question as question·line, large as large·line};
 ghost use Rattle.script.specs.Session.{opening};
 ghost use Rattle.script.specs.Steps.{held, Said, Replied};
@@ -16,6 +15,7 @@ ghost use Rattle.script.specs.Bounds.{wall_cells, wall_functions};
 pub use done::Done;
 use grid::Plan;
 pub use hand::Hand;
+use refusals::{Refusal, number_of};
 
 // The input that a session reads, the cells and functions of its largest walls, and room for its longest answer, 243,080 bytes.
 pub const INPUT_BYTES: usize = 16384;
@@ -38,17 +38,17 @@ fn say_large(out: &mut [u8; ANSWER_BYTES]) -> usize
     lines::write_large(out)
 }
 
-// The longest answer of a session's wall has room.
+// 0 or the number of a refusal, and the lists: the longest answer of a session's wall has room.
 pub fn say_answer(
     out: &mut [u8; ANSWER_BYTES],
-    number: u32,
+    answer: Result<(), Refusal>,
     cells: &[u32],
     functions: &[u32],
 ) -> usize
     requires { (length cells.now ≤ wall_cells) × (length functions.now ≤ wall_functions) }
-    ensures { Said (answer·line number cells.now functions.now) result out.new }
+    ensures { Said (answer·line (number_of answer) cells.now functions.now) result out.new }
 {
-    lines::write_answer(out, number, cells, functions)
+    lines::write_answer(out, number_of(answer), cells, functions)
 }
 
 // The new wall, or the earlier one where the plan is refused or too large for a session.
@@ -61,29 +61,8 @@ pub fn open(
 ) -> Done
     ensures { Replied (opening (held earlier cells.old functions.old) plan) result cells.new functions.new out.new }
 {
-    if plan.in_range() {
-        return open_in_range(earlier, plan, cells, functions, out);
-    }
-    let count = say_answer(out, 1, &[], &[]);
-    Done {
-        hand: earlier,
-        count,
-    }
-}
-
-fn open_in_range(
-    earlier: Option<Hand>,
-    plan: Plan,
-    cells: &mut [u8; WALL_CELLS],
-    functions: &mut [u8; WALL_FUNCTIONS],
-    out: &mut [u8; ANSWER_BYTES],
-) -> Done
-    requires in_range { InRange plan }
-    requires plan_value { in_range plan ≡ true }
-    ensures { Replied (opening (held earlier cells.old functions.old) plan) result cells.new functions.new out.new }
-{
-    if plan.too_large() {
-        let count = say_answer(out, 2, &[], &[]);
+    if let Err(refusal) = plan.refusal() {
+        let count = say_answer(out, Err(refusal), &[], &[]);
         return Done {
             hand: earlier,
             count,
@@ -98,8 +77,8 @@ fn open_in_range(
         };
     }
     let labels = plan.function_total() as usize;
-    let number = tables::open(plan, &mut cells[..total], &mut functions[..labels]);
-    let count = say_answer(out, number, &[], &[]);
+    let opened = tables::open(plan, &mut cells[..total], &mut functions[..labels]);
+    let count = say_answer(out, opened, &[], &[]);
     let hand = Hand {
         plan,
         cells: total,

@@ -2,5 +2,5 @@
 use Rattle.replies.proofs.Room.{answered}
 use Rattle.replies.proofs.call.Goals as goal
 
-pub returns-clause-cells_in_bounds : goal.returns-clause-cells_in_bounds
-returns-clause-cells_in_bounds c = answered _ _ _ _ _ _ _ _ _ _ _ _ _ c.change.ensures
+pub returns-clause-in_bounds : goal.returns-clause-in_bounds
+returns-clause-in_bounds c = answered _ _ _ _ _ _ _ _ _ _ _ _ _ c.change.ensures
