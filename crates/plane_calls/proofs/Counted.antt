@@ -17,7 +17,7 @@ use Rattle.planes.specs.Bits.{Words, bytes_of, active_ones, ones_at}
 use Rattle.planes.specs.Planes.{cells_of, refusal4, check_planes, count_planes}
 use Rattle.planes.proofs.Laws.{length_bytes}
 use Rattle.planes.proofs.Counts.{active_tally, refined_tally}
-use Rattle.planes.proofs.Refusals.{held_of, holding_of, check_early, check_held, check_of}
+use Rattle.planes.proofs.Refusals.{Held, held_of, holding_of, check_early, check_held, check_of}
 
 -- as the count of bytes has them
 module _ (n : ℕ) (P R : List ℕ) where
@@ -29,13 +29,17 @@ module _ (n : ℕ) (P R : List ℕ) where
   unfolding refined byte_is
   refined_bytes_lem = rw (length_bytes n P R)
 
+-- what check leaves
+pub held_checked : {p : Plan} {P R fs : List ℕ} → check_planes p P R fs ≡ 0 → Held p P R fs
+held_checked {p} {P} {R} {fs} e = held_of p P R fs (check_of p P R fs e).0
+
 module _ (p : Plan) (P R fs : List ℕ) where
   pub counted_planes : 0 ≡ check_planes p P R fs → Words P → Words R → {a r f x : ℕ} → a ≡ sum (length P) (active_ones P R) → r ≡ sum (length R) (ones_at R) → f ≡ tally (length fs) (byte_is fs 1)
       → x ≡ rows_at p (p.levels - 1) * columns_at p (p.levels - 1) → record { number = 0; active = a; refined = r; functions = f; area = x } ≡ count_planes p P R fs
   unfolding count_planes
   counted_planes e sP sR ea er ef ex =
       let k = check_of p P R fs (sym e) in
-      let h = holding_of p P R fs (held_of p P R fs k.0) sP sR in
+      let h = holding_of p P R fs (held_checked (sym e)) sP sR in
       rw k.0 (counted p (cells_of p P R) fs (sym k.1) refl
       (ea ∙ active_tally (cell_total p) P R h ∙ active_bytes (cell_total p) P R)
       (er ∙ refined_tally (cell_total p) P R h ∙ refined_bytes_lem (cell_total p) P R) ef ex)

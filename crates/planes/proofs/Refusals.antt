@@ -128,16 +128,7 @@ module _ (p : Plan) (P R : List ℕ) where
   -- ---- and another table
 
   module _ (xs : List ℕ) (n : ℕ) where
-    abbrev both : ℕ
-    both = size_refusal p (sized p P R && eqb (length xs) n)
-
-    pub third : size_refusal p (sized p P R) ≡ 0 → (length xs ≡ n → ⊥) → 3 ≡ both
-    third e d = sym (more_length p (sized p P R) (eqb (length xs) n) e ∙ rw (ne_eqb _ _ d))
-
-    pub none : size_refusal p (sized p P R) ≡ 0 → length xs ≡ n → 0 ≡ both
-    none e d = sym (more_length p (sized p P R) (eqb (length xs) n) e ∙ rw (eq-eqb _ _ d))
-
-    pub both_of : both ≡ 0 → Sized × (length xs ≡ n)
+    pub both_of : size_refusal p (sized p P R && eqb (length xs) n) ≡ 0 → Sized × (length xs ≡ n)
     both_of e =
         let r = right_of p (sized p P R && eqb (length xs) n) e in
         (sized_of (less_length p (sized p P R) (eqb (length xs) n) e), eqb→eq _ _ (and_r (sized p P R) (eqb (length xs) n) r.lengths))

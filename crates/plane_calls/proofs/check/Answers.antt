@@ -1,32 +1,26 @@
 -- `check` meets its contract. Assumes nothing.
 use mathlib.Core.Path.{refl, sym, ◌∙◌}
-use Prim.Native.Nat.{◌*◌, ◌≤◌}
 use native.Mathlib.Omega.{arith}
-use lib.ListN.{length}
 use Rattle.refusals.proofs.Refused.{refused, handed_on}
 use Rattle.facts.proofs.Zeros.{zeros, part_length}
 use Rattle.planes.proofs.Refusals.{held_of, check_early, check_held}
 use Rattle.plane_calls.proofs.Rooms.{held_room}
 use Rattle.plane_calls.proofs.check.Goals as goal
-use Rattle.plane_calls.proofs.check.Goals.{In_ok-early_refusal}
-
-fits : (c : In_ok-early_refusal) → 64 * length c.args.present.now ≤ 21888
-fits c = held_room (held_of _ _ _ _ (sym c.in_ok-early_refusal.ensures))
 
 pub returns-in_err-early_refusal : goal.returns-in_err-early_refusal
 returns-in_err-early_refusal c = rw (handed_on _ c.from_residual.ensures.1) (check_early _ _ _ _ c.in_err-early_refusal.ensures (refused c.in_err-early_refusal.field-0.0))
 
 pub overflow_mul-whole : goal.overflow_mul-whole
-overflow_mul-whole c = omega (arith, fits (goal.at.overflow_mul-whole c).In_ok-early_refusal)
+overflow_mul-whole c = omega (arith, held_room (held_of _ _ _ _ (sym c.in_ok-early_refusal.ensures)))
 
 pub slice_bounds-room-end : goal.slice_bounds-room-end
-slice_bounds-room-end c = fits (goal.at.slice_bounds-room-end c).In_ok-early_refusal
+slice_bounds-room-end c = held_room (held_of _ _ _ _ (sym c.in_ok-early_refusal.ensures))
 
 pub slice_bounds-bytes-end : goal.slice_bounds-bytes-end
-slice_bounds-bytes-end c = zeros 21888 _ (fits (goal.at.slice_bounds-bytes-end c).In_ok-early_refusal)
+slice_bounds-bytes-end c = zeros 21888 _ (held_room (held_of _ _ _ _ (sym c.in_ok-early_refusal.ensures)))
 
-pub check_bytes-requires : goal.check_bytes-requires
-check_bytes-requires c = record { functions_value = sym c.in_ok-early_refusal.ensures; bytes_len = part_length 21888 _ refl (fits (goal.at.check_bytes-requires c).In_ok-early_refusal) }
+pub check_bytes-requires-clause-bytes_len : goal.check_bytes-requires-clause-bytes_len
+check_bytes-requires-clause-bytes_len c = part_length 21888 _ refl (held_room (held_of _ _ _ _ (sym c.in_ok-early_refusal.ensures)))
 
 pub returns : goal.returns
 returns c = c.check_bytes.ensures.number ∙ check_held _ _ _ _ (sym c.in_ok-early_refusal.ensures)
