@@ -5,27 +5,43 @@
 ghost use Rattle.std.specs.Prelude.{◌≡◌, ◌-◌, length};
 ghost use Rattle.facts.specs.Bounded.{some};
 ghost use Rattle.rounds.specs.Rounds.{find_rounds};
+ghost use Rattle.rounds.specs.Answers.{rounds_answer_of};
 ghost use Rattle.rounds.specs.Steps.{left_by_rounds, lost_at, Listable, ListedLevels};
 
 use grid::Plan;
+use refusals::Refusal;
 
-// What the call answers: a refusal or 0, how many marks were written, and how many round lengths.
-#[repr(C)]
+// What an accepted call answers: how many marks were written, and how many round lengths.
 #[derive(Clone, Copy)]
+pub struct Rounds {
+    pub marks: u32,
+    pub rounds: u32,
+}
+
+// The same for C, which has no enum that holds a value: a refusal or 0, and the counts, both 0 with a refusal.
+#[repr(C)]
+#[derive(Clone, Copy, Default)]
 pub struct RoundsAnswer {
     pub number: u32,
     pub marks: u32,
     pub rounds: u32,
 }
 
-// A refusal answers its number, with zero lengths.
-fn refused(number: u32) -> RoundsAnswer
-    ensures { result ≡ record { number = number; marks = 0; rounds = 0 } }
-{
-    RoundsAnswer {
-        number,
-        marks: 0,
-        rounds: 0,
+impl From<Result<Rounds, Refusal>> for RoundsAnswer {
+    ghost from_gives = { λ found answer. answer ≡ rounds_answer_of found };
+
+    fn from(found: Result<Rounds, Refusal>) -> RoundsAnswer {
+        match found {
+            Ok(counts) => RoundsAnswer {
+                number: 0,
+                marks: counts.marks,
+                rounds: counts.rounds,
+            },
+            Err(refusal) => RoundsAnswer {
+                number: u32::from(refusal),
+                ..RoundsAnswer::default()
+            },
+        }
     }
 }
 
@@ -35,10 +51,8 @@ fn is_losing(cells: &[u8], wanted: &[u8]) -> bool
     ensures { result ≡ some (length cells.now) (lost_at cells.now wanted.now) }
 {
     let mut lost = false;
-    let mut i = 0;
-    while i < cells.len() {
-        lost = ((cells[i] == 2) & (wanted[i] != 2)) | lost;
-        i += 1;
+    for (i, cell) in cells.iter().enumerate() {
+        lost = ((*cell == 2) & (wanted[i] != 2)) | lost;
     }
     lost
 }
@@ -55,20 +69,17 @@ fn list_levels(
     ensures { ListedLevels plan cells.now wanted.now marks.old lengths.old (plan.levels - 1) result marks.new lengths.new }
 {
     let mut n: usize = 0;
-    let mut k: usize = 0;
-    let last = (plan.levels - 1) as usize;
-    while k < last {
-        let from = plan.cell_offset(k as u32) as usize;
-        let to = plan.cell_offset(k as u32 + 1) as usize;
+    for k in 0..plan.levels - 1 {
+        let from = plan.cell_offset(k) as usize;
+        let to = plan.cell_offset(k + 1) as usize;
         let end = changes::list_changed_between(cells, wanted, marks, n, from, to);
-        lengths[k] = (end - n) as u32;
+        lengths[k as usize] = (end - n) as u32;
         n = end;
-        k += 1;
     }
     n as u32
 }
 
-// The rounds from a mesh to a wanted one.
+// The rounds from a mesh to a wanted one; nothing is written with a refusal.
 pub fn find(
     plan: Plan,
     cells: &[u8],
@@ -77,31 +88,21 @@ pub fn find(
     wanted_functions: &[u8],
     marks: &mut [u32],
     lengths: &mut [u32],
-) -> RoundsAnswer
-    ensures { left_by_rounds result marks lengths ≡ find_rounds plan cells.now functions.now wanted_cells.now wanted_functions.now marks.old lengths.old }
+) -> Result<Rounds, Refusal>
+    ensures { left_by_rounds (rounds_answer_of result) marks lengths ≡ find_rounds plan cells.now functions.now wanted_cells.now wanted_functions.now marks.old lengths.old }
 {
-    let today = tables::check(plan, cells, functions);
-    if today != 0 {
-        return refused(today);
-    }
-    let wanted = tables::check(plan, wanted_cells, wanted_functions);
-    if wanted != 0 {
-        return refused(wanted);
-    }
+    tables::check(plan, cells, functions)?;
+    tables::check(plan, wanted_cells, wanted_functions)?;
     if is_losing(cells, wanted_cells) {
-        return refused(20);
+        return Err(Refusal::RefinedCellNotWanted);
     }
     if changes::is_short(cells, wanted_cells, marks.len()) {
-        return refused(10);
+        return Err(Refusal::CellListTooShort);
     }
-    let last = plan.levels - 1;
-    if lengths.len() < last as usize {
-        return refused(10);
+    let rounds = plan.levels - 1;
+    if lengths.len() < rounds as usize {
+        return Err(Refusal::CellListTooShort);
     }
-    let count = list_levels(plan, cells, wanted_cells, marks, lengths);
-    RoundsAnswer {
-        number: 0,
-        marks: count,
-        rounds: last,
-    }
+    let marks = list_levels(plan, cells, wanted_cells, marks, lengths);
+    Ok(Rounds { marks, rounds })
 }
