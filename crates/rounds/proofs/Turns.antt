@@ -41,7 +41,7 @@ tabulate_write f ls ls₀ k v e l q =
     ∙ sym (append_snoc (tabulate k f) (f k) (drop (suc k) ls₀))
     ∙ ap (λ (j : ℕ). tabulate j f ++ drop j ls₀) (sym (add-one k)))
 
-module _ (p : Plan) (cs ws ml ll : List ℕ) (L : Listable p cs ws ml ll) where
+module _ {p : Plan} {cs ws ml ll : List ℕ} (L : Listable p cs ws ml ll) where
   pub start : ListedLevels p cs ws ml ll 0 0 ml ll
   unfolding written tabulate
   start =
@@ -62,7 +62,7 @@ module _ (p : Plan) (cs ws ml ll : List ℕ) (L : Listable p cs ws ml ll) where
     room = rw L.cells_are (omega (arith, L.room));
   }
 
-  module _ (k n : ℕ) {ml' ll' : List ℕ} (H : ListedLevels p cs ws ml ll k n ml' ll') where
+  module _ {k n : ℕ} {ml' ll' : List ℕ} (H : ListedLevels p cs ws ml ll k n ml' ll') where
     pub listed_to : {from : ℕ} → from ≡ cell_offset p k → ListedTo from cs ws n ml'
     listed_to f = rw f (block_listed cs ws ml (cell_offset p k) H.marks H.count)
 
@@ -70,10 +70,13 @@ module _ (p : Plan) (cs ws ml ll : List ℕ) (L : Listable p cs ws ml ll) where
     pub few : k ≤ p.levels → n ≤ most_cells
     few l = omega (arith, H.count, changed_short cs ws (cell_offset p k), offset_mono (columns_at p) (rows_at p) k p.levels l, L.small)
 
-    module _ (l : k < p.levels) (m : ℕ) (e : m ≡ length (changed (cell_offset p (k + 1)) cs ws)) where
+    module _ (l : k < p.levels) {m : ℕ} (e : m ≡ length (changed (cell_offset p (k + 1)) cs ws)) where
       -- n numbers, and those of the level
       pub one_level : n + missing_on p cs ws k ≡ m
       one_level = omega (arith, H.count, e, ap length (changed_next p L.range cs ws L.within L.inside k l), length-append (changed (cell_offset p k) cs ws) (missing p cs ws k))
+
+      pub few_next : m ≤ most_cells
+      few_next = omega (arith, e, changed_short cs ws (cell_offset p (k + 1)), to_in k l, L.small)
 
       pub next : {ml'' : List ℕ} → ml'' ≡ written (changed (cell_offset p (k + 1)) cs ws) ml' → k < length ll → {v : ℕ} → v ≡ m - n → ListedLevels p cs ws ml ll (k + 1) m ml'' (set ll' k v)
       next d r {v} q = record {

@@ -73,16 +73,20 @@ module _ (p : Plan) (cs fs ws wf ml ll : List ℕ) where
   abbrev whole : RoundsOutcome
   whole = find_rounds p cs fs ws wf ml ll
 
-  refused_as : {n : ℕ} {r : RoundsAnswer} → r ≡ record { number = n; marks = 0; rounds = 0 } → outcome_of r ml ll ≡ refused n ml ll
-  unfolding refused
-  refused_as e = ap (λ (a : RoundsAnswer). outcome_of a ml ll) e
+  -- a refusal, which leaves both lists
+  abbrev left : ℕ → RoundsOutcome
+  left n = outcome_of (record { number = n; marks = 0; rounds = 0 }) ml ll
 
-  pub today_refused : {n : ℕ} {r : RoundsAnswer} → r ≡ record { number = n; marks = 0; rounds = 0 } → n ≡ check p cs fs → n ≢ 0 → outcome_of r ml ll ≡ whole
-  today_refused e q z = refused_as e ∙ ap (λ m. refused m ml ll) q ∙ sym (find_today p cs fs ws wf ml ll (λ w. z (q ∙ w)))
+  left_is : (n : ℕ) → left n ≡ refused n ml ll
+  unfolding refused
+  left_is n = refl
+
+  pub today_refused : {n : ℕ} → n ≡ check p cs fs → n ≢ 0 → left n ≡ whole
+  today_refused {n} q z = left_is n ∙ ap (λ m. refused m ml ll) q ∙ sym (find_today p cs fs ws wf ml ll (λ w. z (q ∙ w)))
 
   module _ (a : check p cs fs ≡ 0) where
-    pub wanted_refused : {n : ℕ} {r : RoundsAnswer} → r ≡ record { number = n; marks = 0; rounds = 0 } → n ≡ check p ws wf → n ≢ 0 → outcome_of r ml ll ≡ whole
-    wanted_refused e q z = refused_as e ∙ ap (λ m. refused m ml ll) q ∙ sym (find_wanted p cs fs ws wf ml ll a (λ w. z (q ∙ w)))
+    pub wanted_refused : {n : ℕ} → n ≡ check p ws wf → n ≢ 0 → left n ≡ whole
+    wanted_refused {n} q z = left_is n ∙ ap (λ m. refused m ml ll) q ∙ sym (find_wanted p cs fs ws wf ml ll a (λ w. z (q ∙ w)))
 
     module _ (b : check p ws wf ≡ 0) where
       sized : length cs ≡ cell_total p
@@ -92,12 +96,12 @@ module _ (p : Plan) (cs fs ws wf ml ll : List ℕ) where
       unfolding losing refined
       lost_is e = ap (λ n. some n (lost_at cs ws)) (sym sized) ∙ sym e
 
-      pub losing_refused : {l : Bool} → l ≡ some (length cs) (lost_at cs ws) → l ≡ true → {r : RoundsAnswer} → r ≡ record { number = 20; marks = 0; rounds = 0 } → outcome_of r ml ll ≡ whole
-      losing_refused q t e = refused_as e ∙ sym (find_losing p cs fs ws wf ml ll a b (lost_is q ∙ t))
+      pub losing_refused : true ≡ some (length cs) (lost_at cs ws) → left 20 ≡ whole
+      losing_refused q = left_is 20 ∙ sym (find_losing p cs fs ws wf ml ll a b (lost_is q))
 
-      module _ {l : Bool} (q : l ≡ some (length cs) (lost_at cs ws)) (f : l ≡ false) where
+      module _ (q : false ≡ some (length cs) (lost_at cs ws)) where
         kept : losing p cs ws ≡ false
-        kept = lost_is q ∙ f
+        kept = lost_is q
 
         abbrev rs : List (List ℕ)
         rs = all p cs fs ws wf a b kept
@@ -109,21 +113,21 @@ module _ (p : Plan) (cs fs ws wf ml ll : List ℕ) where
         marks_count : length (changed (length cs) cs ws) ≡ length (flatten rs)
         marks_count = ap (λ n. length (changed n cs ws)) sized ∙ ap length (sym (marks_are p cs fs ws wf a b kept))
 
-        pub marks_short : {s : Bool} → s ≡ ltb (length ml) (length (changed (length cs) cs ws)) → s ≡ true → {r : RoundsAnswer} → r ≡ record { number = 10; marks = 0; rounds = 0 } → outcome_of r ml ll ≡ whole
+        pub marks_short : true ≡ ltb (length ml) (length (changed (length cs) cs ws)) → left 10 ≡ whole
         unfolding filled
-        marks_short e t d =
-            let k : ltb (length ml) (length (flatten rs)) ≡ true = ap (ltb (length ml)) (sym marks_count) ∙ sym e ∙ t in
-            refused_as d ∙ sym (filled_is ∙ (rw k refl))
+        marks_short e =
+            let k : ltb (length ml) (length (flatten rs)) ≡ true = ap (ltb (length ml)) (sym marks_count) ∙ sym e in
+            left_is 10 ∙ sym (filled_is ∙ (rw k refl))
 
-        pub lengths_short : length ll < p.levels - 1 → {r : RoundsAnswer} → r ≡ record { number = 10; marks = 0; rounds = 0 } → outcome_of r ml ll ≡ whole
+        pub lengths_short : length ll < p.levels - 1 → left 10 ≡ whole
         unfolding filled
-        lengths_short t d =
+        lengths_short t =
             let k : ltb (length ll) (length rs) ≡ true = lt-ltb (length ll) (length rs) (omega (arith, count_is p cs fs ws wf a b kept)) in
-            refused_as d ∙ sym (filled_is ∙ (rw (k, or-true (ltb (length ml) (length (flatten rs)))) refl))
+            left_is 10 ∙ sym (filled_is ∙ (rw (k, or-true (ltb (length ml) (length (flatten rs)))) refl))
 
-        module _ {s : Bool} (e : s ≡ ltb (length ml) (length (changed (length cs) cs ws))) (t : s ≡ false) (u : p.levels - 1 ≤ length ll) where
+        module _ (e : false ≡ ltb (length ml) (length (changed (length cs) cs ws))) (u : p.levels - 1 ≤ length ll) where
           enough : length (changed (length cs) cs ws) ≤ length ml
-          enough = ltb-false (length ml) _ (sym e ∙ t)
+          enough = ltb-false (length ml) _ (sym e)
 
           pub listable : Listable p cs ws ml ll
           listable =

@@ -1,3 +1,4 @@
 pub mod Rounds
+pub mod Answers
 pub mod Demands
 pub mod Steps

@@ -5,27 +5,43 @@
 ghost use Rattle.std.specs.Prelude.{◌≡◌, ◌-◌, length};
 ghost use Rattle.facts.specs.Bounded.{some};
 ghost use Rattle.rounds.specs.Rounds.{find_rounds};
+ghost use Rattle.rounds.specs.Answers.{rounds_answer_of};
 ghost use Rattle.rounds.specs.Steps.{left_by_rounds, lost_at, Listable, ListedLevels};
 
 use grid::Plan;
+use refusals::Refusal;
 
-// What the call answers: a refusal or 0, how many marks were written, and how many round lengths.
-#[repr(C)]
+// What an accepted call answers: how many marks were written, and how many round lengths.
 #[derive(Clone, Copy)]
+pub struct Rounds {
+    pub marks: u32,
+    pub rounds: u32,
+}
+
+// The same for C, which has no enum that holds a value: a refusal or 0, and the counts, both 0 with a refusal.
+#[repr(C)]
+#[derive(Clone, Copy, Default)]
 pub struct RoundsAnswer {
     pub number: u32,
     pub marks: u32,
     pub rounds: u32,
 }
 
-// A refusal answers its number, with zero lengths.
-fn refused(number: u32) -> RoundsAnswer
-    ensures { result ≡ record { number = number; marks = 0; rounds = 0 } }
-{
-    RoundsAnswer {
-        number,
-        marks: 0,
-        rounds: 0,
+impl From<Result<Rounds, Refusal>> for RoundsAnswer {
+    ghost from_gives = { λ found answer. answer ≡ rounds_answer_of found };
+
+    fn from(found: Result<Rounds, Refusal>) -> RoundsAnswer {
+        match found {
+            Ok(counts) => RoundsAnswer {
+                number: 0,
+                marks: counts.marks,
+                rounds: counts.rounds,
+            },
+            Err(refusal) => RoundsAnswer {
+                number: u32::from(refusal),
+                ..RoundsAnswer::default()
+            },
+        }
     }
 }
 
@@ -63,7 +79,7 @@ fn list_levels(
     n as u32
 }
 
-// The rounds from a mesh to a wanted one.
+// The rounds from a mesh to a wanted one; nothing is written with a refusal.
 pub fn find(
     plan: Plan,
     cells: &[u8],
@@ -72,31 +88,21 @@ pub fn find(
     wanted_functions: &[u8],
     marks: &mut [u32],
     lengths: &mut [u32],
-) -> RoundsAnswer
-    ensures { left_by_rounds result marks lengths ≡ find_rounds plan cells.now functions.now wanted_cells.now wanted_functions.now marks.old lengths.old }
+) -> Result<Rounds, Refusal>
+    ensures { left_by_rounds (rounds_answer_of result) marks lengths ≡ find_rounds plan cells.now functions.now wanted_cells.now wanted_functions.now marks.old lengths.old }
 {
-    let today = tables::check(plan, cells, functions);
-    if today != 0 {
-        return refused(today);
-    }
-    let wanted = tables::check(plan, wanted_cells, wanted_functions);
-    if wanted != 0 {
-        return refused(wanted);
-    }
+    tables::check(plan, cells, functions)?;
+    tables::check(plan, wanted_cells, wanted_functions)?;
     if is_losing(cells, wanted_cells) {
-        return refused(20);
+        return Err(Refusal::RefinedCellNotWanted);
     }
     if changes::is_short(cells, wanted_cells, marks.len()) {
-        return refused(10);
+        return Err(Refusal::CellListTooShort);
     }
-    let last = plan.levels - 1;
-    if lengths.len() < last as usize {
-        return refused(10);
+    let rounds = plan.levels - 1;
+    if lengths.len() < rounds as usize {
+        return Err(Refusal::CellListTooShort);
     }
-    let count = list_levels(plan, cells, wanted_cells, marks, lengths);
-    RoundsAnswer {
-        number: 0,
-        marks: count,
-        rounds: last,
-    }
+    let marks = list_levels(plan, cells, wanted_cells, marks, lengths);
+    Ok(Rounds { marks, rounds })
 }

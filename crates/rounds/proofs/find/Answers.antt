@@ -1,46 +1,39 @@
 -- `find` meets its contract: each refusal is the outcome's, and so is what is written. Assumes nothing.
-use mathlib.Core.Path.{◌≡◌, sym, ◌∙◌}
+use mathlib.Core.Path.{sym}
 use native.Mathlib.Omega.{arith}
-use Rattle.mesh.specs.Mesh.{check}
+use Rattle.refusals.proofs.Refused.{refused, handed_on}
 use Rattle.mesh.proofs.Bridge.{check_passed}
 use Rattle.rounds.proofs.Whole.{today_refused, wanted_refused, same_size, losing_refused, marks_short, lengths_short, listable, ends}
 use Rattle.rounds.proofs.find.Goals as goal
-use Rattle.rounds.proofs.find.Goals.{Else-today-ne0, Else-wanted-ne0}
 
-pub returns-then-today-ne0 : goal.returns-then-today-ne0
-returns-then-today-ne0 c = today_refused _ _ _ _ _ _ _ c.refused.ensures c.check-today.ensures c.if-today-ne0.true
+pub returns-in_err-check : goal.returns-in_err-check
+returns-in_err-check c = let e = c.in_err-check in
+    rw (handed_on _ c.from_residual.ensures.1) (today_refused _ _ _ _ _ _ _ e.ensures (refused e.field-0.0))
 
--- today's tables pass
-today : (c : Else-today-ne0) → let a = c.args in check a.plan a.cells.now a.functions.now ≡ 0
-today c = sym c.check-today.ensures ∙ c.if-today-ne0.false
-
-pub returns-then-wanted-ne0 : goal.returns-then-wanted-ne0
-returns-then-wanted-ne0 c = wanted_refused _ _ _ _ _ _ _ (today (goal.at.returns-then-wanted-ne0 c).Else-today-ne0) c.refused-then-wanted-ne0.ensures c.check-wanted.ensures c.if-wanted-ne0.true
-
--- and so do the wanted ones
-wanted : (c : Else-wanted-ne0) → let a = c.args in check a.plan a.wanted_cells.now a.wanted_functions.now ≡ 0
-wanted c = sym c.check-wanted.ensures ∙ c.if-wanted-ne0.false
+pub returns-in_err-check-2 : goal.returns-in_err-check-2
+returns-in_err-check-2 c = let e = c.in_err-check-2 in
+    rw (handed_on _ c.from_residual-in_err-check-2.ensures.1) (wanted_refused _ _ _ _ _ _ _ (sym c.in_ok-check.ensures) e.ensures (refused e.field-0.0))
 
 pub is_losing-requires : goal.is_losing-requires
-is_losing-requires c = same_size _ _ _ _ _ (today (goal.at.is_losing-requires c).Else-today-ne0) (wanted (goal.at.is_losing-requires c).Else-wanted-ne0)
+is_losing-requires c = same_size _ _ _ _ _ (sym c.in_ok-check.ensures) (sym c.in_ok-check-2.ensures)
 
 pub returns-then-is_losing : goal.returns-then-is_losing
-returns-then-is_losing c = losing_refused _ _ _ _ _ _ _ (today (goal.at.returns-then-is_losing c).Else-today-ne0) (wanted (goal.at.returns-then-is_losing c).Else-wanted-ne0) c.is_losing.ensures c.if-is_losing.true c.refused-then-is_losing.ensures
+returns-then-is_losing c = losing_refused _ _ _ _ _ _ _ (sym c.in_ok-check.ensures) (sym c.in_ok-check-2.ensures) c.if-is_losing.ensures
 
 pub is_short-requires : goal.is_short-requires
-is_short-requires c = same_size _ _ _ _ _ (today (goal.at.is_short-requires c).Else-today-ne0) (wanted (goal.at.is_short-requires c).Else-wanted-ne0)
+is_short-requires c = same_size _ _ _ _ _ (sym c.in_ok-check.ensures) (sym c.in_ok-check-2.ensures)
 
 pub returns-then-is_short : goal.returns-then-is_short
-returns-then-is_short c = marks_short _ _ _ _ _ _ _ (today (goal.at.returns-then-is_short c).Else-today-ne0) (wanted (goal.at.returns-then-is_short c).Else-wanted-ne0) c.is_losing.ensures c.if-is_losing.false c.is_short.ensures c.if-is_short.true c.refused-then-is_short.ensures
+returns-then-is_short c = marks_short _ _ _ _ _ _ _ (sym c.in_ok-check.ensures) (sym c.in_ok-check-2.ensures) c.if-is_losing.ensures c.if-is_short.ensures
 
-pub overflow_sub-last : goal.overflow_sub-last
-overflow_sub-last c = (check_passed _ _ _ (today (goal.at.overflow_sub-last c).Else-today-ne0)).range.levels≥
+pub overflow_sub-rounds : goal.overflow_sub-rounds
+overflow_sub-rounds c = (check_passed _ _ _ (sym c.in_ok-check.ensures)).range.levels≥
 
-pub returns-then-lengths-last : goal.returns-then-lengths-last
-returns-then-lengths-last c = lengths_short _ _ _ _ _ _ _ (today (goal.at.returns-then-lengths-last c).Else-today-ne0) (wanted (goal.at.returns-then-lengths-last c).Else-wanted-ne0) c.is_losing.ensures c.if-is_losing.false (omega (arith, c.if-lengths-last.true)) c.refused-then-lengths-last.ensures
+pub returns-then-lengths-rounds : goal.returns-then-lengths-rounds
+returns-then-lengths-rounds c = lengths_short _ _ _ _ _ _ _ (sym c.in_ok-check.ensures) (sym c.in_ok-check-2.ensures) c.if-is_losing.ensures (omega (arith, c.if-lengths-rounds.true))
 
-pub list_levels-count-requires : goal.list_levels-count-requires
-list_levels-count-requires c = listable _ _ _ _ _ _ _ (today (goal.at.list_levels-count-requires c).Else-today-ne0) (wanted (goal.at.list_levels-count-requires c).Else-wanted-ne0) c.is_losing.ensures c.if-is_losing.false c.is_short.ensures c.if-is_short.false (omega (arith, c.if-lengths-last.false))
+pub list_levels-marks-requires : goal.list_levels-marks-requires
+list_levels-marks-requires c = listable _ _ _ _ _ _ _ (sym c.in_ok-check.ensures) (sym c.in_ok-check-2.ensures) c.if-is_losing.ensures c.if-is_short.ensures (omega (arith, c.if-lengths-rounds.false))
 
 pub returns : goal.returns
-returns c = ends _ _ _ _ _ _ _ (today (goal.at.returns c).Else-today-ne0) (wanted (goal.at.returns c).Else-wanted-ne0) c.is_losing.ensures c.if-is_losing.false c.is_short.ensures c.if-is_short.false (omega (arith, c.if-lengths-last.false)) c.list_levels-count.ensures
+returns c = ends _ _ _ _ _ _ _ (sym c.in_ok-check.ensures) (sym c.in_ok-check-2.ensures) c.if-is_losing.ensures c.if-is_short.ensures (omega (arith, c.if-lengths-rounds.false)) c.list_levels-marks.ensures

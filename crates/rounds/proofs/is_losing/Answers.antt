@@ -1,4 +1,4 @@
--- `is_losing` meets its contract. The invariant: whether one of the cells passed is lost. Assumes nothing.
+-- `is_losing` meets its contract. Assumes nothing.
 use mathlib.Core.Path.{sym}
 use Rattle.rounds.proofs.Turns.{some_none, some_more}
 use Rattle.rounds.proofs.is_losing.Goals as goal
