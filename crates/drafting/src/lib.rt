@@ -1,101 +1,102 @@
-// The calls on a draft, and the other calls with one. A draft is a value that goes in and comes back; its marks stand in a list that is lent
-// with it.
+// The calls on a draft, and the other calls with one. A draft is a value that goes in, and a call that changes it answers the new one; its
+// marks stand in a list that is lent with it. What C gets of these answers is made of them in crate drafts.
 #![tactic(auto)]
 
 ghost use Rattle.std.specs.Prelude.{◌≡◌, ◌+◌, ◌≤◌, length};
 ghost use Rattle.facts.specs.Numbers.{first};
 ghost use Rattle.facts.specs.Writing.{written_at};
+ghost use Rattle.refusals.specs.Numbers.{number_of};
 ghost use Rattle.mesh.specs.Mesh.{check, open_mesh};
 ghost use Rattle.outcomes.specs.Calls.{refine, mark_refusal};
 ghost use Rattle.outcomes.specs.Calls as calls;
+ghost use Rattle.outcomes.specs.Answers.{answer_of};
 ghost use Rattle.calls.specs.Parts.{direction_of, by_of};
 ghost use Rattle.files.specs.File.{read_mesh};
 ghost use Rattle.files.specs.Steps.{left_by_read};
+ghost use Rattle.drafts.specs.declared.Draft.{Draft};
 ghost use Rattle.drafts.specs.Drafts.{is_open, refusal18, refusal19, open_draft, drop_draft, add_marks, close_draft, ended_by, outcome_with_draft, outcome_with_heights_and_draft, draft_after_open, draft_after_read};
+ghost use Rattle.drafts.specs.Answers.{draft_after, answered, closed_as};
 ghost use Rattle.drafts.specs.Meets.{left_by_add, left_by_close, MeetsWithDraft, MeetsWithHeightsAndDraft};
 
 use calls::{By, Call, Direction};
-use drafts::{CloseAnswer, Draft, DraftAnswer, ReadWithDraftAnswer};
+use drafts::{Draft, ReadWithDraftAnswer};
 use grid::Plan;
-use outcomes::Answer;
+use outcomes::Changes;
+use refusals::Refusal;
 
 // A draft with more marks than its list has entries is not open.
 fn is_open(draft: Draft, list: &[u32]) -> bool
     ensures { result ≡ is_open draft list.now }
 {
-    if draft.open == 0 {
-        return false;
-    }
-    draft.marks <= list.len()
+    draft.open != 0 && draft.marks <= list.len()
 }
 
-// Refusals 1 to 6, then 18 where a draft is open; or 0.
-fn refusal18(plan: Plan, cells: &[u8], functions: &[u8], draft: Draft, list: &[u32]) -> u32
-    ensures { result ≡ refusal18 plan cells.now functions.now draft list.now }
+// Refusals 1 to 6, then 18 where a draft is open.
+fn refusal18(
+    plan: Plan,
+    cells: &[u8],
+    functions: &[u8],
+    draft: Draft,
+    list: &[u32],
+) -> Result<(), Refusal>
+    ensures { number_of result ≡ refusal18 plan cells.now functions.now draft list.now }
 {
-    let checked = tables::check(plan, cells, functions);
-    if checked != 0 {
-        return checked;
-    }
+    tables::check(plan, cells, functions)?;
     if is_open(draft, list) {
-        return 18;
+        return Err(Refusal::DraftOpen);
     }
-    0
+    Ok(())
 }
 
-// Refusals 1 to 6, then 19 where none is open; or 0.
-fn refusal19(plan: Plan, cells: &[u8], functions: &[u8], draft: Draft, list: &[u32]) -> u32
-    ensures { result ≡ refusal19 plan cells.now functions.now draft list.now }
+// Refusals 1 to 6, then 19 where none is open.
+fn refusal19(
+    plan: Plan,
+    cells: &[u8],
+    functions: &[u8],
+    draft: Draft,
+    list: &[u32],
+) -> Result<(), Refusal>
+    ensures { number_of result ≡ refusal19 plan cells.now functions.now draft list.now }
 {
-    let checked = tables::check(plan, cells, functions);
-    if checked != 0 {
-        return checked;
+    tables::check(plan, cells, functions)?;
+    if !is_open(draft, list) {
+        return Err(Refusal::NoDraft);
     }
-    if is_open(draft, list) {
-        return 0;
-    }
-    19
-}
-
-// An accepted call that ends the draft leaves none; a refused one leaves it.
-fn ended(number: u32, draft: Draft) -> Draft
-    ensures { result ≡ ended_by number draft }
-{
-    if number == 0 {
-        return Draft { open: 0, marks: 0 };
-    }
-    draft
+    Ok(())
 }
 
 // Opens a draft without marks.
-pub fn open(plan: Plan, cells: &[u8], functions: &[u8], draft: Draft, list: &[u32]) -> DraftAnswer
-    ensures { result ≡ open_draft plan cells.now functions.now draft list.now }
+pub fn open(
+    plan: Plan,
+    cells: &[u8],
+    functions: &[u8],
+    draft: Draft,
+    list: &[u32],
+) -> Result<Draft, Refusal>
+    ensures { answered draft result ≡ open_draft plan cells.now functions.now draft list.now }
 {
-    let number = refusal18(plan, cells, functions, draft, list);
-    if number != 0 {
-        return DraftAnswer { number, draft };
-    }
-    DraftAnswer {
-        number: 0,
-        draft: Draft { open: 1, marks: 0 },
-    }
+    refusal18(plan, cells, functions, draft, list)?;
+    Ok(Draft { open: 1, marks: 0 })
 }
 
 // Drops a draft; no table changes.
-pub fn drop(plan: Plan, cells: &[u8], functions: &[u8], draft: Draft, list: &[u32]) -> DraftAnswer
-    ensures { result ≡ drop_draft plan cells.now functions.now draft list.now }
+pub fn drop(
+    plan: Plan,
+    cells: &[u8],
+    functions: &[u8],
+    draft: Draft,
+    list: &[u32],
+) -> Result<Draft, Refusal>
+    ensures { answered draft result ≡ drop_draft plan cells.now functions.now draft list.now }
 {
-    let number = refusal19(plan, cells, functions, draft, list);
-    DraftAnswer {
-        number,
-        draft: ended(number, draft),
-    }
+    refusal19(plan, cells, functions, draft, list)?;
+    Ok(Draft::default())
 }
 
-// Refusals 7 to 9 of marks that are to be refined, or 0: the marks are judged as refine by cells judges them.
-fn judge(plan: Plan, cells: &[u8], functions: &[u8], marks: &[u32]) -> u32
+// Refusals 7 to 9 of marks that are to be refined: the marks are judged as refine by cells judges them.
+fn judge(plan: Plan, cells: &[u8], functions: &[u8], marks: &[u32]) -> Result<(), Refusal>
     requires { check plan cells.now functions.now ≡ 0 }
-    ensures { result ≡ first (mark_refusal refine calls.cells plan cells.now functions.now) marks.now }
+    ensures { number_of result ≡ first (mark_refusal refine calls.cells plan cells.now functions.now) marks.now }
 {
     let deep = plan.cell_offset(plan.levels - 1);
     marks::judge(cells, deep, marks)
@@ -117,32 +118,20 @@ pub fn add(
     draft: Draft,
     list: &mut [u32],
     marks: &[u32],
-) -> DraftAnswer
-    ensures { left_by_add result list ≡ add_marks plan cells.now functions.now draft list.old marks.now }
+) -> Result<Draft, Refusal>
+    ensures { left_by_add (answered draft result) list ≡ add_marks plan cells.now functions.now draft list.old marks.now }
 {
-    let number = refusal19(plan, cells, functions, draft, list);
-    if number != 0 {
-        return DraftAnswer { number, draft };
-    }
-    let judged = judge(plan, cells, functions, marks);
-    if judged != 0 {
-        return DraftAnswer {
-            number: judged,
-            draft,
-        };
-    }
+    refusal19(plan, cells, functions, draft, list)?;
+    judge(plan, cells, functions, marks)?;
     let from = draft.marks;
     if list.len() - from < marks.len() {
-        return DraftAnswer { number: 10, draft };
+        return Err(Refusal::CellListTooShort);
     }
     append(list, from, marks);
-    DraftAnswer {
-        number: 0,
-        draft: Draft {
-            open: draft.open,
-            marks: from + marks.len(),
-        },
-    }
+    Ok(Draft {
+        marks: from + marks.len(),
+        ..draft
+    })
 }
 
 // Closes a draft: one refinement by cells with its marks.
@@ -154,32 +143,20 @@ pub fn close(
     list: &[u32],
     cell_list: &mut [u32],
     function_list: &mut [u32],
-) -> CloseAnswer
-    ensures { left_by_close result cells functions cell_list function_list ≡ close_draft plan cells.old functions.old draft list.now cell_list.old function_list.old }
+) -> Result<Changes, Refusal>
+    ensures { left_by_close (closed_as draft result) cells functions cell_list function_list ≡ close_draft plan cells.old functions.old draft list.now cell_list.old function_list.old }
 {
-    let number = refusal19(plan, cells, functions, draft, list);
-    if number != 0 {
-        return CloseAnswer {
-            answer: changes::refuse(number),
-            draft,
-        };
-    }
-    let count = draft.marks;
-    let answer = calls::change(
-        0,
+    refusal19(plan, cells, functions, draft, list)?;
+    calls::change(
+        Ok(()),
         Call(Direction::Refine, By::Cells),
         plan,
         cells,
         functions,
-        &list[..count],
+        &list[..draft.marks],
         cell_list,
         function_list,
-    );
-    let closed = answer.number;
-    CloseAnswer {
-        answer,
-        draft: ended(closed, draft),
-    }
+    )
 }
 
 // A split or a join with a draft: 18 where it is open.
@@ -193,15 +170,12 @@ pub fn change(
     marks: &[u32],
     cell_list: &mut [u32],
     function_list: &mut [u32],
-) -> Answer
-    ensures { MeetsWithDraft (outcome_with_draft (direction_of call.0) (by_of call.1) plan) draft list.now result cells functions marks cell_list function_list }
+) -> Result<Changes, Refusal>
+    ensures { MeetsWithDraft (outcome_with_draft (direction_of call.0) (by_of call.1) plan) draft list.now (answer_of result) cells functions marks cell_list function_list }
 {
-    let number = refusal18(plan, cells, functions, draft, list);
-    if number != 0 {
-        return changes::refuse(number);
-    }
+    refusal18(plan, cells, functions, draft, list)?;
     calls::change(
-        0,
+        Ok(()),
         call,
         plan,
         cells,
@@ -224,54 +198,43 @@ pub fn refine(
     marks: &[u32],
     cell_list: &mut [u32],
     function_list: &mut [u32],
-) -> Answer
-    ensures { MeetsWithHeightsAndDraft (outcome_with_heights_and_draft (by_of by) plan) draft list.now result cells functions heights marks cell_list function_list }
+) -> Result<Changes, Refusal>
+    ensures { MeetsWithHeightsAndDraft (outcome_with_heights_and_draft (by_of by) plan) draft list.now (answer_of result) cells functions heights marks cell_list function_list }
 {
-    let number = refusal18(plan, cells, functions, draft, list);
-    if number != 0 {
-        return changes::refuse(number);
-    }
+    refusal18(plan, cells, functions, draft, list)?;
     let checked = heights::refusal(plan, functions, heights);
-    match by {
-        By::Cells => {
-            refining::refine_cells(
-                checked,
-                plan,
-                cells,
-                functions,
-                heights,
-                marks,
-                cell_list,
-                function_list,
-            )
-        }
-        By::Functions => {
-            refining::refine_functions(
-                checked,
-                plan,
-                cells,
-                functions,
-                heights,
-                marks,
-                cell_list,
-                function_list,
-            )
-        }
-    }
+    refining::refine(
+        by,
+        checked,
+        plan,
+        cells,
+        functions,
+        heights,
+        marks,
+        cell_list,
+        function_list,
+    )
 }
 
-// Opens a mesh; accepted, this drops the draft.
-pub fn open_mesh(plan: Plan, cells: &mut [u8], functions: &mut [u8], draft: Draft) -> DraftAnswer
-    ensures number { result.number ≡ (open_mesh plan cells.old functions.old).number }
+// Opens a mesh; accepted, this drops the draft, whichever there was.
+pub fn open_mesh(plan: Plan, cells: &mut [u8], functions: &mut [u8]) -> Result<Draft, Refusal>
+    ensures number { number_of result ≡ (open_mesh plan cells.old functions.old).number }
     ensures cells { cells.new ≡ (open_mesh plan cells.old functions.old).cells }
     ensures functions { functions.new ≡ (open_mesh plan cells.old functions.old).functions }
-    ensures draft { result.draft ≡ draft_after_open plan cells.old functions.old draft }
+    ensures draft { (draft : Draft) → draft_after draft result ≡ draft_after_open plan cells.old functions.old draft }
 {
-    let number = tables::open(plan, cells, functions);
-    DraftAnswer {
-        number,
-        draft: ended(number, draft),
+    tables::open(plan, cells, functions)?;
+    Ok(Draft::default())
+}
+
+// An accepted call that ends the draft leaves none; a refused one leaves it.
+fn ended(number: u32, draft: Draft) -> Draft
+    ensures { result ≡ ended_by number draft }
+{
+    if number == 0 {
+        return Draft::default();
     }
+    draft
 }
 
 // Reads a mesh; accepted, this drops the draft.

@@ -50,14 +50,14 @@ module _ (p : Plan) (cs fs : List ℕ) (d : Draft) (dl : List ℕ) where
   none_19 e o = rw (e, o)
 
   -- where 1 to 6 do not refuse, nor 18, or 19, the tables pass; and in the second case the draft is open
-  pub passes_18 : {n : ℕ} → n ≡ refusal18 p cs fs d dl → n ≡ 0 → check p cs fs ≡ 0
+  pub passes_18 : refusal18 p cs fs d dl ≡ 0 → check p cs fs ≡ 0
   unfolding refusal18
-  passes_18 e z = (chain (check p cs fs) _ (sym e ∙ z)).0
+  passes_18 e = (chain (check p cs fs) _ e).0
 
-  pub passes_19 : {n : ℕ} → n ≡ refusal19 p cs fs d dl → n ≡ 0 → (check p cs fs ≡ 0) × (is_open d dl ≡ true)
+  pub passes_19 : refusal19 p cs fs d dl ≡ 0 → (check p cs fs ≡ 0) × (is_open d dl ≡ true)
   unfolding refusal19
-  passes_19 e z =
-      let (k, o) = chain (check p cs fs) _ (sym e ∙ z) in
+  passes_19 e =
+      let (k, o) = chain (check p cs fs) _ e in
       (k, opened (is_open d dl) o)
     where
       opened : (b : Bool) → ◌≡◌ {A = ℕ} (cond b 0 19) 0 → b ≡ true
@@ -158,7 +158,7 @@ module _ (p : Plan) (cs fs : List ℕ) (d : Draft) (dl marks : List ℕ) where
   add_case = cases (eqb (add_refusal p cs fs d dl marks) 0)
       (λ z. let e = eqb→eq (add_refusal p cs fs d dl marks) 0 z in
       let (a, m, l) = add_none e in
-      taken l (passes_19 p cs fs d dl refl a).1 m (add_taken e))
+      taken l (passes_19 p cs fs d dl a).1 m (add_taken e))
       (λ z. let n : add_refusal p cs fs d dl marks ≢ 0 = differ _ _ z in
       let k : add_refusal p cs fs d dl marks ≡ suc (pred (add_refusal p cs fs d dl marks)) = omega arith in
       left_out (pred (add_refusal p cs fs d dl marks)) (add_refused n ∙ ap (λ m. record { answer = record { number = m; draft = d }; list = dl }) k))

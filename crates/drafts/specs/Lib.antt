@@ -1,4 +1,5 @@
 pub mod Drafts
+pub mod Answers
 pub mod Seasons
 pub mod Demands
 pub mod Meets

@@ -2,12 +2,17 @@
 // specs/, the theorems about them in proofs/; the code is in crate drafting.
 #![tactic(auto)]
 
-use files::ReadAnswer;
-use outcomes::Answer;
+ghost use Rattle.std.specs.Prelude.{◌≡◌};
+ghost use Rattle.drafts.specs.Answers.{answered, closed_as};
 
-// Whether a draft is open (any number but 0), and how many marks it has in the list that is lent with it.
+use files::ReadAnswer;
+use outcomes::{Answer, Changes};
+use refusals::Refusal;
+
+// Whether a draft is open (any number but 0), and how many marks it has in the list that is lent with it. The form is that of C, which has
+// no enum that holds a value. By default none is open.
 #[repr(C)]
-#[derive(Clone, Copy)]
+#[derive(Clone, Copy, Default)]
 pub struct Draft {
     pub open: u32,
     pub marks: usize,
@@ -21,12 +26,43 @@ pub struct DraftAnswer {
     pub draft: Draft,
 }
 
+impl DraftAnswer {
+    // Of a call that makes of one draft another: a refusal leaves it as it was before.
+    pub fn new(before: Draft, after: Result<Draft, Refusal>) -> DraftAnswer
+        ensures { result ≡ answered before after }
+    {
+        match after {
+            Ok(draft) => DraftAnswer { number: 0, draft },
+            Err(refusal) => DraftAnswer {
+                number: u32::from(refusal),
+                draft: before,
+            },
+        }
+    }
+}
+
 // What closing answers: as a refinement does, and the draft.
 #[repr(C)]
 #[derive(Clone, Copy)]
 pub struct CloseAnswer {
     pub answer: Answer,
     pub draft: Draft,
+}
+
+impl CloseAnswer {
+    // Closing ends the draft, unless it is refused.
+    pub fn new(before: Draft, closed: Result<Changes, Refusal>) -> CloseAnswer
+        ensures { result ≡ closed_as before closed }
+    {
+        let draft = match closed {
+            Ok(_) => Draft::default(),
+            Err(_) => before,
+        };
+        CloseAnswer {
+            answer: Answer::from(closed),
+            draft,
+        }
+    }
 }
 
 // What reading with a draft answers: as reading does, and the draft.

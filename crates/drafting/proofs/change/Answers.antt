@@ -1,15 +1,18 @@
 -- `change` meets its contract. Assumes nothing.
-use mathlib.Core.Path.{sym}
-use Rattle.calls.specs.Parts.{direction_of, by_of}
-use Rattle.drafts.proofs.Refusals.{passes_18}
-use Rattle.drafting.proofs.Whole.{changes_not, changes}
+use mathlib.Core.Path.{sym, ◌∙◌}
+use Rattle.refusals.proofs.Refused.{refused, handed_on}
+use Rattle.drafts.proofs.Refusals.{change_taken, passes_18}
+use Rattle.drafting.proofs.Whole.{changes_not}
 use Rattle.drafting.proofs.change.Goals as goal
 
-pub returns-then-number-ne0 : goal.returns-then-number-ne0
-returns-then-number-ne0 c = let a = c.args in changes_not (direction_of a.call.0) (by_of a.call.1) a.plan a.cells.now a.functions.now a.draft a.list.now a.marks.now a.cell_list.now a.function_list.now c.refuse.ensures c.refusal18-number.ensures c.if-number-ne0.true
+pub returns-in_err-refusal18 : goal.returns-in_err-refusal18
+returns-in_err-refusal18 c = let e = c.in_err-refusal18 in
+    rw (handed_on _ c.from_residual.ensures.1)
+    (changes_not _ _ _ _ _ _ _ _ _ _ e.ensures (refused e.field-0.0))
 
 pub change-requires : goal.change-requires
-change-requires c = let a = c.args in sym (passes_18 a.plan a.cells.now a.functions.now a.draft a.list.now c.refusal18-number.ensures c.if-number-ne0.false)
+change-requires c = sym (passes_18 _ _ _ _ _ (sym c.in_ok-refusal18.ensures))
 
 pub returns : goal.returns
-returns c = let a = c.args in changes (direction_of a.call.0) (by_of a.call.1) a.plan a.cells.now a.functions.now a.draft a.list.now a.marks.now a.cell_list.now a.function_list.now c.refusal18-number.ensures c.if-number-ne0.false c.change.ensures
+returns c = c.change.ensures
+    ∙ sym (change_taken _ _ _ _ _ _ _ _ _ _ (sym c.in_ok-refusal18.ensures))

@@ -1,26 +1,20 @@
 -- `close` meets its contract. Assumes nothing.
-use mathlib.Core.Path.{◌≡◌, sym}
-use mathlib.Core.Bool.{true}
+use mathlib.Core.Path.{sym}
 use lib.Seq.{length-take-le}
-use Rattle.mesh.specs.Mesh.{check}
-use Rattle.drafts.specs.Drafts.{is_open}
+use Rattle.refusals.proofs.Refused.{refused, handed_on}
 use Rattle.drafts.proofs.Refusals.{passes_19}
-use Rattle.drafting.proofs.Whole.{open_fits, closes_not, closes}
+use Rattle.drafting.proofs.Whole.{marks_fit, closes_not, closes}
 use Rattle.drafting.proofs.close.Goals as goal
-use Rattle.drafting.proofs.close.Goals.{Else-number-ne0}
 
-pub returns-then-number-ne0 : goal.returns-then-number-ne0
-returns-then-number-ne0 c = let a = c.args in closes_not a.plan a.cells.now a.functions.now a.draft a.list.now a.cell_list.now a.function_list.now c.refuse.ensures c.refusal19-number.ensures c.if-number-ne0.true
-
--- past the first test the tables pass and the draft is open
-ready : (c : Else-number-ne0) → let a = c.args in (check a.plan a.cells.now a.functions.now ≡ 0) × (is_open a.draft a.list.now ≡ true)
-ready c = let a = c.args in passes_19 a.plan a.cells.now a.functions.now a.draft a.list.now c.refusal19-number.ensures c.if-number-ne0.false
+pub returns-in_err-refusal19 : goal.returns-in_err-refusal19
+returns-in_err-refusal19 c = let e = c.in_err-refusal19 in
+    rw (handed_on _ c.from_residual.ensures.1) (closes_not _ _ _ _ _ _ _ e.ensures (refused e.field-0.0))
 
 pub slice_bounds-change-end : goal.slice_bounds-change-end
-slice_bounds-change-end c = sym (length-take-le c.args.draft.marks c.args.list.now (open_fits c.args.draft c.args.list.now (ready (goal.at.slice_bounds-change-end c).Else-number-ne0).1))
+slice_bounds-change-end c = sym (length-take-le _ _ (marks_fit _ _ _ _ _ (sym c.in_ok-refusal19.ensures)))
 
-pub change-answer-requires : goal.change-answer-requires
-change-answer-requires c = sym (ready (goal.at.change-answer-requires c).Else-number-ne0).0
+pub change-requires : goal.change-requires
+change-requires c = sym (passes_19 _ _ _ _ _ (sym c.in_ok-refusal19.ensures)).0
 
 pub returns : goal.returns
-returns c = let a = c.args in closes a.plan a.cells.now a.functions.now a.draft a.list.now a.cell_list.now a.function_list.now c.refusal19-number.ensures c.if-number-ne0.false c.change-answer.ensures c.ended.ensures
+returns c = closes _ _ _ _ _ _ _ (sym c.in_ok-refusal19.ensures) c.change.ensures

@@ -3,10 +3,10 @@ use borrow.Author.Tests.{eq-eqb, ne_eqb}
 use Rattle.drafts.specs.Drafts.{is_open}
 use Rattle.drafting.proofs.is_open.Goals as goal
 
-pub returns-then-draft-eq0 : goal.returns-then-draft-eq0
+pub returns-then-draft-ne0 : goal.returns-then-draft-ne0
 unfolding is_open
-returns-then-draft-eq0 c = rw (eq-eqb _ _ c.if-draft-eq0.true)
+returns-then-draft-ne0 c = rw (ne_eqb _ _ c.if-draft-ne0.true)
 
-pub returns : goal.returns
+pub returns-else-draft-ne0 : goal.returns-else-draft-ne0
 unfolding is_open
-returns c = rw (ne_eqb _ _ c.if-draft-eq0.false)
+returns-else-draft-ne0 c = rw (eq-eqb _ _ c.if-draft-ne0.false)

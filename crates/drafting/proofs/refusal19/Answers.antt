@@ -1,21 +1,16 @@
 -- `refusal19` meets its contract. Assumes nothing.
-use mathlib.Core.Path.{◌≡◌, sym, ◌∙◌}
-use Rattle.mesh.specs.Mesh.{check}
+use mathlib.Core.Path.{sym, ◌∙◌}
+use Rattle.refusals.proofs.Refused.{refused, handed_on}
 use Rattle.drafts.proofs.Refusals.{check_19, open_19, none_19}
 use Rattle.drafting.proofs.refusal19.Goals as goal
-use Rattle.drafting.proofs.refusal19.Goals.{Else-checked-ne0}
 
-pub returns-then-checked-ne0 : goal.returns-then-checked-ne0
-returns-then-checked-ne0 c = let a = c.args in
-    c.check-checked.ensures ∙ sym (check_19 a.plan a.cells.now a.functions.now a.draft a.list.now (λ e. c.if-checked-ne0.true (c.check-checked.ensures ∙ e)))
+pub returns-in_err-check : goal.returns-in_err-check
+returns-in_err-check c = let e = c.in_err-check in
+    rw (handed_on _ c.from_residual.ensures.1)
+    (e.ensures ∙ sym (check_19 _ _ _ _ _ (λ z. refused e.field-0.0 (e.ensures ∙ z))))
 
-passes : (c : Else-checked-ne0) → let a = c.args in check a.plan a.cells.now a.functions.now ≡ 0
-passes c = sym c.check-checked.ensures ∙ c.if-checked-ne0.false
-
-pub returns-then-is_open : goal.returns-then-is_open
-returns-then-is_open c = let a = c.args in
-    sym (open_19 a.plan a.cells.now a.functions.now a.draft a.list.now (passes (goal.at.returns-then-is_open c).Else-checked-ne0) (sym c.is_open.ensures ∙ c.if-is_open.true))
+pub returns-then-not-is_open : goal.returns-then-not-is_open
+returns-then-not-is_open c = sym (none_19 _ _ _ _ _ (sym c.in_ok-check.ensures) (sym c.is_open.ensures ∙ c.if-not-is_open.true))
 
 pub returns : goal.returns
-returns c = let a = c.args in
-    sym (none_19 a.plan a.cells.now a.functions.now a.draft a.list.now (passes (goal.at.returns c).Else-checked-ne0) (sym c.is_open.ensures ∙ c.if-is_open.false))
+returns c = sym (open_19 _ _ _ _ _ (sym c.in_ok-check.ensures) (sym c.is_open.ensures ∙ c.if-not-is_open.false))
