@@ -5,11 +5,11 @@ ghost use Rattle.std.specs.Prelude.{◌≡◌, ◌≤◌, length, IfOk};
 ghost use Rattle.outcomes.specs.Answers.{answer_of};
 ghost use Rattle.outcomes.specs.Calls.{outcome};
 ghost use Rattle.outcomes.specs.Meets.{Meets};
-ghost use Rattle.calls.specs.Parts as parts;
+ghost use Rattle.calls.specs.Parts.{direction_of, by_of};
 ghost use Rattle.script.specs.Session.{calling, obey as obey·kind, step_of};
 ghost use Rattle.script.specs.Steps.{held, Replied};
 ghost use Rattle.script.specs.Bounds.{wall_cells, wall_functions};
-ghost use Rattle.replies.specs.Steps.{direction_of, by_of, Answered};
+ghost use Rattle.replies.specs.Steps.{Answered};
 
 use calls::{By, Call, Direction};
 use grid::Plan;
@@ -28,28 +28,9 @@ pub struct Buffers {
     pub out: [u8; ANSWER_BYTES],
 }
 
-// Which way a line's call goes, and what its marks are.
-fn direction_of(kind: Kind) -> Direction
-    ensures { parts.direction_of result ≡ direction_of kind }
-{
-    match kind {
-        Kind::Split | Kind::SplitFunctions => Direction::Refine,
-        Kind::Unreadable | Kind::Wall | Kind::Join | Kind::JoinFunctions => Direction::Coarsen,
-    }
-}
-
-fn by_of(kind: Kind) -> By
-    ensures { parts.by_of result ≡ by_of kind }
-{
-    match kind {
-        Kind::Split | Kind::Join => By::Cells,
-        Kind::Unreadable | Kind::Wall | Kind::SplitFunctions | Kind::JoinFunctions => By::Functions,
-    }
-}
-
 // The call that a line asks for.
 fn call(
-    kind: Kind,
+    asked: Call,
     plan: Plan,
     cells: &mut [u8],
     functions: &mut [u8],
@@ -57,13 +38,13 @@ fn call(
     cell_list: &mut [u32],
     function_list: &mut [u32],
 ) -> Result<Changes, Refusal>
-    ensures meets { Meets (outcome (direction_of kind) (by_of kind) plan) (answer_of result) cells functions marks cell_list function_list }
+    ensures meets { Meets (outcome (direction_of asked.0) (by_of asked.1) plan) (answer_of result) cells functions marks cell_list function_list }
     ensures in_bounds { IfOk result (λ changes. (changes.cells ≤ length cell_list.new) × (changes.functions ≤ length function_list.new)) }
 {
     let checked = tables::check(plan, cells, functions);
     calls::change(
         checked,
-        Call(direction_of(kind), by_of(kind)),
+        asked,
         plan,
         cells,
         functions,
@@ -75,7 +56,7 @@ fn call(
 
 // A call, and its answer.
 fn answer(
-    kind: Kind,
+    asked: Call,
     plan: Plan,
     cells: &mut [u8],
     functions: &mut [u8],
@@ -85,10 +66,10 @@ fn answer(
     out: &mut [u8; ANSWER_BYTES],
 ) -> usize
     requires { (length cell_list.old ≤ wall_cells) × (length function_list.old ≤ wall_functions) }
-    ensures { Answered (outcome (direction_of kind) (by_of kind) plan cells.old functions.old marks.now cell_list.old function_list.old) result cells.new functions.new out.new }
+    ensures { Answered (outcome (direction_of asked.0) (by_of asked.1) plan cells.old functions.old marks.now cell_list.old function_list.old) result cells.new functions.new out.new }
 {
     match call(
-        kind,
+        asked,
         plan,
         cells,
         functions,
@@ -109,7 +90,7 @@ fn answer(
 // A line with marks, on the wall in hand.
 fn change(
     hand: Option<Hand>,
-    kind: Kind,
+    asked: Call,
     marks: &[u32],
     cells: &mut [u8; WALL_CELLS],
     functions: &mut [u8; WALL_FUNCTIONS],
@@ -117,14 +98,14 @@ fn change(
     function_list: &mut [u32; WALL_FUNCTIONS],
     out: &mut [u8; ANSWER_BYTES],
 ) -> Done
-    ensures { Replied (calling (direction_of kind) (by_of kind) (held hand cells.old functions.old) marks.now) result cells.new functions.new out.new }
+    ensures { Replied (calling (direction_of asked.0) (by_of asked.1) (held hand cells.old functions.old) marks.now) result cells.new functions.new out.new }
 {
     let Some(wall) = hand else {
         let count = script::say_question(out);
         return Done { hand, count };
     };
     let count = answer(
-        kind,
+        asked,
         wall.plan,
         &mut cells[..wall.cells],
         &mut functions[..wall.functions],
@@ -140,32 +121,35 @@ fn change(
 fn obey(hand: Option<Hand>, kind: Kind, numbers: &[u32], buffers: &mut Buffers) -> Done
     ensures { Replied (obey·kind kind (held hand buffers.old.cells buffers.old.functions) numbers.now) result buffers.new.cells buffers.new.functions buffers.new.out }
 {
-    match kind {
+    let asked = match kind {
         Kind::Unreadable => {
             let count = script::say_question(&mut buffers.out);
-            Done { hand, count }
+            return Done { hand, count };
         }
         Kind::Wall => {
-            let plan = grid::plan_of(numbers);
-            script::open(
+            return script::open(
                 hand,
-                plan,
+                grid::plan_of(numbers),
                 &mut buffers.cells,
                 &mut buffers.functions,
                 &mut buffers.out,
-            )
+            );
         }
-        Kind::Split | Kind::Join | Kind::SplitFunctions | Kind::JoinFunctions => change(
-            hand,
-            kind,
-            numbers,
-            &mut buffers.cells,
-            &mut buffers.functions,
-            &mut buffers.cell_list,
-            &mut buffers.function_list,
-            &mut buffers.out,
-        ),
-    }
+        Kind::Split => Call(Direction::Refine, By::Cells),
+        Kind::Join => Call(Direction::Coarsen, By::Cells),
+        Kind::SplitFunctions => Call(Direction::Refine, By::Functions),
+        Kind::JoinFunctions => Call(Direction::Coarsen, By::Functions),
+    };
+    change(
+        hand,
+        asked,
+        numbers,
+        &mut buffers.cells,
+        &mut buffers.functions,
+        &mut buffers.cell_list,
+        &mut buffers.function_list,
+        &mut buffers.out,
+    )
 }
 
 // A line without its line feed: what it leaves in hand and in the tables, and what it prints, at the start of the buffer.
