@@ -14,7 +14,7 @@ ghost use Rattle.calls.specs.Parts.{direction_of, by_of};
 ghost use Rattle.files.specs.File.{read_mesh};
 ghost use Rattle.files.specs.Steps.{left_by_read};
 ghost use Rattle.drafts.specs.declared.Draft.{Draft};
-ghost use Rattle.drafts.specs.Drafts.{is_open, refusal18, refusal19, open_draft, drop_draft, add_marks, close_draft, ended_by, outcome_with_draft, outcome_with_heights_and_draft, draft_after_open, draft_after_read};
+ghost use Rattle.drafts.specs.Drafts.{is_open, refusal18, refusal19, open_draft, drop_draft, add_marks, close_draft, outcome_with_draft, outcome_with_heights_and_draft, draft_after_open, draft_after_read};
 ghost use Rattle.drafts.specs.Answers.{draft_after, answered, closed_as};
 ghost use Rattle.drafts.specs.Meets.{left_by_add, left_by_close, MeetsWithDraft, MeetsWithHeightsAndDraft};
 
@@ -227,16 +227,6 @@ pub fn open_mesh(plan: Plan, cells: &mut [u8], functions: &mut [u8]) -> Result<D
     Ok(Draft::default())
 }
 
-// An accepted call that ends the draft leaves none; a refused one leaves it.
-fn ended(number: u32, draft: Draft) -> Draft
-    ensures { result ≡ ended_by number draft }
-{
-    if number == 0 {
-        return Draft::default();
-    }
-    draft
-}
-
 // Reads a mesh; accepted, this drops the draft.
 pub fn read_mesh(
     file: &[u8],
@@ -247,10 +237,5 @@ pub fn read_mesh(
     ensures outcome { left_by_read result.answer cells functions ≡ read_mesh file.now cells.old functions.old }
     ensures draft { result.draft ≡ draft_after_read file.now cells.old functions.old draft }
 {
-    let answer = files::read(file, cells, functions);
-    let read = answer.number;
-    ReadWithDraftAnswer {
-        answer,
-        draft: ended(read, draft),
-    }
+    ReadWithDraftAnswer::new(draft, files::read(file, cells, functions))
 }

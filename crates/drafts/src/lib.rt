@@ -3,9 +3,10 @@
 #![tactic(auto)]
 
 ghost use Rattle.std.specs.Prelude.{◌≡◌};
-ghost use Rattle.drafts.specs.Answers.{answered, closed_as};
+ghost use Rattle.drafts.specs.Answers.{answered, closed_as, read_as};
 
-use files::ReadAnswer;
+use files::{ReadAnswer, ReadRefusal};
+use grid::Plan;
 use outcomes::{Answer, Changes};
 use refusals::Refusal;
 
@@ -71,4 +72,20 @@ impl CloseAnswer {
 pub struct ReadWithDraftAnswer {
     pub answer: ReadAnswer,
     pub draft: Draft,
+}
+
+impl ReadWithDraftAnswer {
+    // Reading ends the draft, unless it is refused.
+    pub fn new(before: Draft, read: Result<Plan, ReadRefusal>) -> ReadWithDraftAnswer
+        ensures { result ≡ read_as before read }
+    {
+        let draft = match read {
+            Ok(_) => Draft::default(),
+            Err(_) => before,
+        };
+        ReadWithDraftAnswer {
+            answer: ReadAnswer::from(read),
+            draft,
+        }
+    }
 }
