@@ -6,3 +6,4 @@ pub mod Passes
 pub mod Marked
 pub mod Places
 pub mod Model
+pub mod Becoming

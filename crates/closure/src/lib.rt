@@ -34,215 +34,185 @@ fn fill_cells(part: &mut [u8], width: usize, r: Rectangle, value: u8)
     }
 }
 
-// Sets the byte of the cell at a place, and one less at its children: 2 refines it, 1 makes it active again.
-fn write_cell(plan: Plan, cells: &mut [u8], cell: Cell, place: Place, value: u8)
-    requires table_size { TableSize plan (length cells.old) }
-    requires cell_inside { CellInside plan place }
-    requires cell_value { cell.0 ≡ cell_number plan place }
-    requires level_bound { place.level + 1 < plan.levels }
-    requires le_value { 1 ≤ value }
-    ensures { cells.new ≡ write_cell plan value place cells.old }
-{
-    let number = cell.0 as usize;
-    cells[number] = value;
-    let children = plan.children(place);
-    let level = children.level;
-    let offset = plan.cell_offset(level) as usize;
-    let width = plan.columns_at(level) as usize;
-    fill_cells(&mut cells[offset..], width, children, value - 1);
+// A plan and its cell table.
+#[derive(Drop)]
+struct Table<'a> {
+    plan: Plan,
+    cells: &'a mut [u8],
+    ghost size: { TableSize plan (length cells.now) },
 }
 
-// Refines the cell at a place, after its neighbourhood.
-#[cycle(refine_cell_refine_neighbourhood)]
-fn refine_cell(plan: Plan, cells: &mut [u8], cell: Cell, place: Place)
-    requires table_size { TableSize plan (length cells.old) }
-    requires cell_inside { CellInside plan place }
-    requires cell_value { cell.0 ≡ cell_number plan place }
-    requires level_bound { place.level + 1 < plan.levels }
-    ensures { (n : ℕ) → place.level < n → cells.new ≡ refine_cell n plan place cells.old }
-{
-    let number = cell.0 as usize;
-    if cells[number] == 2 {
-        return;
-    }
-    refine_neighbourhood(plan, cells, place);
-    write_cell(plan, cells, cell, place, 2);
-}
+impl Table<'_> {
+    ghost use Rattle.closure.specs.Table.{Becomes};
 
-// Refines the neighbourhood of the cell at a place, where it has one: each of its cells after its own.
-#[cycle(refine_cell_refine_neighbourhood)]
-fn refine_neighbourhood(plan: Plan, cells: &mut [u8], place: Place)
-    requires table_size { TableSize plan (length cells.old) }
-    requires cell_inside { CellInside plan place }
-    requires level_bound { place.level + 1 < plan.levels }
-    ensures { (n : ℕ) → place.level ≤ n → cells.new ≡ walk_near (refine_cell n plan) plan place cells.old }
-{
-    let class = plan.class;
-    let level = place.level;
-    if class == 0 {
-        return;
+    // Sets the byte of the cell at a place, and one less at its children: 2 refines it, 1 makes it active again.
+    fn write_cell(&mut self, cell: Cell, place: Place, value: u8)
+        requires cell_inside { CellInside self.old.plan place }
+        requires cell_value { cell.0 ≡ cell_number self.old.plan place }
+        requires level_bound { place.level + 1 < self.old.plan.levels }
+        requires le_value { 1 ≤ value }
+        ensures { Becomes self.old self.new (λ p. write_cell p value place) }
+    {
+        let number = cell.0 as usize;
+        self.cells[number] = value;
+        let children = self.plan.children(place);
+        let level = children.level;
+        let offset = self.plan.cell_offset(level) as usize;
+        let width = self.plan.columns_at(level) as usize;
+        fill_cells(&mut self.cells[offset..], width, children, value - 1);
     }
-    if level + 1 < class {
-        return;
+
+    // Refines the cell at a place, after its neighbourhood.
+    #[cycle(refine_cell_refine_neighbourhood)]
+    fn refine_cell(&mut self, cell: Cell, place: Place)
+        requires cell_inside { CellInside self.old.plan place }
+        requires cell_value { cell.0 ≡ cell_number self.old.plan place }
+        requires level_bound { place.level + 1 < self.old.plan.levels }
+        ensures { (n : ℕ) → place.level < n → Becomes self.old self.new (λ p. refine_cell n p place) }
+    {
+        let number = cell.0 as usize;
+        if self.cells[number] == 2 {
+            return;
+        }
+        self.refine_neighbourhood(place);
+        self.write_cell(cell, place, 2);
     }
-    let near = plan.neighbourhood(place);
-    let coarse = near.level;
-    let offset = plan.cell_offset(coarse);
-    let width = plan.columns_at(coarse);
-    for row in near.rows.first..near.rows.end {
-        for column in near.columns.first..near.columns.end {
-            let number = offset + (row * width + column);
-            refine_cell(
-                plan,
-                cells,
-                Cell(number),
-                Place {
-                    level: coarse,
-                    row,
-                    column,
-                },
-            );
+
+    // Refines the neighbourhood of the cell at a place, where it has one: each of its cells after its own.
+    #[cycle(refine_cell_refine_neighbourhood)]
+    fn refine_neighbourhood(&mut self, place: Place)
+        requires cell_inside { CellInside self.old.plan place }
+        requires level_bound { place.level + 1 < self.old.plan.levels }
+        ensures { (n : ℕ) → place.level ≤ n → Becomes self.old self.new (λ p. walk_near (refine_cell n p) p place) }
+    {
+        let class = self.plan.class;
+        let level = place.level;
+        if class == 0 {
+            return;
+        }
+        if level + 1 < class {
+            return;
+        }
+        let near = self.plan.neighbourhood(place);
+        let coarse = near.level;
+        let offset = self.plan.cell_offset(coarse);
+        let width = self.plan.columns_at(coarse);
+        for row in near.rows.first..near.rows.end {
+            for column in near.columns.first..near.columns.end {
+                let number = offset + (row * width + column);
+                self.refine_cell(
+                    Cell(number),
+                    Place {
+                        level: coarse,
+                        row,
+                        column,
+                    },
+                );
+            }
         }
     }
-}
 
-// Refines the neighbourhood of the cell at a place, unless the table that was made when its level was entered has it refined.
-fn close_cell(plan: Plan, cells: &mut [u8], near: &[u8], place: Place)
-    requires table_size { TableSize plan (length cells.old) }
-    requires near_room { NearRoom plan (length near.now) }
-    requires cell_inside { CellInside plan place }
-    requires level_bound { place.level + 1 < plan.levels }
-    ensures { cells.new ≡ close_cell (told plan near.now) plan place cells.old }
-{
-    if windows::least_near(plan, near, place) == 2 {
-        return;
+    // Refines the neighbourhood of the cell at a place, unless the table that was made when its level was entered has it refined.
+    fn close_cell(&mut self, near: &[u8], place: Place)
+        requires near_room { NearRoom self.old.plan (length near.now) }
+        requires cell_inside { CellInside self.old.plan place }
+        requires level_bound { place.level + 1 < self.old.plan.levels }
+        ensures { Becomes self.old self.new (λ p. close_cell (told p near.now) p place) }
+    {
+        if windows::least_near(self.plan, near, place) == 2 {
+            return;
+        }
+        self.refine_neighbourhood(place);
     }
-    refine_neighbourhood(plan, cells, place);
-}
 
-// What a pass does at a cell.
-fn visit(
-    plan: Plan,
-    cells: &mut [u8],
-    flags: &[u8],
-    near: &[u8],
-    step: Pass,
-    cell: Cell,
-    place: Place,
-)
-    requires table_size { TableSize plan (length cells.old) }
-    requires flags_len { (length flags.now ≡ cell_total plan) × (NearRoom plan (length near.now)) }
-    requires cell_inside { CellInside plan place }
-    requires cell_value { cell.0 ≡ cell_number plan place }
-    requires level_bound { place.level + 1 < plan.levels }
-    ensures { cells.new ≡ visit step plan flags.now (told plan near.now) place cells.old }
-{
-    let c = cell.0 as usize;
-    match step {
-        Pass::Refine => {
-            if flags[c] == 1 {
-                if cells[c] != 2 {
-                    close_cell(plan, cells, near, place);
-                    write_cell(plan, cells, cell, place, 2);
+    // What a pass does at a cell.
+    fn visit(&mut self, flags: &[u8], near: &[u8], step: Pass, cell: Cell, place: Place)
+        requires flags_len { (length flags.now ≡ cell_total self.old.plan) × (NearRoom self.old.plan (length near.now)) }
+        requires cell_inside { CellInside self.old.plan place }
+        requires cell_value { cell.0 ≡ cell_number self.old.plan place }
+        requires level_bound { place.level + 1 < self.old.plan.levels }
+        ensures { Becomes self.old self.new (λ p. visit step p flags.now (told p near.now) place) }
+    {
+        let c = cell.0 as usize;
+        match step {
+            Pass::Refine => {
+                if flags[c] == 1 {
+                    if self.cells[c] != 2 {
+                        self.close_cell(near, place);
+                        self.write_cell(cell, place, 2);
+                    }
+                }
+            }
+            Pass::Activate => {
+                if flags[c] == 1 {
+                    self.write_cell(cell, place, 1);
+                }
+            }
+            Pass::Close => {
+                if self.cells[c] == 2 {
+                    self.close_cell(near, place);
                 }
             }
         }
-        Pass::Activate => {
-            if flags[c] == 1 {
-                write_cell(plan, cells, cell, place, 1);
-            }
+    }
+
+    // A row of a level, the first cell of which is `first`.
+    fn run_row(&mut self, flags: &[u8], near: &[u8], step: Pass, level: u32, row: u32, first: u32)
+        requires flags_len { (length flags.now ≡ cell_total self.old.plan) × (NearRoom self.old.plan (length near.now)) }
+        requires level_bound { (level + 1 < self.old.plan.levels) × (row < rows_at self.old.plan level) }
+        requires first_value { first ≡ cell_offset self.old.plan level + row * columns_at self.old.plan level }
+        ensures { Becomes self.old self.new (λ p. over_row (visit step p flags.now (told p near.now)) level row (level_cells p level).columns) }
+    {
+        for column in 0..self.plan.columns_at(level) {
+            self.visit(
+                flags,
+                near,
+                step,
+                Cell(first + column),
+                Place { level, row, column },
+            );
         }
-        Pass::Close => {
-            if cells[c] == 2 {
-                close_cell(plan, cells, near, place);
-            }
+    }
+
+    // The rows of a level, by the table of its neighbourhoods.
+    fn run_level(&mut self, flags: &[u8], near: &[u8], step: Pass, level: u32)
+        requires flags_len { (length flags.now ≡ cell_total self.old.plan) × (NearRoom self.old.plan (length near.now)) }
+        requires level_bound { level + 1 < self.old.plan.levels }
+        ensures { Becomes self.old self.new (λ p. over (visit step p flags.now (told p near.now)) (level_cells p level)) }
+    {
+        let columns = self.plan.columns_at(level);
+        let rows = self.plan.rows_at(level);
+        let mut first = self.plan.cell_offset(level);
+        for row in 0..rows {
+            self.run_row(flags, near, step, level, row, first);
+            first += columns;
         }
     }
-}
 
-// A row of a level, the first cell of which is `first`.
-fn run_row(
-    plan: Plan,
-    cells: &mut [u8],
-    flags: &[u8],
-    near: &[u8],
-    step: Pass,
-    level: u32,
-    row: u32,
-    first: u32,
-)
-    requires table_size { TableSize plan (length cells.old) }
-    requires flags_len { (length flags.now ≡ cell_total plan) × (NearRoom plan (length near.now)) }
-    requires level_bound { (level + 1 < plan.levels) × (row < rows_at plan level) }
-    requires first_value { first ≡ cell_offset plan level + row * columns_at plan level }
-    ensures { cells.new ≡ over_row (visit step plan flags.now (told plan near.now)) level row (level_cells plan level).columns cells.old }
-{
-    for column in 0..plan.columns_at(level) {
-        visit(
-            plan,
-            cells,
-            flags,
-            near,
-            step,
-            Cell(first + column),
-            Place { level, row, column },
-        );
+    // The levels but for the last. The table of a level's neighbourhoods is made when it is entered: what is refined then stays refined.
+    fn run_levels(&mut self, flags: &[u8], near: &mut [u8], scratch: &mut [u8], step: Pass)
+        requires flags_len { length flags.now ≡ cell_total self.old.plan }
+        requires near_room { (NearRoom self.old.plan (length near.old)) × (NearRoom self.old.plan (length scratch.old)) }
+        ensures { Becomes self.old self.new (λ p. pass step p flags.now) }
+    {
+        for level in 0..self.plan.levels - 1 {
+            // of a field that is lent as `&` a proof knows no cell afterwards
+            let cells = &mut *self.cells;
+            windows::neighbourhoods(self.plan, cells, level, scratch, near);
+            self.run_level(flags, near, step, level);
+        }
     }
-}
 
-// The rows of a level, by the table of its neighbourhoods.
-fn run_level(plan: Plan, cells: &mut [u8], flags: &[u8], near: &[u8], step: Pass, level: u32)
-    requires table_size { TableSize plan (length cells.old) }
-    requires flags_len { (length flags.now ≡ cell_total plan) × (NearRoom plan (length near.now)) }
-    requires level_bound { level + 1 < plan.levels }
-    ensures { cells.new ≡ over (visit step plan flags.now (told plan near.now)) (level_cells plan level) cells.old }
-{
-    let columns = plan.columns_at(level);
-    let rows = plan.rows_at(level);
-    let mut first = plan.cell_offset(level);
-    for row in 0..rows {
-        run_row(plan, cells, flags, near, step, level, row, first);
-        first += columns;
+    // One pass, with room for the tables of neighbourhoods.
+    fn run(&mut self, flags: &[u8], step: Pass)
+        requires { length flags.now ≡ cell_total self.old.plan }
+        ensures { Becomes self.old self.new (λ p. pass step p flags.now) }
+    {
+        let room = MOST_NEAR;
+        let mut near = [0u8; MOST_NEAR];
+        let mut scratch = [0u8; MOST_NEAR];
+        self.run_levels(flags, &mut near[..room], &mut scratch[..room], step);
     }
-}
-
-// The levels but for the last. The table of a level's neighbourhoods is made when it is entered: what is refined then stays refined.
-fn run_levels(
-    plan: Plan,
-    cells: &mut [u8],
-    flags: &[u8],
-    near: &mut [u8],
-    scratch: &mut [u8],
-    step: Pass,
-)
-    requires table_size { TableSize plan (length cells.old) }
-    requires flags_len { length flags.now ≡ cell_total plan }
-    requires near_room { (NearRoom plan (length near.old)) × (NearRoom plan (length scratch.old)) }
-    ensures { cells.new ≡ pass step plan flags.now cells.old }
-{
-    for level in 0..plan.levels - 1 {
-        windows::neighbourhoods(plan, cells, level, scratch, near);
-        run_level(plan, cells, flags, near, step, level);
-    }
-}
-
-// One pass, with room for the tables of neighbourhoods.
-fn run(plan: Plan, cells: &mut [u8], flags: &[u8], step: Pass)
-    requires table_size { TableSize plan (length cells.old) }
-    requires flags_len { length flags.now ≡ cell_total plan }
-    ensures { cells.new ≡ pass step plan flags.now cells.old }
-{
-    let room = MOST_NEAR;
-    let mut near = [0u8; MOST_NEAR];
-    let mut scratch = [0u8; MOST_NEAR];
-    run_levels(
-        plan,
-        cells,
-        flags,
-        &mut near[..room],
-        &mut scratch[..room],
-        step,
-    );
 }
 
 // Refines the cells with the flag 1, and all that the new mesh needs.
@@ -250,7 +220,8 @@ pub fn refine_marked(plan: Plan, cells: &mut [u8], flags: &[u8])
     requires { Ready refine plan cells.old flags.now }
     ensures { cells.new ≡ smallest plan (base refine cells.old (flagged flags.now)) }
 {
-    run(plan, cells, flags, Pass::Refine);
+    let mut table = Table { plan, cells };
+    table.run(flags, Pass::Refine);
 }
 
 // Coarsens the cells with the flag 1, but for those that the others need.
@@ -258,6 +229,7 @@ pub fn coarsen_marked(plan: Plan, cells: &mut [u8], flags: &[u8])
     requires { Ready coarsen plan cells.old flags.now }
     ensures { cells.new ≡ smallest plan (base coarsen cells.old (flagged flags.now)) }
 {
-    run(plan, cells, flags, Pass::Activate);
-    run(plan, cells, flags, Pass::Close);
+    let mut table = Table { plan, cells };
+    table.run(flags, Pass::Activate);
+    table.run(flags, Pass::Close);
 }
