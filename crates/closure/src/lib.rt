@@ -208,10 +208,10 @@ impl Table<'_> {
         requires { length flags.now ≡ cell_total self.old.plan }
         ensures { Becomes self.old self.new (λ p. pass step p flags.now) }
     {
-        let room = MOST_NEAR;
+        // no heap: rooms of the largest size
         let mut near = [0u8; MOST_NEAR];
         let mut scratch = [0u8; MOST_NEAR];
-        self.run_levels(flags, &mut near[..room], &mut scratch[..room], step);
+        self.run_levels(flags, &mut near, &mut scratch, step);
     }
 }
 

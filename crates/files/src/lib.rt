@@ -208,6 +208,7 @@ fn restore(
     if outline.last >= total as u64 {
         return Err(Refusal::NotAMesh);
     }
+    // no heap: room of the largest size, of which the front is used
     let mut room = [0u8; MOST_CELLS];
     let table = &mut room[..total];
     rebuild(file, outline, table);
@@ -245,7 +246,7 @@ fn size_corners(across: u32, up: u32) -> usize
     codec::size(across) + codec::size(up)
 }
 
-// The corner numbers put at a place, nothing where both are 0; the place behind them.
+// The corner numbers put at a place, nothing where both are 0; the place behind them. The buffer is lent whole, as to codec::write.
 fn write_corners(across: u32, up: u32, out: &mut [u8], at: usize) -> usize
     requires across_lt_number_limit { (across < number_limit) × (up < number_limit) }
     requires up_in_bounds { at + length (encode_corners across up) ≤ length out.old }

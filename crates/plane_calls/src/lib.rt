@@ -24,7 +24,8 @@ use mesh::Counts;
 use outcomes::Changes;
 use refusals::Refusal;
 
-// The bytes of as many whole words as the largest plane has: 342.
+// The bytes of as many whole words as the largest plane has: 342. A room of this size is on the stack where bytes are needed, since there is no
+// heap. The two planes are parameters of their own, since a struct of them would make each clause longer.
 const ROOM: usize = 21888;
 
 // How many words a plane has.

@@ -376,7 +376,10 @@ pub extern "C" fn wallmirror_draft_add(
 ) -> DraftAnswer
     ensures { left_by_add result list ≡ add_marks plan cells.now functions.now draft list.old marks.now }
 {
-    DraftAnswer::new(draft, drafting::add(plan, cells, functions, draft, list, marks))
+    DraftAnswer::new(
+        draft,
+        drafting::add(plan, cells, functions, draft, list, marks),
+    )
 }
 
 #[unsafe(no_mangle)]
