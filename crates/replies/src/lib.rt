@@ -8,7 +8,7 @@ ghost use Rattle.outcomes.specs.Meets.{Meets};
 ghost use Rattle.calls.specs.Parts.{direction_of, by_of};
 ghost use Rattle.script.specs.Session.{calling, obey as obey·kind, step_of};
 ghost use Rattle.script.specs.Steps.{held, Replied};
-ghost use Rattle.script.specs.Bounds.{wall_cells, wall_functions};
+ghost use Rattle.script.specs.Bounds.{answer_bytes, wall_cells, wall_functions};
 ghost use Rattle.replies.specs.Steps.{Answered};
 
 use calls::{By, Call, Direction};
@@ -17,16 +17,6 @@ use lines::Kind;
 use outcomes::Changes;
 use refusals::Refusal;
 use script::{ANSWER_BYTES, Done, Hand, WALL_CELLS, WALL_FUNCTIONS};
-
-// The tables and lists of the largest wall of a session, and room for its longest answer.
-#[derive(Drop)]
-pub struct Buffers {
-    pub cells: [u8; WALL_CELLS],
-    pub functions: [u8; WALL_FUNCTIONS],
-    pub cell_list: [u32; WALL_CELLS],
-    pub function_list: [u32; WALL_FUNCTIONS],
-    pub out: [u8; ANSWER_BYTES],
-}
 
 // The call that a line asks for.
 fn call(
@@ -117,24 +107,26 @@ fn change(
     Done { hand, count }
 }
 
-// A line that was read.
-fn obey(hand: Option<Hand>, kind: Kind, numbers: &[u32], buffers: &mut Buffers) -> Done
-    ensures { Replied (obey·kind kind (held hand buffers.old.cells buffers.old.functions) numbers.now) result buffers.new.cells buffers.new.functions buffers.new.out }
+// A line that was read. The clause on lengths is for `step`, which lends the start of slices.
+fn obey(
+    hand: Option<Hand>,
+    kind: Kind,
+    numbers: &[u32],
+    cells: &mut [u8; WALL_CELLS],
+    functions: &mut [u8; WALL_FUNCTIONS],
+    cell_list: &mut [u32; WALL_CELLS],
+    function_list: &mut [u32; WALL_FUNCTIONS],
+    out: &mut [u8; ANSWER_BYTES],
+) -> Done
+    ensures lens { (length cells.new ≡ wall_cells) × (length functions.new ≡ wall_functions) }
+    ensures replied { Replied (obey·kind kind (held hand cells.old functions.old) numbers.now) result cells.new functions.new out.new }
 {
     let asked = match kind {
         Kind::Unreadable => {
-            let count = script::say_question(&mut buffers.out);
+            let count = script::say_question(out);
             return Done { hand, count };
         }
-        Kind::Wall => {
-            return script::open(
-                hand,
-                grid::plan_of(numbers),
-                &mut buffers.cells,
-                &mut buffers.functions,
-                &mut buffers.out,
-            );
-        }
+        Kind::Wall => return script::open(hand, grid::plan_of(numbers), cells, functions, out),
         Kind::Split => Call(Direction::Refine, By::Cells),
         Kind::Join => Call(Direction::Coarsen, By::Cells),
         Kind::SplitFunctions => Call(Direction::Refine, By::Functions),
@@ -144,19 +136,40 @@ fn obey(hand: Option<Hand>, kind: Kind, numbers: &[u32], buffers: &mut Buffers) 
         hand,
         asked,
         numbers,
-        &mut buffers.cells,
-        &mut buffers.functions,
-        &mut buffers.cell_list,
-        &mut buffers.function_list,
-        &mut buffers.out,
+        cells,
+        functions,
+        cell_list,
+        function_list,
+        out,
     )
 }
 
-// A line without its line feed: what it leaves in hand and in the tables, and what it prints, at the start of the buffer.
-pub fn step(hand: Option<Hand>, line: &[u8], buffers: &mut Buffers) -> Done
-    ensures { Replied (step_of (held hand buffers.old.cells buffers.old.functions) line.now) result buffers.new.cells buffers.new.functions buffers.new.out }
+// A line without its line feed: what it leaves in hand and in the tables, and what it prints, at the start of the buffer. The tables, the
+// lists and the buffer have room for a session's largest wall.
+pub fn step(
+    hand: Option<Hand>,
+    line: &[u8],
+    cells: &mut [u8],
+    functions: &mut [u8],
+    cell_list: &mut [u32],
+    function_list: &mut [u32],
+    out: &mut [u8],
+) -> Done
+    requires table_room { (wall_cells ≤ length cells.old) × (wall_functions ≤ length functions.old) }
+    requires list_room { (wall_cells ≤ length cell_list.old) × (wall_functions ≤ length function_list.old) }
+    requires out_room { answer_bytes ≤ length out.old }
+    ensures { Replied (step_of (held hand cells.old functions.old) line.now) result cells.new functions.new out.new }
 {
     let mut numbers = [0u32; 64];
     let read = lines::read_line(line, &mut numbers);
-    obey(hand, read.kind, &numbers[..read.count], buffers)
+    obey(
+        hand,
+        read.kind,
+        &numbers[..read.count],
+        cells.first_chunk_mut().unwrap(),
+        functions.first_chunk_mut().unwrap(),
+        cell_list.first_chunk_mut().unwrap(),
+        function_list.first_chunk_mut().unwrap(),
+        out.first_chunk_mut().unwrap(),
+    )
 }

@@ -9,7 +9,6 @@ ghost use Rattle.standard.specs.Answers.{AllHanded};
 ghost use Rattle.standard.specs.Bytes.{AppendsFront};
 ghost use Rattle.session.specs.Program.{printed_of};
 
-use replies::Buffers;
 use script::{ANSWER_BYTES, INPUT_BYTES, WALL_CELLS, WALL_FUNCTIONS};
 use standard::{Handed, Watched, watch};
 use std::io;
@@ -25,22 +24,28 @@ fn run<W: Write>(output: &mut Watched<W>, input: &[u8]) -> io::Result<Handed>
     ensures failed { OnErr result (output.new.has_failed ≡ true) }
     ensures left { OnErr result (AppendsFront (W.contents output.old.stream) (W.contents output.new.stream) (sessions.session input.now)) }
 {
-    let mut buffers = Buffers {
-        cells: [0; WALL_CELLS],
-        functions: [0; WALL_FUNCTIONS],
-        cell_list: [0; WALL_CELLS],
-        function_list: [0; WALL_FUNCTIONS],
-        out: [0; ANSWER_BYTES],
-    };
+    let mut cells = [0u8; WALL_CELLS];
+    let mut functions = [0u8; WALL_FUNCTIONS];
+    let mut cell_list = [0u32; WALL_CELLS];
+    let mut function_list = [0u32; WALL_FUNCTIONS];
+    let mut out = [0u8; ANSWER_BYTES];
     let mut hand = None;
     let mut handed = standard::nothing();
     let mut at = 0;
     // a while: split gives an empty line after the last line feed, and split_inclusive leaves the line feeds on
     while at < input.len() {
         let end = lines::line_end(input, at);
-        let done = replies::step(hand, &input[at..end], &mut buffers);
+        let done = replies::step(
+            hand,
+            &input[at..end],
+            &mut cells,
+            &mut functions,
+            &mut cell_list,
+            &mut function_list,
+            &mut out,
+        );
         hand = done.hand;
-        handed = standard::say(output, input, handed, &buffers.out[..done.count])?;
+        handed = standard::say(output, input, handed, &out[..done.count])?;
         at = end + 1;
     }
     Ok(handed)

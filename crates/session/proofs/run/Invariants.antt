@@ -8,7 +8,7 @@ use Rattle.session.proofs.run.Given as goal
 
 abbrev pub invariant-loop-at : goal.invariant-loop-at
 invariant-loop-at g l = record {
-  left : Left l.input l.handed.answers l.at (held l.hand l.buffers.cells l.buffers.functions);
+  left : Left l.input l.handed.answers l.at (held l.hand l.cells l.functions);
   few : l.handed.answers ≤ l.at;
   written : Appends (g.W.Write.contents l.initial.output.stream) (g.W.Write.contents l.output.stream) (printed l.input l.handed.answers);
   none_failed : l.output.has_failed ≡ l.initial.output.has_failed;
