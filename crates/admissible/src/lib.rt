@@ -47,6 +47,7 @@ fn level_admissible(
     windows::neighbourhoods(plan, cells, level, scratch, near);
     let columns = plan.columns_at(level) as usize;
     let rows = plan.rows_at(level);
+    // the place is added up and not multiplied
     let mut at = plan.cell_offset(level) as usize;
     let mut ok = true;
     for row in 0..rows {

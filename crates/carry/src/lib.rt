@@ -19,6 +19,7 @@ pub fn only_active(functions: &[u8], heights: &[i32], out: &mut [i32])
     requires { (length functions.now ≡ length heights.now) × (length out.old ≡ length heights.now) }
     ensures { out.new ≡ only_active functions.now heights.now }
 {
+    // enumerate and no zip, here and in other crates: a proof knows the index, and of a zip's pairs less
     for (i, height) in heights.iter().enumerate() {
         out[i] = if functions[i] == 1 { *height } else { 0 };
     }

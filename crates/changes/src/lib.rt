@@ -28,6 +28,7 @@ fn differ(a: u8, b: u8) -> bool
 }
 
 // How many numbers of a block changed: none where its bytes are equal.
+// Counting and listing stay two loops, here and below: a closure for what is done with a number would be no shorter.
 fn count_block(old: &[u8], new: &[u8], from: usize, to: usize) -> usize
     requires { Block old.now new.now from to }
     ensures { length (changed from old.now new.now) + result ≡ length (changed to old.now new.now) }
@@ -60,6 +61,7 @@ fn count_changed(old: &[u8], new: &[u8]) -> usize
 
 // The numbers of a block that changed, after the n that are listed; the entries past them stay. None where its bytes are equal. Answers how
 // many are listed then.
+// The lists and their places are parameters: each clause says another thing of them.
 fn list_block(old: &[u8], new: &[u8], list: &mut [u32], n: usize, from: usize, to: usize) -> usize
     requires list_room { ListRoom old.now new.now list.old }
     requires block { Block old.now new.now from to }

@@ -46,6 +46,7 @@ impl Table<'_> {
     ghost use Rattle.closure.specs.Table.{Becomes};
 
     // Sets the byte of the cell at a place, and one less at its children: 2 refines it, 1 makes it active again.
+    // A cell's number goes with its place, since finding it anew would take a sum over levels in the inner loop.
     fn write_cell(&mut self, cell: Cell, place: Place, value: u8)
         requires cell_inside { CellInside self.old.plan place }
         requires cell_value { cell.0 ≡ cell_number self.old.plan place }

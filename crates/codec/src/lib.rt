@@ -15,6 +15,7 @@ fn byte_at(s: &[u8], at: usize) -> Option<u32>
 }
 
 // The number at a place, and the place behind it; none where the bytes there are no number.
+// The bytes are lent whole, with a place, in all these functions: clauses speak of what stands from there on.
 pub fn read(s: &[u8], at: usize) -> Option<(u32, usize)>
     ensures { ReadsAt s.now at result }
 {

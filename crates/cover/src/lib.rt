@@ -113,6 +113,7 @@ fn read_level(table: &[u8], out: &mut [u8], across: Side, up: Side)
     let left = across.degree as usize;
     let width = across.firsts() as usize + 2 * left;
     let below = up.degree as usize;
+    // the place is added up and not multiplied
     let mut to = 0;
     for row in 0..up.cells {
         let at = (up.first_over(row) as usize + below) * width + left;

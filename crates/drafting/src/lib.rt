@@ -25,6 +25,7 @@ use outcomes::Changes;
 use refusals::Refusal;
 
 // A draft with more marks than its list has entries is not open.
+// A draft and its list are two parameters, since C hands them over so and their lengths do not follow from one another.
 fn is_open(draft: Draft, list: &[u32]) -> bool
     ensures { result ≡ is_open draft list.now }
 {
@@ -32,6 +33,7 @@ fn is_open(draft: Draft, list: &[u32]) -> bool
 }
 
 // Refusals 1 to 6, then 18 where a draft is open.
+// Two functions, this one and refusal19, as the definitions are two.
 fn refusal18(
     plan: Plan,
     cells: &[u8],
@@ -228,6 +230,7 @@ pub fn open_mesh(plan: Plan, cells: &mut [u8], functions: &mut [u8]) -> Result<D
 }
 
 // Reads a mesh; accepted, this drops the draft.
+// C's struct is made here, since reading itself knows of no draft.
 pub fn read_mesh(
     file: &[u8],
     cells: &mut [u8],

@@ -1,5 +1,5 @@
 // A draft kept open: cell marks collected over many calls and closed as one refinement by cells. Document 02, Req 10. The definitions are in
-// specs/, the theorems about them in proofs/; the code is in crate drafting.
+// specs/, the theorems about them in proofs/; the calls are in crate drafting.
 #![tactic(auto)]
 
 ghost use Rattle.std.specs.Prelude.{◌≡◌};
@@ -19,7 +19,7 @@ pub struct Draft {
     pub marks: usize,
 }
 
-// What the calls on a draft answer: a refusal or 0, and the draft.
+// What the calls on a draft answer, for C: a refusal or 0, and the draft.
 #[repr(C)]
 #[derive(Clone, Copy)]
 pub struct DraftAnswer {
@@ -42,7 +42,7 @@ impl DraftAnswer {
     }
 }
 
-// What closing answers: as a refinement does, and the draft.
+// What closing answers, for C: as a refinement does, and the draft.
 #[repr(C)]
 #[derive(Clone, Copy)]
 pub struct CloseAnswer {
@@ -55,9 +55,10 @@ impl CloseAnswer {
     pub fn new(before: Draft, closed: Result<Changes, Refusal>) -> CloseAnswer
         ensures { result ≡ closed_as before closed }
     {
-        let draft = match closed {
-            Ok(_) => Draft::default(),
-            Err(_) => before,
+        let draft = if closed.is_ok() {
+            Draft::default()
+        } else {
+            before
         };
         CloseAnswer {
             answer: Answer::from(closed),
@@ -66,7 +67,7 @@ impl CloseAnswer {
     }
 }
 
-// What reading with a draft answers: as reading does, and the draft.
+// What reading with a draft answers, for C: as reading does, and the draft.
 #[repr(C)]
 #[derive(Clone, Copy)]
 pub struct ReadWithDraftAnswer {
@@ -79,9 +80,10 @@ impl ReadWithDraftAnswer {
     pub fn new(before: Draft, read: Result<Plan, ReadRefusal>) -> ReadWithDraftAnswer
         ensures { result ≡ read_as before read }
     {
-        let draft = match read {
-            Ok(_) => Draft::default(),
-            Err(_) => before,
+        let draft = if read.is_ok() {
+            Draft::default()
+        } else {
+            before
         };
         ReadWithDraftAnswer {
             answer: ReadAnswer::from(read),

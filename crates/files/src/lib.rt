@@ -88,6 +88,7 @@ struct Corners {
 }
 
 // Neither direction has a corner.
+// Two numbers and no struct, as a plan has them; both 0 where there is no corner.
 fn no_corners(across: u32, up: u32) -> bool
     ensures { result ≡ no_corners across up }
 {
@@ -176,6 +177,7 @@ fn rebuild(file: &[u8], outline: Outline, table: &mut [u8])
 }
 
 // Refusals 4 and 5 of a rebuilt table, and 13.
+// 4 and 5 as in crate tables, which goes on to 6 and not to 13.
 fn table_refusal(plan: Plan, table: &[u8], whole: bool) -> Result<(), Refusal>
     requires { (CellTable plan table.now) × (cell_total plan ≤ most_cells) }
     ensures { number_of result ≡ table_refusal plan table.now whole }

@@ -72,7 +72,7 @@ fn level_height(
 ) -> f64
     requires on_surface { OnSurface plan functions.now heights.now across up }
     requires level_lt_levels { level < plan.levels }
-    requires unit { (part.levels ≡ plan.levels) × Unit part.levels part.unit }
+    requires same_levels { part.levels ≡ plan.levels }
     ensures { result ≡ dyadic (places plan.levels) (level_part plan functions.now heights.now across up level) }
 {
     let parts = eighths(plan, level);

@@ -23,6 +23,7 @@ fn run_low(functions: &[u8], heights: &[i32], from: usize, to: usize, level: u32
 {
     let most = most_of(level);
     let mut ok = true;
+    // by index, since two slices go side by side
     for i in from..to {
         ok = ok & ((functions[i] != 1) | (heights[i].unsigned_abs() <= most));
     }

@@ -11,20 +11,22 @@ use splines::LocalValues;
 pub struct Part {
     pub levels: u32,
     pub unit: f64,
+    pub ghost is_unit: { Unit levels unit },
 }
 
 // A height times a value, both whole numbers.
 fn product(height: i32, value: u32, part: Part) -> f64
-    requires unit { Unit part.levels part.unit }
     requires value_bound { nat_abs height * value ≤ most }
     ensures { Exact (places part.levels) (height *ℤ pos value) result }
 {
+    // as, since the library has no f64::from
     let h = height as f64;
     let v = value as f64;
     h * (v * part.unit)
 }
 
 // What one row of functions adds: `first` is the first over the point, `value` the row's own value.
+// Tables are lent whole, with the first function, which the clauses name by its number.
 fn row(
     functions: &[u8],
     heights: &[i32],
@@ -34,7 +36,6 @@ fn row(
     part: Part,
 ) -> f64
     requires row { Row functions.now heights.now first across value }
-    requires unit { Unit part.levels part.unit }
     ensures { result ≡ dyadic (places part.levels) (row_sum functions.now heights.now first across value) }
 {
     let mut sum = 0.0;
@@ -59,7 +60,6 @@ pub fn rows(
     part: Part,
 ) -> f64
     requires rows { Rows functions.now heights.now first width across up }
-    requires unit { Unit part.levels part.unit }
     ensures { result ≡ dyadic (places part.levels) (level_sum functions.now heights.now first width across up) }
 {
     let mut sum = 0.0;

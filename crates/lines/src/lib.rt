@@ -9,6 +9,7 @@ ghost use Rattle.facts.specs.Writing.{Writes};
 
 // What a line asks for.
 #[derive(Clone, Copy)]
+// Unreadable is a kind and not None, as the definition of reading has it.
 pub enum Kind {
     Unreadable,
     Wall,
@@ -37,6 +38,7 @@ struct Field {
 fn find(text: &[u8], from: usize, stop: u8) -> usize
     ensures { result ≡ from + length (up_to stop (drop from text.now)) }
 {
+    // no position, which has no law that meets the definition's recursion
     for i in from..text.len() {
         if text[i] == stop {
             return i;
@@ -53,6 +55,7 @@ pub fn line_end(input: &[u8], from: usize) -> usize
 }
 
 // A field as a number.
+// By hand and no parse, which takes a sign too.
 fn read_number(text: &[u8]) -> Option<u32>
     ensures { result ≡ number_of text.now }
 {
@@ -187,6 +190,7 @@ impl<'a> Writer<'a> {
     }
 
     // The digits of a number, those of its tenth first.
+    // By hand: write! would need a Write of our own over the lent bytes, which is no plainer.
     fn number(&mut self, number: u32)
         requires { self.old.at + length (digits number) ≤ length self.old.out.now }
         ensures same_buffer { self.new.out.ghost_name ≡ self.old.out.ghost_name }
@@ -247,7 +251,8 @@ fn put_answer(out: &mut [u8], number: u32, cells: &[u32], functions: &[u32]) -> 
     line.at
 }
 
-// The line of an answer at the start of the buffer. The result is its length, or 0 where there is no room.
+// The line of an answer at the start of the buffer. The result is its length, or 0 and no None where there is no room: so these
+// functions promise it.
 pub fn write_answer(out: &mut [u8], number: u32, cells: &[u32], functions: &[u32]) -> usize
     ensures { Prints (leb (answer_room (length cells.now) (length functions.now)) (length out.old)) out.old (answer·line number cells.now functions.now) result out.new }
 {

@@ -23,6 +23,7 @@ pub struct Measured {
 }
 
 // So many cells at a place: the first, then differences that are not 0. None is refusal 12.
+// The bytes are lent whole, with a place, as to crate codec.
 pub fn read_cells(s: &[u8], from: usize, count: u32) -> Option<End>
     requires from_in_bounds { from ≤ length s.now }
     requires count_lt_number_limit { count < number_limit }
@@ -45,6 +46,7 @@ pub fn read_cells(s: &[u8], from: usize, count: u32) -> Option<End>
 }
 
 // Refines each of the cells that stand at a place and were judged good: 2 at its entry of the table.
+// The walk of read_cells again, and no closure for what is done with a cell: the two end in other ways.
 pub fn mark_cells(s: &[u8], first: usize, count: u32, table: &mut [u8])
     requires { Markable s.now first count (length table.old) }
     ensures { table.new ≡ marked_by (decode_rising count (drop first s.now)) table.old }
@@ -86,6 +88,7 @@ pub fn measure(table: &[u8]) -> Measured
 }
 
 // The refined cells of a table put at a place; the place behind them.
+// The walk of measure again, and no closure for what is done with a cell, for the same reason.
 pub fn write_cells(table: &[u8], out: &mut [u8], from: usize) -> usize
     requires table_len_bound { length table.now ≤ number_limit }
     requires table_in_bounds { from + length (refined_bytes table.now (length table.now)) ≤ length out.old }

@@ -239,6 +239,7 @@ fn complete_cells(cells: &mut [u8], at: usize, n: usize, present: bool)
     requires { at + n ≤ length cells.old }
     ensures { cells.new ≡ filled at n (byte_in (refined cells.old) present) cells.old }
 {
+    // by index, since a proof knows nothing of what iter_mut writes into a part
     for i in at..at + n {
         cells[i] = completed_byte(cells[i], present);
     }

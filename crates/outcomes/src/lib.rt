@@ -1,4 +1,5 @@
-// What refining and coarsening make of their input. The definitions are in specs/, the theorems about them in proofs/; the code is in crate calls.
+// What refining and coarsening make of their input. The definitions are in specs/, the theorems about them in proofs/; the calls are in crate
+// calls.
 #![tactic(auto)]
 
 ghost use Rattle.std.specs.Prelude.{◌≡◌};

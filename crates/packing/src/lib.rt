@@ -8,6 +8,7 @@ ghost use Rattle.planes.specs.Bits.{bytes_of, Within, word_from, plane_of, is_pr
 ghost use Rattle.packing.specs.Packing.{word_byte, spread_of, Spreads, number_of, packed_of, Packs, Small};
 
 // The bytes of four bits, as one number. The table is lent: a constant would be laid down anew at each use.
+// That the table is the right one stands in three clauses, and not in a type: the compiler sees through an array alone.
 fn spread(table: &[u64; 16], bits: u64) -> u64
     requires bits_bound { bits < 16 }
     requires spreads { Spreads table.now }
@@ -41,6 +42,7 @@ fn unpack_word(table: &[u64; 16], present: u64, refined: u64, part: &mut [u8])
 {
     let mut p = present;
     let mut r = refined;
+    // by fours and no chunks, so that the compiler makes one store of four
     for four in 0..16 {
         let at = 4 * four;
         let bytes = spread_cells(table, p % 16, r % 16);
@@ -85,6 +87,7 @@ fn cell(bytes: &[u8], at: usize) -> u64
 
 // Four bytes as a number of base 3. The compiler loads them at once. The bytes of the factor are 27, 9, 3 and 1, from the lowest on, so the
 // fourth byte of the product is that number.
+// The bytes are lent whole, with a place, so that one test of bounds serves four.
 fn number_of(bytes: &[u8], at: usize) -> usize
     requires { (at + 4 ≤ length bytes.now) × Small bytes.now }
     ensures { (result < 81) × (result ≡ number_of bytes.now at) }

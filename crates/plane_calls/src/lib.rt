@@ -37,6 +37,7 @@ fn word_count(plan: Plan) -> usize
 }
 
 // How many words each plane has, 0 where the plan is refused.
+// 0 and no None for a refused plan, as C reads it.
 pub fn len(plan: Plan) -> usize
     ensures { result ≡ planes_length plan }
 {

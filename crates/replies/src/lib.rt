@@ -19,6 +19,7 @@ use refusals::Refusal;
 use script::{ANSWER_BYTES, Done, Hand, WALL_CELLS, WALL_FUNCTIONS};
 
 // The call that a line asks for.
+// As the call of wallmirror, a crate that only exports to C.
 fn call(
     asked: Call,
     plan: Plan,
@@ -160,6 +161,7 @@ pub fn step(
     requires out_room { answer_bytes ≤ length out.old }
     ensures { Replied (step_of (held hand cells.old functions.old) line.now) result cells.new functions.new out.new }
 {
+    // no heap: room for as many numbers as a line has at most
     let mut numbers = [0u32; 64];
     let read = lines::read_line(line, &mut numbers);
     obey(

@@ -43,6 +43,7 @@ fn least_of(out: &mut [u8], a: &[u8], b: &[u8], n: usize)
 }
 
 // Entry t is the least of those of `from` at t and t - step, as far as there are such, in one pass; where `slide` goes on it is 2.
+// How many entries, how far and how often are numbers, here and below, and no struct: each call has others.
 fn pair(from: &[u8], out: &mut [u8], n: usize, step: usize, times: usize)
     requires { SlideIn (length from.now) (length out.old) n step times }
     ensures { out.new ≡ filled 0 (n + times * step) (slid from.now n step 2) out.old }

@@ -38,12 +38,11 @@ pub rows-requires : goal.rows-requires
 rows-requires c = let s = c in record {
   rows = rows_found s.requires.on_surface s.requires.level_lt_levels c.eighths-parts.ensures.0 c.across_at-columns.ensures c.up_at-rows.ensures c.locate-x.ensures c.locate-y.ensures
       c.first_over-row.ensures c.first_over-column.ensures c.function_number-first.ensures c.function_columns_at-width.ensures;
-  unit = s.requires.unit.1;
 }
 
 pub returns : goal.returns
 returns c = let s = c in
     c.rows.ensures
-    ∙ rw s.requires.unit.0 (ap (dyadic (places s.args.plan.levels))
+    ∙ rw s.requires.same_levels (ap (dyadic (places s.args.plan.levels))
     (sum_found s.requires.on_surface s.requires.level_lt_levels c.eighths-parts.ensures.0 c.across_at-columns.ensures c.up_at-rows.ensures c.locate-x.ensures c.locate-y.ensures
     c.first_over-row.ensures c.first_over-column.ensures c.function_number-first.ensures c.function_columns_at-width.ensures))

@@ -20,7 +20,7 @@ loop-j-init c = search rules
 pub product-sum-requires : goal.product-sum-requires
 product-sum-requires c = let s = c in
     let at = s.args.first + c.loop-j.j in
-    let is_active : get_or s.args.functions.now at 0 ≡ 1 = omega (arith, c.if-functions-at-eq1.true) in record { unit = s.requires.unit; value_bound = rw (element (get_or s.args.heights.now at (pos 0)) c.product-arg-1.given, c.value.ensures) (active_size {levels = s.args.part.levels} s.requires.row s.requires.unit.levels≤ (omega arith) is_active) }
+    let is_active : get_or s.args.functions.now at 0 ≡ 1 = omega (arith, c.if-functions-at-eq1.true) in record { value_bound = rw (element (get_or s.args.heights.now at (pos 0)) c.product-arg-1.given, c.value.ensures) (active_size {levels = s.args.part.levels} s.requires.row s.args.part.is_unit.levels≤ (omega arith) is_active) }
 
 pub loop-j-preserved : goal.loop-j-preserved
 loop-j-preserved c = let s = c in
@@ -29,9 +29,9 @@ loop-j-preserved c = let s = c in
     let m : l.j ≤ s.args.across.degree = omega arith in
     elim c.if-functions-at-eq1.branch [
       | then-functions-at-eq1 w ↦
-          w.sum-is ∙ turn_active s.requires.row s.requires.unit.levels≤ m w.if-functions-at-eq1.true l.invariant
+          w.sum-is ∙ turn_active s.requires.row s.args.part.is_unit.levels≤ m w.if-functions-at-eq1.true l.invariant
           (rw (element (get_or s.args.heights.now at (pos 0)) w.product-arg-1.given, w.value.ensures) at w.product-sum.ensures)
-      | else-functions-at-eq1 w ↦ w.sum-is ∙ turn_idle s.requires.row s.requires.unit.levels≤ m w.if-functions-at-eq1.false l.invariant
+      | else-functions-at-eq1 w ↦ w.sum-is ∙ turn_idle s.requires.row s.args.part.is_unit.levels≤ m w.if-functions-at-eq1.false l.invariant
     ]
 
 pub returns : goal.returns

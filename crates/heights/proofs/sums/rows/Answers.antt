@@ -15,7 +15,7 @@ unfolding of_bits dyadic sumℤ
 loop-i-init c = search rules
 
 pub loop-i-preserved : goal.loop-i-preserved
-loop-i-preserved c = let s = c in turn_row s.requires.rows s.requires.unit.levels≤ (omega arith) c.loop-i.invariant (rw c.value.ensures at c.row-sum.ensures)
+loop-i-preserved c = let s = c in turn_row s.requires.rows s.args.part.is_unit.levels≤ (omega arith) c.loop-i.invariant (rw c.value.ensures at c.row-sum.ensures)
 
 pub returns : goal.returns
 unfolding level_sum
