@@ -123,8 +123,8 @@ fn passed(more: u32, z: u32, corner: bool, line: u32) -> u32
     }
 }
 
-// That a side is in order, and a plan in range, stands in the clauses and not in a type: C hands plans over as they come, and a type would ask
-// more of the callers of functions that docs/ARCHITECTURE.md names.
+// That a side is in order, and a plan in range, stands in the clauses and not in a type: C hands plans over as they come, a type would ask more
+// of the callers of functions that docs/ARCHITECTURE.md names, and the definitions make sides of any plan.
 impl Side {
     // Line j lies on a corner.
     pub fn is_corner(self, j: u32) -> bool

@@ -1,5 +1,6 @@
 // The nesting of cells: refusal 4, which refined cells are reactivable, and the bytes of those that are not refined. Each cell is read with
-// its parent, row by row. That the table has the cells of its plan stands in the clauses and not in a type, which would ask more of callers.
+// its parent, row by row. That the table has the cells of its plan stands in the clauses: each public function has two or
+// three private ones below it, and a type for each would say no more than their one clause.
 #![tactic(auto)]
 
 ghost use Rattle.std.specs.Prelude.{◌≡◌, cond, ℕ, ◌+◌, ◌-◌, ◌*◌, ◌≤◌, ◌<◌, eqb, length};

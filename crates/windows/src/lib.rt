@@ -23,7 +23,7 @@ fn lower(out: &mut [u8], from: &[u8])
     }
 }
 
-// The first n entries get one value. A number and no shorter slice: other crates call it so.
+// The first n entries get one value. A number and no shorter slice: crate closure calls it so.
 pub fn fill(out: &mut [u8], n: usize, value: u8)
     requires { n ≤ length out.old }
     ensures { out.new ≡ filled 0 n (always value) out.old }
