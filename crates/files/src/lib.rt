@@ -177,7 +177,7 @@ fn rebuild(file: &[u8], outline: Outline, table: &mut [u8])
 }
 
 // Refusals 4 and 5 of a rebuilt table, and 13.
-// 4 and 5 as in crate tables, which goes on to 6 and not to 13.
+// 4 and 5 as in crate tables: shared, they would need a definition of their own, and a law for each of the two that go on.
 fn table_refusal(plan: Plan, table: &[u8], whole: bool) -> Result<(), Refusal>
     requires { (CellTable plan table.now) × (cell_total plan ≤ most_cells) }
     ensures { number_of result ≡ table_refusal plan table.now whole }
