@@ -141,6 +141,7 @@ fn flag_functions(
 }
 
 // Judges the marks, and flags the cells that they mean.
+// That the tables pass check stands in the clauses, here and in crates above, since docs/ARCHITECTURE.md names these functions.
 pub fn flag_marks(
     call: Call,
     plan: Plan,

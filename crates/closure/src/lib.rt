@@ -127,6 +127,8 @@ impl Table<'_> {
     }
 
     // What a pass does at a cell.
+    // The flags and the table of neighbourhoods are no part of the table of cells: the one is only read, the other made anew for each
+    // level.
     fn visit(&mut self, flags: &[u8], near: &[u8], step: Pass, cell: Cell, place: Place)
         requires flags_len { (length flags.now ≡ cell_total self.old.plan) × (NearRoom self.old.plan (length near.now)) }
         requires cell_inside { CellInside self.old.plan place }

@@ -33,6 +33,8 @@ fn pick_one(byte: u8, least: u8) -> u8
 }
 
 // The functions of a level.
+// What is asked of the tables stands in three functions, each below the next, here and for cover: it is said of lent slices, and a struct
+// of them would say it by way of its fields.
 fn coarsenable_on(
     plan: Plan,
     functions: &[u8],

@@ -57,6 +57,7 @@ fn line_at(plan: Plan, level: u32, x: u32) -> u32
 
 // A corner of the cell at a place: on its left (0) or right (1) line, and on its lower (0) or upper (1) one.
 // The two sides are numbers and no bools, since they are added to the column and the row.
+// `Ready` stands in four functions, each below the next: it is said of lent slices, and a struct of them would say it by way of its fields.
 fn corner_of(
     plan: Plan,
     functions: &[u8],

@@ -24,6 +24,7 @@ fn run<W: Write>(output: &mut Watched<W>, input: &[u8]) -> io::Result<Handed>
     ensures failed { OnErr result (output.new.has_failed ≡ true) }
     ensures left { OnErr result (AppendsFront (W.contents output.old.stream) (W.contents output.new.stream) (sessions.session input.now)) }
 {
+    // no heap: the tables and lists of the largest wall
     let mut cells = [0u8; WALL_CELLS];
     let mut functions = [0u8; WALL_FUNCTIONS];
     let mut cell_list = [0u32; WALL_CELLS];
@@ -59,6 +60,7 @@ fn program<R: Read, W: Write>(input: &mut Watched<R>, output: &mut Watched<W>) -
     ensures failed { OnErr result ((input.new.has_failed ≡ true) ⊎ (output.new.has_failed ≡ true)) }
     ensures left { OnErr result (IfSome (R.remaining input.old.stream) (λ xs. AppendsFront (W.contents output.old.stream) (W.contents output.new.stream) (printed_of xs))) }
 {
+    // no heap: room for all that is read
     let mut buffer = [0u8; INPUT_BYTES];
     let count = standard::read(input, &mut buffer)?;
     run(output, &buffer[..count])?;
