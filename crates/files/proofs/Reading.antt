@@ -81,14 +81,6 @@ read_bad s cs fs q e n = rw (e, n) refl
 -- ---- refusals 4, 5 and 13 of a table
 
 module _ (p : Plan) (table : List ℕ) (whole : Bool) where
-  pub with_4 : is_mesh p table ≡ false → 4 ≡ table_refusal p table whole
-  unfolding table_refusal
-  with_4 a = rw a refl
-
-  pub with_5 : is_mesh p table ≡ true → is_admissible p table ≡ false → 5 ≡ table_refusal p table whole
-  unfolding table_refusal
-  with_5 a b = rw (a, b) refl
-
   pub with_13 : is_mesh p table ≡ true → is_admissible p table ≡ true → whole ≡ false → 13 ≡ table_refusal p table whole
   unfolding table_refusal
   with_13 a b w = rw (a, b, w) refl

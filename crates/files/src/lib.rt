@@ -177,17 +177,11 @@ fn rebuild(file: &[u8], outline: Outline, table: &mut [u8])
 }
 
 // Refusals 4 and 5 of a rebuilt table, and 13.
-// 4 and 5 as in crate tables: shared, they would need a definition of their own, and a law for each of the two that go on.
 fn table_refusal(plan: Plan, table: &[u8], whole: bool) -> Result<(), Refusal>
     requires { (CellTable plan table.now) × (cell_total plan ≤ most_cells) }
     ensures { number_of result ≡ table_refusal plan table.now whole }
 {
-    if !nesting::is_mesh(plan, table) {
-        return Err(Refusal::NotAMesh);
-    }
-    if !admissible::is_admissible(plan, table) {
-        return Err(Refusal::NotAdmissible);
-    }
+    tables::cells_refusal(plan, table)?;
     if !whole {
         return Err(Refusal::TrailingBytes);
     }

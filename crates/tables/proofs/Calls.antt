@@ -55,14 +55,6 @@ module _ (p : Plan) (cs fs : List ℕ) where
 
   -- ---- refusals 4 to 6
 
-  pub refuse_4 : is_mesh p cs ≡ false → 4 ≡ refusal6 p cs fs
-  unfolding refusal6
-  refuse_4 e = rw e
-
-  pub refuse_5 : is_mesh p cs ≡ true → is_admissible p cs ≡ false → 5 ≡ refusal6 p cs fs
-  unfolding refusal6
-  refuse_5 e f = rw (e, f)
-
   pub refuse_6 : is_mesh p cs ≡ true → is_admissible p cs ≡ true → is_labelled p cs fs ≡ false → 6 ≡ refusal6 p cs fs
   unfolding refusal6
   refuse_6 e f g = rw (e, f, g)

@@ -1,22 +1,21 @@
--- `tables::later_refusal` meets its contract. Each way by the tests that led there. Assumes nothing.
+-- `tables::later_refusal` meets its contract: 4 and 5, then the labels. Assumes nothing.
 use mathlib.Core.Path.{sym, ◌∙◌}
-use Rattle.tables.proofs.Calls.{refuse_4, refuse_5, refuse_6, refuse_none}
+use Rattle.refusals.proofs.Refused.{refused, handed_on}
+use Rattle.mesh.specs.Mesh.{refusal6}
+use Rattle.tables.proofs.Calls.{refuse_6, refuse_none}
+use Rattle.tables.proofs.Cells.{cells_refuse, cells_pass}
 use Rattle.tables.proofs.later_refusal.Goals as goal
 
-pub is_admissible-requires : goal.is_admissible-requires
-is_admissible-requires c = (record { sized = c.requires.0; mesh = (sym c.is_mesh.ensures ∙ c.if-not-is_mesh.false) }, c.requires.2)
+pub returns-in_err-cells_refusal : goal.returns-in_err-cells_refusal
+unfolding refusal6
+returns-in_err-cells_refusal c = let e = c.in_err-cells_refusal in
+    rw (handed_on _ c.from_residual.ensures.1) (e.ensures ∙ cells_refuse _ _ _ (λ z. refused e.field-0.0 (e.ensures ∙ z)))
 
 pub is_labelled-requires : goal.is_labelled-requires
-is_labelled-requires c = record { mesh_table = record { sized = c.requires.0; mesh = (sym c.is_mesh.ensures ∙ c.if-not-is_mesh.false) }; functions_len = (c.requires.1, c.requires.2) }
-
-pub returns-then-not-is_mesh : goal.returns-then-not-is_mesh
-returns-then-not-is_mesh c = refuse_4 _ _ _ (sym c.is_mesh.ensures ∙ c.if-not-is_mesh.true)
-
-pub returns-then-not-is_admissible : goal.returns-then-not-is_admissible
-returns-then-not-is_admissible c = refuse_5 _ _ _ (sym c.is_mesh.ensures ∙ c.if-not-is_mesh.false) (sym c.is_admissible.ensures ∙ c.if-not-is_admissible.true)
+is_labelled-requires c = record { mesh_table = record { sized = c.requires.0; mesh = (cells_pass _ _ c.in_ok-cells_refusal.ensures).0 }; functions_len = (c.requires.1, c.requires.2) }
 
 pub returns-then-not-is_labelled : goal.returns-then-not-is_labelled
-returns-then-not-is_labelled c = refuse_6 _ _ _ (sym c.is_mesh.ensures ∙ c.if-not-is_mesh.false) (sym c.is_admissible.ensures ∙ c.if-not-is_admissible.false) (sym c.is_labelled.ensures ∙ c.if-not-is_labelled.true)
+returns-then-not-is_labelled c = let p = cells_pass _ _ c.in_ok-cells_refusal.ensures in refuse_6 _ _ _ p.0 p.1 (sym c.is_labelled.ensures ∙ c.if-not-is_labelled.true)
 
 pub returns : goal.returns
-returns c = refuse_none _ _ _ (sym c.is_mesh.ensures ∙ c.if-not-is_mesh.false) (sym c.is_admissible.ensures ∙ c.if-not-is_admissible.false) (sym c.is_labelled.ensures ∙ c.if-not-is_labelled.false)
+returns c = let p = cells_pass _ _ c.in_ok-cells_refusal.ensures in refuse_none _ _ _ p.0 p.1 (sym c.is_labelled.ensures ∙ c.if-not-is_labelled.false)
