@@ -7,13 +7,12 @@ use native.Mathlib.Nat.{le_refl, add-zero, add-sub_of_le}
 use native.Mathlib.Omega.{arith}
 use mir.Val.{bool_byte}
 use lib.Dec.{eqb}
-use lib.ListN.{length, get_or, drop, set}
-use lib.Seq.{drop-append-add, drop-drop}
+use lib.ListN.{length, get_or, take, drop, set}
+use lib.Pointwise.{pointwise, bytes_decides}
+use lib.Seq.{get_or-take, get_or-drop, drop-append-add, drop-drop}
 use Rattle.facts.proofs.Turns.{listed_none, listed_no, listed_longer, listed_le, listed_short, listed_write}
 use Rattle.mesh.specs.Mesh.{refined}
 use Rattle.outcomes.specs.Calls.{changed, written}
-use Rattle.compare.specs.Agree.{agree}
-use Rattle.compare.proofs.Agree.{agree_at}
 use Rattle.changes.specs.Changes.{ListedTo}
 
 beq_same : (b : Bool) → beq b b ≡ true
@@ -71,9 +70,17 @@ module _ (old new : List ℕ) where
       let e : from + suc n ≡ from + n + 1 = omega arith in
       rw e (changed_no (from + n) (alike (from + n) (h (from + n) (omega arith) (omega arith))) ∙ still from n (λ i l m. h i l (omega arith)))
 
+  -- a byte of a part of a table
+  part : (xs : List ℕ) (from n i : ℕ) → from ≤ i → i < from + n → get_or (take n (drop from xs)) (i - from) 0 ≡ get_or xs i 0
+  part xs from n i l m = get_or-take n (drop from xs) (i - from) 0 (omega arith) ∙ get_or-drop from xs (i - from) 0 ∙ ap (λ (j : ℕ). get_or xs j 0) (add-sub_of_le l)
+
   -- equal bytes change nothing
-  pub changed_same : (from to : ℕ) → from ≤ to → agree from to old new ≡ true → changed to old new ≡ changed from old new
-  changed_same from to l e = rw (add-sub_of_le l) at (still from (to - from) (λ i k m. agree_at old new from to e i k (omega arith)))
+  pub changed_same : (from to : ℕ) → from ≤ to → pointwise eqb (take (to - from) (drop from old)) (take (to - from) (drop from new)) ≡ true
+      → changed to old new ≡ changed from old new
+  changed_same from to l e =
+      let n = to - from in
+      let q = (bytes_decides (take n (drop from old)) (take n (drop from new))).0 e in
+      rw (add-sub_of_le l) at (still from n (λ i k m. sym (part old from n i k m) ∙ ap (λ (xs : List ℕ). get_or xs (i - from) 0) q ∙ part new from n i k m))
 
   pub listed_behind : {from n : ℕ} {list : List ℕ} → ListedTo from old new n list → list ≡ changed from old new ++ drop n list
   unfolding written

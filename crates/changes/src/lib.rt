@@ -33,7 +33,7 @@ fn count_block(old: &[u8], new: &[u8], from: usize, to: usize) -> usize
     requires { Block old.now new.now from to }
     ensures { length (changed from old.now new.now) + result ≡ length (changed to old.now new.now) }
 {
-    if compare::same(old, new, from, to) {
+    if old[from..to] == new[from..to] {
         return 0;
     }
     let mut n = 0;
@@ -69,7 +69,7 @@ fn list_block(old: &[u8], new: &[u8], list: &mut [u32], n: usize, from: usize, t
     ensures value { result ≡ length (changed to old.now new.now) }
     ensures list_after { list.new ≡ written (changed to old.now new.now) list.old }
 {
-    if compare::same(old, new, from, to) {
+    if old[from..to] == new[from..to] {
         return n;
     }
     let mut k = n;

@@ -6,9 +6,9 @@ use lib.ListN.{length}
 use Rattle.changes.proofs.Changes.{changed_same, changed_short, counted}
 use Rattle.changes.proofs.count_block.Goals as goal
 
-pub returns-then-same : goal.returns-then-same
-returns-then-same c = let s = c in
-    omega (arith, ap length (changed_same s.args.old.now s.args.new.now s.args.from s.args.to s.requires.rises (sym c.same.ensures ∙ c.if-same.true)))
+pub returns-then-eq : goal.returns-then-eq
+returns-then-eq c = let s = c in
+    omega (arith, ap length (changed_same s.args.old.now s.args.new.now s.args.from s.args.to s.requires.rises (sym c.eq.ensures ∙ c.if-eq.true)))
 
 pub overflow_add-n : goal.overflow_add-n
 overflow_add-n c = let a = c.args in

@@ -11,9 +11,9 @@ use Rattle.changes.proofs.Changes.{changed_same, changed_no, changed_longer, cha
 use Rattle.changes.proofs.list_block.Goals as goal
 use Rattle.changes.proofs.list_block.Goals.{Then-differ, then-differ, else-differ}
 
-pub returns-then-same : goal.returns-then-same
-returns-then-same c = let s = c in
-    let q = changed_same s.args.old.now s.args.new.now s.args.from s.args.to s.requires.block.rises (sym c.same.ensures ∙ c.if-same.true) in
+pub returns-then-eq : goal.returns-then-eq
+returns-then-eq c = let s = c in
+    let q = changed_same s.args.old.now s.args.new.now s.args.from s.args.to s.requires.block.rises (sym c.eq.ensures ∙ c.if-eq.true) in
     record { value = s.requires.listed_to.count ∙ ap length (sym q); list_after = s.requires.listed_to.begins ∙ ap (λ (x : List ℕ). written x s.args.list.now) (sym q) }
 
 pub loop-i-init : goal.loop-i-init
