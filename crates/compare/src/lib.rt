@@ -1,5 +1,5 @@
 // Whether two tables have the same bytes. The loop has no early exit, so that the compiler compares many bytes at once.
-// Tried: slice `==` takes some 15 % longer for 54,000 equal bytes, though a third less for blocks of 64 bytes.
+// Tried: slice `==` takes some 15 % longer for 54,000 equal bytes. For blocks of 64 bytes it takes a third less, so crate changes has it.
 #![tactic(auto)]
 
 ghost use Rattle.std.specs.Prelude.{◌≡◌, ◌≤◌, length};
