@@ -130,7 +130,7 @@ pub fn is_short(old: &[u8], new: &[u8], room: usize) -> bool
 }
 
 // The same of the functions that relabelling from these cells will change. The labels are made in `made` only if they must be counted.
-// `Rooms` stands in three functions that call one another: a struct of the lent slices would say it by way of its fields.
+// `Rooms` stands in four functions: a struct of the lent slices would say it by way of its fields.
 fn is_short_for_labels(
     plan: Plan,
     cells: &[u8],

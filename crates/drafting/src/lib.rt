@@ -1,5 +1,6 @@
 // The calls on a draft, and the other calls with one. A draft is a value that goes in, and a call that changes it answers the new one; its
-// marks stand in a list that is lent with it. What C gets of these answers is made of them in crate drafts.
+// marks stand in a list that is lent with it. What C gets of these answers is made of them in crates drafts
+// and outcomes.
 #![tactic(auto)]
 
 ghost use Rattle.std.specs.Prelude.{◌≡◌, ◌+◌, ◌≤◌, length};

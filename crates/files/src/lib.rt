@@ -138,6 +138,7 @@ fn plan_with(head: &[u32; 7], across: u32, up: u32) -> Plan
 fn judge(s: &[u8]) -> Option<Outline>
     ensures { JudgesFile s.now result }
 {
+    // no heap: as many numbers as a head has
     let mut head = [0u32; 7];
     let first = codec::read_all(s, 0, &mut head)?;
     let count = head[6];

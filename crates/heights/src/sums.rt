@@ -19,9 +19,8 @@ fn product(height: i32, value: u32, part: Part) -> f64
     requires value_bound { nat_abs height * value ≤ most }
     ensures { Exact (places part.levels) (height *ℤ pos value) result }
 {
-    // as, since the library has no f64::from
-    let h = height as f64;
-    let v = value as f64;
+    let h = f64::from(height);
+    let v = f64::from(value);
     h * (v * part.unit)
 }
 

@@ -1,7 +1,7 @@
 // The function table that the cells fix, and refusal 6. A label is the smallest byte of the function's support: all labels of a level are
 // made at once, as windows of its cells.
-// That the cells are a mesh stands in the clauses, here and in other crates: a type for it could not stand in the public functions, which
-// docs/ARCHITECTURE.md names and which may not ask more, and below them it would take the place of a clause or two.
+// That the cells are a mesh stands in the clauses, here and in other crates: a type for it could not stand in `write_labels`, which
+// docs/ARCHITECTURE.md names and which may not ask more, and elsewhere it would take the place of a clause or two.
 #![tactic(auto)]
 
 ghost use Rattle.std.specs.Prelude.{◌≡◌, ◌+◌, ◌≤◌, ◌<◌, length};

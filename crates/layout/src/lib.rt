@@ -8,9 +8,9 @@ ghost use Rattle.layout.specs.Layout.{answered, cells_length, functions_length, 
 use grid::{Cell, Function, Place, Plan, Rectangle};
 
 // Where a level's cells and functions stand in their tables, and how many there are across and up.
+// All zeros and no None, as C reads it.
 #[repr(C)]
 #[derive(Clone, Copy, Default)]
-// All zeros and no None, as C reads it.
 pub struct Level {
     pub first_cell: u32,
     pub columns: u32,
@@ -90,7 +90,7 @@ impl From<Rectangle> for Support {
 }
 
 // T, the length of the cell table.
-// 0 and no None for a refused plan, here and below, as C reads it; and a match, which says no more than it does by map_or.
+// 0 and no None for a refused plan, here and below, as C reads it; and a match, no longer than map_or.
 pub fn cells_len(plan: Plan) -> usize
     ensures { result ≡ cells_length plan }
 {

@@ -8,8 +8,8 @@ ghost use Rattle.lines.specs.Steps.{fields_behind, Counted, ReadsField};
 ghost use Rattle.facts.specs.Writing.{Writes};
 
 // What a line asks for.
-#[derive(Clone, Copy)]
 // Unreadable is a kind and not None, as the definition of reading has it.
+#[derive(Clone, Copy)]
 pub enum Kind {
     Unreadable,
     Wall,
@@ -190,7 +190,7 @@ impl<'a> Writer<'a> {
     }
 
     // The digits of a number, those of its tenth first.
-    // By hand: write! would need a Write of our own over the lent bytes, which is no plainer.
+    // By hand: write! over lent bytes promises nothing of what it writes.
     fn number(&mut self, number: u32)
         requires { self.old.at + length (digits number) ≤ length self.old.out.now }
         ensures same_buffer { self.new.out.ghost_name ≡ self.old.out.ghost_name }

@@ -88,7 +88,7 @@ pub fn measure(table: &[u8]) -> Measured
 }
 
 // The refined cells of a table put at a place; the place behind them.
-// The walk of measure again, and no closure for what is done with a cell, for the same reason.
+// The walk of measure again: what is done with each cell differs, and a closure for it would be no shorter.
 pub fn write_cells(table: &[u8], out: &mut [u8], from: usize) -> usize
     requires table_len_bound { length table.now ≤ number_limit }
     requires table_in_bounds { from + length (refined_bytes table.now (length table.now)) ≤ length out.old }

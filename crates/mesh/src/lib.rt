@@ -7,8 +7,8 @@ ghost use Rattle.mesh.specs.Answers.{count_of};
 use refusals::Refusal;
 
 // What count answers where the tables are not refused.
-#[derive(Clone, Copy)]
 // The bytes of tables are C's, in all crates: 0, 1 and 2 and no enum.
+#[derive(Clone, Copy)]
 pub struct Counts {
     // active cells, refined cells, active functions
     pub active: u32,

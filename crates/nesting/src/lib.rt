@@ -163,6 +163,7 @@ fn refined_cells(cells: &[u8], out: &mut [u8], from: usize, to: usize, kept: u8)
     requires { (from ≤ to) × (to ≤ length cells.now) × (to ≤ length out.old) }
     ensures { out.new ≡ filled from (to - from) (refined_byte cells.now kept) out.old }
 {
+    // by index, since two slices go side by side
     for i in from..to {
         out[i] = refined_byte(cells[i], kept);
     }

@@ -79,8 +79,8 @@ fn corner_of(
     // a point of the surface is eighths of a cell
     let height = heights::height_at(plan, functions, heights, across * 8, up * 8);
     Corner {
-        across: across as f64,
-        up: up as f64,
+        across: f64::from(across),
+        up: f64::from(up),
         height,
     }
 }

@@ -19,7 +19,7 @@ use refusals::Refusal;
 use script::{ANSWER_BYTES, Done, Hand, WALL_CELLS, WALL_FUNCTIONS};
 
 // The call that a line asks for.
-// As the call of wallmirror, a crate that only exports to C.
+// As `change` of wallmirror, a crate that only exports to C.
 fn call(
     asked: Call,
     plan: Plan,

@@ -12,8 +12,8 @@ ghost use Rattle.splines.specs.Room.{InRoom};
 use grid::Side;
 
 // Where a point lies: its cell, and the values there of the functions over it, the first, the one between (of degree 2), the last.
-#[derive(Clone, Copy)]
 // Like the struct Children of crate twoscale, but its functions are counted from the first.
+#[derive(Clone, Copy)]
 pub struct LocalValues {
     pub degree: u32,
     pub cell: u32,

@@ -41,4 +41,5 @@ height_at-height-requires c = let s = c in
 
 pub returns : goal.returns
 returns c = let s = c in
-    corner_is s.args.plan s.args.functions.now s.args.heights.now s.args.place s.args.right s.args.upper (lines (goal.at.returns c).After-shared_slice_known-1) c.line_at-across.ensures c.line_at-up.ensures c.height_at-height.ensures
+    rw (c.from.ensures, c.from-2.ensures)
+    (corner_is s.args.plan s.args.functions.now s.args.heights.now s.args.place s.args.right s.args.upper (lines (goal.at.returns c).After-shared_slice_known-1) c.line_at-across.ensures c.line_at-up.ensures c.height_at-height.ensures)
