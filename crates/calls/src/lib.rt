@@ -47,7 +47,7 @@ fn eligible_cells(direction: Direction, plan: Plan, cells: &[u8], kinds: &mut [u
 {
     match direction {
         Direction::Refine => {
-            kinds.copy_from_slice(cells);
+            changes::copy_bytes(kinds, cells);
             plan.cell_offset(plan.levels - 1)
         }
         Direction::Coarsen => {
@@ -73,7 +73,7 @@ fn eligible_functions(
 {
     match direction {
         Direction::Refine => {
-            kinds.copy_from_slice(functions);
+            changes::copy_bytes(kinds, functions);
             plan.function_offset(plan.levels - 1)
         }
         Direction::Coarsen => {

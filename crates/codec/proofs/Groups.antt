@@ -83,7 +83,7 @@ module _ {s : List ℕ} {at x : ℕ} (b : ByteAt s at x) where
         read_cut_2 g = group_more 2 b refl l ∙ above_bad (x - 128) _ (group_more 1 {to = at + 2} b₂ (omega arith) l₂ ∙ above_bad (y - 128) _ (cut 1 s (at + 2) g))
 
         module _ {w : ℕ} (b₃ : ByteAt s (at + 2) w) where
-          read_long_2 : w ≡ 0 → decode_number (drop at s) ≡ bad
+          pub read_long_2 : w ≡ 0 → decode_number (drop at s) ≡ bad
           unfolding decode_number
           read_long_2 z = group_more 2 b refl l ∙ above_bad (x - 128) _ (group_more 1 {to = at + 2} b₂ (omega arith) l₂ ∙ above_zero (y - 128) w _ _ (group_last 0 {to = at + 3} b₃ (omega arith) (omega arith)) z)
 
@@ -97,7 +97,7 @@ module _ {s : List ℕ} {at x : ℕ} (b : ByteAt s at x) where
                 small = omega (arith, b.small, b₂.small);
               }
 
-          read_four : 128 ≤ w → decode_number (drop at s) ≡ bad
+          pub read_four : 128 ≤ w → decode_number (drop at s) ≡ bad
           unfolding decode_number
           read_four g = group_more 2 b refl l ∙ above_bad (x - 128) _ (group_more 1 {to = at + 2} b₂ (omega arith) l₂
               ∙ above_bad (y - 128) _ (group_more 0 {to = at + 3} b₃ (omega arith) g ∙ above_bad (w - 128) _ (cut_none s (at + 3))))

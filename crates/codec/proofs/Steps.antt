@@ -1,4 +1,4 @@
--- Numbers read one by one. Assumes nothing.
+-- What an answer of `read` and of `read_all` says, and numbers read one by one. Assumes nothing.
 use mathlib.Core.Path.{◌≡◌, refl, sym, ap, ◌∙◌}
 use mathlib.Core.List.{List, [], ◌∷◌, ◌++◌, append_assoc, append-nil}
 use Prim.Native.Nat.{ℕ, suc, ◌+◌, ◌-◌, ◌≤◌, ◌<◌}
@@ -7,8 +7,23 @@ use native.Mathlib.Numerals.{add-one}
 use native.Mathlib.Omega.{arith}
 use lib.ListN.{length, take, drop, set, length-set}
 use lib.Seq.{take_all, take-suc, take-set-le, get_or-set_same}
+use Rattle.std.specs.Prelude.{Option, None, Some}
 use Rattle.codec.specs.Numbers.{bad, decode_number, bad_many, got_many, front, onward, decode_numbers}
-use Rattle.codec.specs.Steps.{Found}
+use Rattle.codec.specs.Steps.{Found, ReadsAt, AllFound, ReadsAll}
+
+pub found : (s : List ℕ) (at : ℕ) (r : Option (ℕ × ℕ)) (n to : ℕ) → ReadsAt s at r → r ≡ Some (n, to) → Found s at n to
+found s at r n to e q = rw q at e
+
+pub missing : (s : List ℕ) (at : ℕ) (r : Option (ℕ × ℕ)) → ReadsAt s at r → r ≡ None → decode_number (drop at s) ≡ bad
+missing s at r e q = rw q at e
+
+pub all_found : (s : List ℕ) (at : ℕ) (ns : List ℕ) (r : Option ℕ) (to : ℕ) → ReadsAll s at ns r → r ≡ Some to → AllFound s at ns to
+all_found s at ns r to e q = rw q at e
+
+pub all_missing : (s : List ℕ) (at : ℕ) (ns : List ℕ) (r : Option ℕ) → ReadsAll s at ns r → r ≡ None → decode_numbers (length ns) (drop at s) ≡ bad_many
+all_missing s at ns r e q = rw q at e
+
+-- ---- numbers one by one
 
 -- what is left of k numbers when i stand in the list xs: whoever reads it has read all of them
 pub record Left (s : List ℕ) (from k : ℕ) (xs : List ℕ) (at i : ℕ) : Type 0 where

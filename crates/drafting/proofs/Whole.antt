@@ -1,6 +1,6 @@
 -- What the code answers is what the definitions say, case by case. Assumes nothing.
 use mathlib.Core.Path.{◌≡◌, refl, sym, ap, ◌∙◌}
-use mathlib.Core.Bool.{not, ◌&&◌}
+use mathlib.Core.Bool.{true, not, ◌&&◌}
 use mathlib.Core.List.{List}
 use mathlib.Core.Logic.{◌≢◌}
 use Prim.Native.Nat.{ℕ, ◌+◌, ◌≤◌, ◌<◌}
@@ -15,16 +15,19 @@ use Rattle.facts.proofs.Tests.{and_r, true_T}
 use Rattle.grid.specs.declared.Plan.{Plan}
 use Rattle.outcomes.specs.Calls.{Direction, refine, By, cells, mark_refusal, Outcome, refused, outcome}
 use Rattle.outcomes.specs.Meets.{outcome_of}
-use Rattle.refining.specs.Refining.{refused_with}
+use Rattle.refining.specs.Refining.{WithHeights, refused_with, outcome_with_heights}
 use Rattle.drafts.specs.declared.Draft.{Draft}
 use Rattle.drafts.specs.Drafts.{is_open, no_draft, marks_of, refusal18, refusal19, open_draft, drop_draft, add_refusal, Added, add_marks, ended_by, close_draft, outcome_with_draft, outcome_with_heights_and_draft}
-use Rattle.drafts.proofs.Refusals.{passes_19, change_refused, carry_refused, close_refused, close_taken, add_taken, add_refused}
+use Rattle.drafts.proofs.Refusals.{passes_19, change_refused, change_taken, carry_refused, carry_taken, close_refused, close_taken, add_taken, add_refused}
+
+pub open_fits : (d : Draft) (dl : List ℕ) → is_open d dl ≡ true → d.marks ≤ length dl
+unfolding is_open
+open_fits d dl o = leb→le d.marks (length dl) (and_r (not (eqb d.«open» 0)) (leb d.marks (length dl)) (true_T (not (eqb d.«open» 0) && leb d.marks (length dl)) o))
 
 module _ (p : Plan) (cs fs : List ℕ) (d : Draft) (dl : List ℕ) where
   -- where 19 does not refuse, the draft's marks fit its list
   pub marks_fit : refusal19 p cs fs d dl ≡ 0 → d.marks ≤ length dl
-  unfolding is_open
-  marks_fit e = leb→le d.marks (length dl) (and_r (not (eqb d.«open» 0)) (leb d.marks (length dl)) (true_T (not (eqb d.«open» 0) && leb d.marks (length dl)) (passes_19 p cs fs d dl e).1))
+  marks_fit e = open_fits d dl (passes_19 p cs fs d dl e).1
 
   -- ---- opening and dropping
 
@@ -98,7 +101,16 @@ module _ (way : Direction) (by : By) (p : Plan) (cs fs : List ℕ) (d : Draft) (
   unfolding refused
   changes_not q z = ap (λ m. refused m cs fs cl fl) q ∙ sym (change_refused way by p cs fs d dl marks cl fl (λ w. z (q ∙ w)))
 
+  pub changes : {n : ℕ} → n ≡ refusal18 p cs fs d dl → n ≡ 0 → {o : Outcome} → o ≡ outcome way by p cs fs marks cl fl → o ≡ outcome_with_draft way by p cs fs d dl marks cl fl
+  changes q z e = e ∙ sym (change_taken way by p cs fs d dl marks cl fl (sym q ∙ z))
+
 module _ (by : By) (p : Plan) (cs fs : List ℕ) (hs : List ℤ) (d : Draft) (dl marks cl fl : List ℕ) where
   pub carries_not : {n : ℕ} → n ≡ refusal18 p cs fs d dl → n ≢ 0 → record { outcome = no n cs fs cl fl; heights = hs } ≡ outcome_with_heights_and_draft by p cs fs hs d dl marks cl fl
   unfolding refused refused_with
   carries_not q z = ap (λ m. refused_with m cs fs hs cl fl) q ∙ sym (carry_refused by p cs fs hs d dl marks cl fl (λ w. z (q ∙ w)))
+
+-- by is the kind of marks that the code found
+module _ {by kind : By} (b : by ≡ kind) (p : Plan) (cs fs : List ℕ) (hs : List ℤ) (d : Draft) (dl marks cl fl : List ℕ) where
+  pub carries : {n : ℕ} → n ≡ refusal18 p cs fs d dl → n ≡ 0 → {o : WithHeights} → o ≡ outcome_with_heights kind p cs fs hs marks cl fl
+      → o ≡ outcome_with_heights_and_draft by p cs fs hs d dl marks cl fl
+  carries q z e = e ∙ ap (λ k. outcome_with_heights k p cs fs hs marks cl fl) (sym b) ∙ sym (carry_taken by p cs fs hs d dl marks cl fl (sym q ∙ z))

@@ -110,7 +110,10 @@ fn append(list: &mut [u32], at: usize, marks: &[u32])
     requires { at + length marks.now ≤ length list.old }
     ensures { list.new ≡ written_at list.old at marks.now }
 {
-    list[at..at + marks.len()].copy_from_slice(marks);
+    // a loop, as changes::copy_bytes
+    for (i, mark) in marks.iter().enumerate() {
+        list[at + i] = *mark;
+    }
 }
 
 // Adds marks to a draft: all of them, or none.

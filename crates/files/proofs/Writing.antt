@@ -63,14 +63,14 @@ module _ {p : Plan} {cells : List ℕ} (k : MeshTable p cells) where
 -- ---- the parts of a file
 
 module _ {p : Plan} {cells part : List ℕ} (k : Part p cells part) {m : Measured} (w : Measures part m) where
-  few_cells : m.count ≤ 21845
+  pub few_cells : m.count ≤ 21845
   unfolding refined_below
   few_cells = omega (arith, w.count, listed_short (refined part) (length part), k.small)
 
   pub small_head : Small (head_numbers p m.count)
   small_head = head_small p m.count k.range (omega (arith, few_cells))
 
-  file_parts : encode_numbers (head_numbers p m.count) ++ (refined_bytes part (length part) ++ corner_bytes p) ≡ file_of p cells
+  pub file_parts : encode_numbers (head_numbers p m.count) ++ (refined_bytes part (length part) ++ corner_bytes p) ≡ file_of p cells
   unfolding file_of encode_file refined_bytes
   file_parts = let n : m.count ≡ length (listed (cell_total p) (refined cells)) = w.count ∙ ap length k.lists in rw (k.lists, n) refl
 

@@ -1,12 +1,13 @@
 -- Low heights: a test of the size, one function more, and levels one by one. Assumes nothing.
 use mathlib.Core.Path.{◌≡◌, refl, sym, ap, ◌∙◌}
-use mathlib.Core.Bool.{Bool, not, ◌&&◌, ◌||◌}
+use mathlib.Core.Bool.{Bool, not, ◌&&◌, ◌||◌, and-true}
 use mathlib.Core.List.{List}
 use Prim.Native.Nat.{ℕ, zero, suc, ◌+◌, ◌-◌, ◌*◌, ◌%◌, ◌^◌, ◌≤◌, ◌<◌}
 use native.Mathlib.Omega.{arith}
-use lib.Dec.{eqb, leb}
-use lib.IntN.{ℤ, pos, nat_abs}
+use lib.Dec.{eqb, leb, leb-suc-suc}
+use lib.IntN.{ℤ, pos, negsuc, nat_abs}
 use lib.ListN.{get_or}
+use lib.Signed.{le_z}
 use Rattle.facts.specs.Bounded.{implies}
 use Rattle.facts.specs.Ranges.{every_from}
 use Rattle.facts.proofs.Tests.{or_implies}
@@ -21,6 +22,11 @@ use Rattle.mesh.specs.Mesh.{active}
 use Rattle.heights.specs.Heights.{low, low_at, all_low, low_on}
 
 -- ---- one height
+
+-- two signed tests, of the least and the most, are one of the size
+within : (m : ℕ) (h : ℤ) → (le_z (negsuc m) h && le_z h (pos (suc m))) ≡ leb (nat_abs h) (suc m)
+within m (pos a) = refl
+within m (negsuc a) = and-true (leb a m) ∙ sym (leb-suc-suc a m)
 
 -- no bit of the shift is lost
 pub most_is : (k : ℕ) → k < 4 → (65536 * 2 ^ (4 * k)) % 2 ^ 32 ≡ 65536 * 16 ^ k

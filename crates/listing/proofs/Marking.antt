@@ -46,7 +46,7 @@ module _ {s : List ℕ} {at c to : ℕ} (f : Found s at c to) where
   pub not_zero : (left p l : ℕ) (r : List ℕ) → 0 < left → judge_behind left p (drop at s) ≡ ends l r → c ≡ 0 → ⊥
   not_zero left p l r h e z = bad_ends_lem (sym (judge_zero f left p h z) ∙ e)
 
-  next_judged : (left less p l : ℕ) (r : List ℕ) → left ≡ suc less → judge_behind left p (drop at s) ≡ ends l r → judge_behind less (p + c) (drop to s) ≡ ends l r
+  pub next_judged : (left less p l : ℕ) (r : List ℕ) → left ≡ suc less → judge_behind left p (drop at s) ≡ ends l r → judge_behind less (p + c) (drop to s) ≡ ends l r
   next_judged left less p l r h e = sym (judge_more f left less p h (not_zero left p l r (omega arith) e)) ∙ e
 
 -- a number that is at most the last

@@ -64,7 +64,7 @@ module _ (p : Plan) (k x e : ℕ) (l : e < ratio p) where
   unfolding ancestor
   column_up = rw (power_one (ratio p)) (digits_div x l)
 
-columns_are : (p : Plan) (k : ℕ) → columns_at p k * ratio p ≡ columns_at p (k + 1)
+pub columns_are : (p : Plan) (k : ℕ) → columns_at p k * ratio p ≡ columns_at p (k + 1)
 unfolding grown
 columns_are p k = rw (add-one k, pow-suc) (mul_assoc _ _ _)
 

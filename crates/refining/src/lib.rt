@@ -55,7 +55,7 @@ fn make(
     let flags = &mut room[..total];
     let call = Call(Direction::Refine, by);
     calls::flag_marks(call, plan, cells, functions, marks, flags, new_functions)?;
-    new_cells.copy_from_slice(cells);
+    changes::copy_bytes(new_cells, cells);
     calls::renew(Direction::Refine, plan, new_cells, flags);
     changes::room_refusal(
         plan,

@@ -10,8 +10,10 @@ use Rattle.std.proofs.Common.{Some, None}
 use borrow.Author.Tests.{le-leb}
 use Rattle.grid.specs.declared.Plan.{Plan}
 use Rattle.grid.specs.Plan.{cell_total, function_total}
-use Rattle.outcomes.specs.Calls.{Direction, By, changed, Outcome, refused, settle, refusal, outcome}
+use Rattle.outcomes.specs.Calls.{Direction, coarsen, By, functions, changed, Outcome, refused, settle, refusal, outcome}
 use Rattle.outcomes.proofs.Results.{written_take}
+use Rattle.lines.specs.declared.Kind.{Kind}
+use Rattle.lines.specs.declared.Kind.TheVariants.{Unreadable, Wall, Split, Join, SplitFunctions, JoinFunctions}
 use Rattle.lines.specs.declared.Line.{Line}
 use Rattle.lines.specs.Reading.{Meaning, meaning, meaning_in, Reads}
 use Rattle.lines.specs.Writing.{question}
@@ -20,7 +22,7 @@ use Rattle.script.specs.declared.hand.Hand.{Hand}
 use Rattle.script.specs.declared.done.Done.{Done}
 use Rattle.script.specs.Steps.{held, Said, Replied}
 use Rattle.script.proofs.Replies.{said_as, wall_same, held_front}
-use Rattle.replies.specs.Steps.{Answered}
+use Rattle.replies.specs.Steps.{direction_of, by_of, Answered}
 
 -- ---- a call: what it makes of the tables and prints does not hang on what the lent lists held
 
@@ -77,6 +79,33 @@ called d by marks h done cs fs cl fl cs' fs' out e a b ac af w =
       state = rw e (held_front h cs' fs' (drop h.cells cs) (drop h.functions fs) ac af ∙ wall_same p (w.cells ∙ same.0) (w.functions ∙ same.1));
       said = said_as w.said same.2;
     }
+
+-- ---- kinds
+
+-- what `obey` of `script`, by which the code's clauses speak, makes of a line with marks: the call that its kind asks for
+pub marked : (k : Kind) (s : State) (ns : List ℕ) → (k ≡ Unreadable → ⊥) → (k ≡ Wall → ⊥) → obey k s ns ≡ calling (direction_of k) (by_of k) s ns
+marked Unreadable s ns h g = absurd (h refl)
+marked Wall s ns h g = absurd (g refl)
+marked Split s ns h g = refl
+marked Join s ns h g = refl
+marked SplitFunctions s ns h g = refl
+marked JoinFunctions s ns h g = refl
+
+pub coarsens : (k : Kind) → (k ≡ Split → ⊥) → (k ≡ SplitFunctions → ⊥) → coarsen ≡ direction_of k
+coarsens Unreadable h g = refl
+coarsens Wall h g = refl
+coarsens Split h g = absurd (h refl)
+coarsens Join h g = refl
+coarsens SplitFunctions h g = absurd (g refl)
+coarsens JoinFunctions h g = refl
+
+pub by_functions : (k : Kind) → (k ≡ Split → ⊥) → (k ≡ Join → ⊥) → functions ≡ by_of k
+by_functions Unreadable h g = refl
+by_functions Wall h g = refl
+by_functions Split h g = absurd (h refl)
+by_functions Join h g = absurd (g refl)
+by_functions SplitFunctions h g = refl
+by_functions JoinFunctions h g = refl
 
 -- ---- a line that was read
 

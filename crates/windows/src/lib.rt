@@ -24,11 +24,14 @@ fn lower(out: &mut [u8], from: &[u8])
 }
 
 // The first n entries get one value. A number and no shorter slice: crate closure calls it so.
+// A loop: the library's fill takes longer for the two columns of a cell's children.
 pub fn fill(out: &mut [u8], n: usize, value: u8)
     requires { n ≤ length out.old }
     ensures { out.new ≡ filled 0 n (always value) out.old }
 {
-    out[..n].fill(value);
+    for i in 0..n {
+        out[i] = value;
+    }
 }
 
 // Each of the first n entries becomes the least of 2 and those of `a` and `b`.

@@ -7,7 +7,7 @@ use Rattle.calls.proofs.eligible_cells.Goals as goal
 
 pub returns-in-Refine : goal.returns-in-Refine
 returns-in-Refine c = let s = c in λ fs.
-    kinds_are (ap direction_of c.in-Refine.is) c.cell_offset.ensures c.copy_from_slice.ensures.after (refine_eligible_cells s.args.plan s.requires.in_range s.args.cells.now fs s.requires.cells_len.0)
+    kinds_are (ap direction_of c.in-Refine.is) c.cell_offset.ensures c.copy_bytes.ensures (refine_eligible_cells s.args.plan s.requires.in_range s.args.cells.now fs s.requires.cells_len.0)
 
 pub returns-in-Coarsen : goal.returns-in-Coarsen
 returns-in-Coarsen c = let a = c.args in λ fs.

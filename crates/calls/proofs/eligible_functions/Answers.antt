@@ -10,7 +10,7 @@ coarsenable_functions-requires c = let s = c in
 
 pub returns-in-Refine : goal.returns-in-Refine
 returns-in-Refine c = let s = c in
-    kinds_are (ap direction_of c.in-Refine.is) c.function_offset.ensures c.copy_from_slice.ensures.after
+    kinds_are (ap direction_of c.in-Refine.is) c.function_offset.ensures c.copy_bytes.ensures
     (refine_eligible_functions s.args.plan s.requires.in_range.0 s.args.cells.now s.args.functions.now s.requires.cells_len.1)
 
 pub returns-in-Coarsen : goal.returns-in-Coarsen

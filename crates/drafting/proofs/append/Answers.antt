@@ -1,14 +1,15 @@
--- `append` meets its contract: the marks stand in the place of the entries that were lent. Assumes nothing.
-use mathlib.Core.Path.{ap}
-use mathlib.Core.List.{List, ◌++◌}
-use Prim.Native.Nat.{ℕ, ◌+◌}
+-- `append` meets its contract. The invariant: the marks passed are written. Assumes nothing.
 use native.Mathlib.Omega.{arith}
-use lib.ListN.{length, take}
-use borrow.Rule.Slice.PartMut.{Post-is}
-use Rattle.facts.specs.Writing.{written_at}
+use Rattle.drafting.proofs.Turns.{none_yet, one_more, all_there}
 use Rattle.drafting.proofs.append.Goals as goal
 
+pub loop-i-init : goal.loop-i-init
+loop-i-init c = none_yet c.args.list.now c.args.marks.now c.args.at c.requires
+
+pub loop-i-preserved : goal.loop-i-preserved
+loop-i-preserved c = let a = c.args in
+    let l = c.loop-i in
+    one_more a.list.now a.marks.now a.at c.requires l.i (omega arith) l.invariant
+
 pub returns : goal.returns
-unfolding written_at
-returns c = let a = c.args in
-    rw c.copy_from_slice.ensures.after (ap (λ (z : List ℕ). take a.at a.list.now ++ (a.marks.now ++ z)) (Post-is a.at (a.at + length a.marks.now) a.list.now (omega arith)))
+returns c = let a = c.args in all_there a.list.now a.marks.now a.at c.requires c.loop-i.i (omega arith) c.loop-i.invariant

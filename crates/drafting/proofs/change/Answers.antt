@@ -1,8 +1,8 @@
 -- `change` meets its contract. Assumes nothing.
-use mathlib.Core.Path.{sym, ◌∙◌}
+use mathlib.Core.Path.{refl, sym}
 use Rattle.refusals.proofs.Refused.{refused, handed_on}
-use Rattle.drafts.proofs.Refusals.{change_taken, passes_18}
-use Rattle.drafting.proofs.Whole.{changes_not}
+use Rattle.drafts.proofs.Refusals.{passes_18}
+use Rattle.drafting.proofs.Whole.{changes_not, changes}
 use Rattle.drafting.proofs.change.Goals as goal
 
 pub returns-in_err-refusal18 : goal.returns-in_err-refusal18
@@ -14,5 +14,4 @@ pub change-requires : goal.change-requires
 change-requires c = sym (passes_18 _ _ _ _ _ (sym c.in_ok-refusal18.ensures))
 
 pub returns : goal.returns
-returns c = c.change.ensures
-    ∙ sym (change_taken _ _ _ _ _ _ _ _ _ _ (sym c.in_ok-refusal18.ensures))
+returns c = changes _ _ _ _ _ _ _ _ _ _ c.in_ok-refusal18.ensures refl c.change.ensures

@@ -1,10 +1,10 @@
 -- `refine` meets its contract. Assumes nothing.
-use mathlib.Core.Path.{sym, ◌∙◌}
+use mathlib.Core.Path.{refl, sym}
 use Rattle.refusals.proofs.Refused.{refused, handed_on}
 use Rattle.mesh.proofs.Bridge.{check_passed}
 use Rattle.refining.proofs.Outcomes.{tables_heights}
-use Rattle.drafts.proofs.Refusals.{carry_taken, passes_18}
-use Rattle.drafting.proofs.Whole.{carries_not}
+use Rattle.drafts.proofs.Refusals.{passes_18}
+use Rattle.drafting.proofs.Whole.{carries_not, carries}
 use Rattle.drafting.proofs.refine.Goals as goal
 
 pub returns-in_err-refusal18 : goal.returns-in_err-refusal18
@@ -19,4 +19,4 @@ pub refine-requires : goal.refine-requires
 refine-requires c = tables_heights _ _ _ _ (passes_18 _ _ _ _ _ (sym c.in_ok-refusal18.ensures)) c.refusal-checked.ensures
 
 pub returns : goal.returns
-returns c = c.refine.ensures ∙ sym (carry_taken _ _ _ _ _ _ _ _ _ _ (sym c.in_ok-refusal18.ensures))
+returns c = carries refl _ _ _ _ _ _ _ _ _ c.in_ok-refusal18.ensures refl c.refine.ensures

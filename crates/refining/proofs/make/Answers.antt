@@ -32,15 +32,15 @@ returns-in_err-flag_marks c = let s = c in
     let e = c.in_err-flag_marks in
     rw (handed_on _ c.from_residual.ensures.1) (made_marks (by_of s.args.by) _ _ _ _ s.requires.functions_value _ _ e.ensures.number (refused e.field-0.0))
 
-pub copy_from_slice-requires : goal.copy_from_slice-requires
-copy_from_slice-requires c = let s = c in s.requires.new_cells_len.0 ∙ sym (passed (goal.at.copy_from_slice-requires c).After-shared_slice_known-1).cells
+pub copy_bytes-requires : goal.copy_bytes-requires
+copy_bytes-requires c = let s = c in s.requires.new_cells_len.0 ∙ sym (passed (goal.at.copy_bytes-requires c).After-shared_slice_known-1).cells
 
 pub renew-requires : goal.renew-requires
-renew-requires c = let s = c in renewable (by_of s.args.by) _ _ _ _ s.requires.functions_value 0 0 c.in_ok-flag_marks.ensures refl c.copy_from_slice.ensures.after
+renew-requires c = let s = c in renewable (by_of s.args.by) _ _ _ _ s.requires.functions_value 0 0 c.in_ok-flag_marks.ensures refl c.copy_bytes.ensures
 
 mesh : (c : After-renew) → MeshTable c.args.plan c.renew.new.cells
 mesh c = let s = c in
-    new_mesh (by_of s.args.by) _ _ _ _ s.requires.functions_value 0 0 c.in_ok-flag_marks.ensures refl c.copy_from_slice.ensures.after c.renew.ensures
+    new_mesh (by_of s.args.by) _ _ _ _ s.requires.functions_value 0 0 c.in_ok-flag_marks.ensures refl c.copy_bytes.ensures c.renew.ensures
 
 pub room_refusal-requires : goal.room_refusal-requires
 room_refusal-requires c = let s = c in record { cells_len = (passed (goal.at.room_refusal-requires c).After-shared_slice_known-1).cells; mesh_table = mesh (goal.at.room_refusal-requires c).After-renew; rooms = record { functions_are = (passed (goal.at.room_refusal-requires c).After-shared_slice_known-1).functions; made_is = c.flag_marks.auto.values ∙ s.requires.new_cells_len.1; cells_small = (passed (goal.at.room_refusal-requires c).After-shared_slice_known-1).small } }
@@ -49,7 +49,7 @@ pub returns-in_err-room_refusal : goal.returns-in_err-room_refusal
 returns-in_err-room_refusal c = let s = c in
     let e = c.in_err-room_refusal in
     rw (handed_on _ c.from_residual-in_err-room_refusal.ensures.1)
-    (made_rooms (by_of s.args.by) _ _ _ _ s.requires.functions_value _ _ c.in_ok-flag_marks.ensures refl c.copy_from_slice.ensures.after c.renew.ensures e.ensures (λ z. absurd (refused e.field-0.0 z)))
+    (made_rooms (by_of s.args.by) _ _ _ _ s.requires.functions_value _ _ c.in_ok-flag_marks.ensures refl c.copy_bytes.ensures c.renew.ensures e.ensures (λ z. absurd (refused e.field-0.0 z)))
 
 pub write_labels-requires : goal.write_labels-requires
 write_labels-requires c = let s = c in
@@ -57,4 +57,4 @@ write_labels-requires c = let s = c in
 
 pub returns : goal.returns
 returns c = let s = c in
-    made_rooms (by_of s.args.by) _ _ _ _ s.requires.functions_value _ _ c.in_ok-flag_marks.ensures refl c.copy_from_slice.ensures.after c.renew.ensures c.in_ok-room_refusal.ensures (λ z. c.write_labels.ensures)
+    made_rooms (by_of s.args.by) _ _ _ _ s.requires.functions_value _ _ c.in_ok-flag_marks.ensures refl c.copy_bytes.ensures c.renew.ensures c.in_ok-room_refusal.ensures (λ z. c.write_labels.ensures)
