@@ -36,6 +36,10 @@ module _ (first at : ℕ) where
   shifted : (k : ℕ) → ltb (at + k) first ≡ ltb k (first - at)
   shifted k = same (ltb (at + k) first) (ltb k (first - at)) (λ t. lt→ltb k (first - at) (omega (arith, ltb→lt (at + k) first t))) (λ t. lt→ltb (at + k) first (omega (arith, ltb→lt k (first - at) t)))
 
+  pub word_none : first ≤ at → 0 ≡ word_from 64 at (below first)
+  unfolding below
+  word_none l = sym (word_is (below first) 64 at 0 (omega arith) (λ k i. rw (le-ltb (at + k) first (omega arith)) (sym (bit_of_zero k))))
+
   pub word_full : 64 ≤ first - at → 0xffff_ffff_ffff_ffff ≡ word_from 64 at (below first)
   unfolding below
   word_full l = sym (word_is (below first) 64 at (2 ^ 64 - 1) (omega arith) (λ k i. rw (lt-ltb (at + k) first (omega arith)) (sym (ones_digit 64 k ∙ rw (lt-ltb k 64 i) refl))))

@@ -62,7 +62,10 @@ pub fn count_set(plane: &[u64]) -> u32
 fn fresh_word(first: usize, at: usize) -> u64
     ensures { result ≡ word_from 64 at (below first) }
 {
-    let left = first.saturating_sub(at);
+    // Most words have none. With saturating_sub the compiler shifts for each, two at a time, and takes a quarter longer.
+    let Some(left) = first.checked_sub(at) else {
+        return 0;
+    };
     if 64 <= left {
         return u64::MAX;
     }
