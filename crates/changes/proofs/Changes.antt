@@ -1,15 +1,17 @@
 -- The numbers that changed, one turn of a loop at a time, and the outcomes of a call. Assumes nothing.
 use mathlib.Core.Path.{◌≡◌, refl, sym, ap, subst, ◌∙◌}
-use mathlib.Core.Bool.{Bool, true, false, not, beq}
+use mathlib.Core.Bool.{Bool, true, false, not, beq, ◌&&◌, and-true, and-false}
 use mathlib.Core.List.{List, [], ◌++◌}
 use Prim.Native.Nat.{ℕ, zero, suc, ◌+◌, ◌-◌, ◌≤◌, ◌<◌}
 use native.Mathlib.Nat.{le_refl, add-zero, add-sub_of_le}
 use native.Mathlib.Omega.{arith}
 use mir.Val.{bool_byte}
-use lib.Dec.{eqb}
+use lib.Dec.{eqb, eqb→eq, eqb_refl}
 use lib.ListN.{length, get_or, take, drop, set}
 use lib.Pointwise.{pointwise, bytes_decides}
 use lib.Seq.{get_or-take, get_or-drop, drop-append-add, drop-drop}
+use borrow.Author.Tests.{ne_eqb}
+use Rattle.facts.proofs.Tests.{T_true, true_T}
 use Rattle.facts.proofs.Turns.{listed_none, listed_no, listed_longer, listed_le, listed_short, listed_write}
 use Rattle.mesh.specs.Mesh.{refined}
 use Rattle.outcomes.specs.Calls.{changed, written}
@@ -81,6 +83,36 @@ module _ (old new : List ℕ) where
       let n = to - from in
       let q = (bytes_decides (take n (drop from old)) (take n (drop from new))).0 e in
       rw (add-sub_of_le l) at (still from n (λ i k m. sym (part old from n i k m) ∙ ap (λ (xs : List ℕ). get_or xs (i - from) 0) q ∙ part new from n i k m))
+
+  -- ---- blocks of which no number changed
+
+  -- one number more of them
+  still_more : (from n : ℕ) (b : Bool) → differs (from + n) ≡ b → length (changed (from + n + 1) old new) ≡ length (changed from old new)
+      → (length (changed (from + n) old new) ≡ length (changed from old new) → changed (from + n) old new ≡ changed from old new)
+      → changed (from + n + 1) old new ≡ changed from old new
+  still_more from n true d h i = absurd (omega (arith, h, changed_longer (from + n) d, changed_le from (from + n) (omega arith)))
+  still_more from n false d h i = changed_no (from + n) d ∙ i (sym (ap length (changed_no (from + n) d)) ∙ h)
+
+  fixed : (from n : ℕ) → length (changed (from + n) old new) ≡ length (changed from old new) → changed (from + n) old new ≡ changed from old new
+  fixed from zero h = ap (λ (j : ℕ). changed j old new) (add-zero from)
+  fixed from (suc n) h =
+      let e : from + suc n ≡ from + n + 1 = omega arith in
+      rw e (still_more from n (differs (from + n)) refl (rw e at h) (fixed from n))
+
+  -- as many after them as before: the same
+  pub changed_fixed : (from to : ℕ) → from ≤ to → eqb (length (changed from old new)) (length (changed to old new)) ≡ true → changed to old new ≡ changed from old new
+  changed_fixed from to l e =
+      rw (add-sub_of_le l) at (fixed from (to - from) (rw (add-sub_of_le l) (sym (eqb→eq _ _ (true_T (eqb (length (changed from old new)) (length (changed to old new))) e)))))
+
+  pub still_none : (from : ℕ) → true ≡ eqb (length (changed from old new)) (length (changed from old new))
+  still_none from = sym (T_true (eqb (length (changed from old new)) (length (changed from old new))) (eqb_refl (length (changed from old new))))
+
+  -- one turn of the loop that tests them
+  pub still_turn : (from i : ℕ) (b : Bool) {ok : Bool} → from ≤ i → b ≡ differs i → ok ≡ eqb (length (changed from old new)) (length (changed i old new))
+      → (ok && not b) ≡ eqb (length (changed from old new)) (length (changed (i + 1) old new))
+  still_turn from i true {ok} l e q =
+      rw (changed_longer i (sym e)) (and-false ok ∙ sym (ne_eqb (length (changed from old new)) (length (changed i old new) + 1) (λ z. absurd (omega (arith, z, changed_le from i l)))))
+  still_turn from i false {ok} l e q = and-true ok ∙ q ∙ ap (λ (xs : List ℕ). eqb (length (changed from old new)) (length xs)) (sym (changed_no i (sym e)))
 
   pub listed_behind : {from n : ℕ} {list : List ℕ} → ListedTo from old new n list → list ≡ changed from old new ++ drop n list
   unfolding written

@@ -38,13 +38,29 @@ fn differ(a: u8, b: u8) -> bool
     (a == 2) != (b == 2)
 }
 
-// How many numbers of a block changed: none where its bytes are equal.
+// No number of a block changed: its bytes are equal, or none became 2 or ceased to be. The loop has no early exit, so that the compiler tests
+// many bytes at once: where a level of cells becomes present, all its bytes change and none of its numbers.
+fn is_still(old: &[u8], new: &[u8], from: usize, to: usize) -> bool
+    requires { Block old.now new.now from to }
+    ensures { result ≡ eqb (length (changed from old.now new.now)) (length (changed to old.now new.now)) }
+{
+    if old[from..to] == new[from..to] {
+        return true;
+    }
+    let mut ok = true;
+    for i in from..to {
+        ok = ok & !differ(old[i], new[i]);
+    }
+    ok
+}
+
+// How many numbers of a block changed.
 // Counting and listing stay two loops, here and below: a closure for what is done with a number would be no shorter.
 fn count_block(old: &[u8], new: &[u8], from: usize, to: usize) -> usize
     requires { Block old.now new.now from to }
     ensures { length (changed from old.now new.now) + result ≡ length (changed to old.now new.now) }
 {
-    if old[from..to] == new[from..to] {
+    if is_still(old, new, from, to) {
         return 0;
     }
     let mut n = 0;
@@ -70,8 +86,7 @@ fn count_changed(old: &[u8], new: &[u8]) -> usize
     n
 }
 
-// The numbers of a block that changed, after the n that are listed; the entries past them stay. None where its bytes are equal. Answers how
-// many are listed then.
+// The numbers of a block that changed, after the n that are listed; the entries past them stay. Answers how many are listed then.
 // The lists and their places are parameters: each clause says another thing of them.
 fn list_block(old: &[u8], new: &[u8], list: &mut [u32], n: usize, from: usize, to: usize) -> usize
     requires list_room { ListRoom old.now new.now list.old }
@@ -80,7 +95,7 @@ fn list_block(old: &[u8], new: &[u8], list: &mut [u32], n: usize, from: usize, t
     ensures value { result ≡ length (changed to old.now new.now) }
     ensures list_after { list.new ≡ written (changed to old.now new.now) list.old }
 {
-    if old[from..to] == new[from..to] {
+    if is_still(old, new, from, to) {
         return n;
     }
     let mut k = n;

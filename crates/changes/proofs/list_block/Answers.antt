@@ -1,4 +1,4 @@
--- `list_block` meets its contract: equal bytes change nothing; else the list starts with the numbers passed that changed, and keeps its
+-- `list_block` meets its contract: in a still block nothing changed; else the list starts with the numbers passed that changed, and keeps its
 -- entries behind them. Assumes nothing.
 use mathlib.Core.Path.{◌≡◌, sym, ap, ◌∙◌}
 use mathlib.Core.List.{List, ◌++◌}
@@ -7,13 +7,13 @@ use native.Mathlib.Omega.{arith}
 use lib.ListN.{length, drop}
 use Rattle.outcomes.specs.Calls.{changed, written}
 use Rattle.changes.specs.Changes.{ListRoom}
-use Rattle.changes.proofs.Changes.{changed_same, changed_no, changed_longer, changed_le, changed_write, listed_behind}
+use Rattle.changes.proofs.Changes.{changed_fixed, changed_no, changed_longer, changed_le, changed_write, listed_behind}
 use Rattle.changes.proofs.list_block.Goals as goal
 use Rattle.changes.proofs.list_block.Goals.{Then-differ, then-differ, else-differ}
 
-pub returns-then-eq : goal.returns-then-eq
-returns-then-eq c = let s = c in
-    let q = changed_same s.args.old.now s.args.new.now s.args.from s.args.to s.requires.block.rises (sym c.eq.ensures ∙ c.if-eq.true) in
+pub returns-then-is_still : goal.returns-then-is_still
+returns-then-is_still c = let s = c in
+    let q = changed_fixed s.args.old.now s.args.new.now s.args.from s.args.to s.requires.block.rises (sym c.is_still.ensures ∙ c.if-is_still.true) in
     record { value = s.requires.listed_to.count ∙ ap length (sym q); list_after = s.requires.listed_to.begins ∙ ap (λ (x : List ℕ). written x s.args.list.now) (sym q) }
 
 pub loop-i-init : goal.loop-i-init
